@@ -1,0 +1,7 @@
+-- What is right in the lowest layer: numbers of sorts, symbols, terms and literals, and the table of declarations and terms.
+pub mod Lists
+pub mod Ids
+pub mod Sort
+pub mod Term
+pub mod Context
+pub mod Reading

@@ -1,0 +1,1 @@
+// The script session. What is right here is defined in specs/.

@@ -1,0 +1,1 @@
+// The datatype solver. What is right here is defined in specs/.

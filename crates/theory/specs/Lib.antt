@@ -1,0 +1,5 @@
+-- What is right in equality: which terms are in one class, why, and which variable stands for which atom.
+pub mod Types
+pub mod EqEngine
+pub mod Atom
+pub mod Examples
