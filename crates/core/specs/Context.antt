@@ -128,7 +128,7 @@ intern cx op args none = record {
 unfoldable pub mk-app : Context → Op → List ℕ → Made
 mk-app cx op args = intern cx op args (place-from 0 (same-term op args) (cx .terms))
 
--- The two sides are not ordered.
+-- The two sides are kept as given: eq=0,1 and eq=1,0 are two terms.
 unfoldable pub mk-eq : Context → ℕ → ℕ → Made
 mk-eq cx a b = mk-app cx Eq (a ∷ b ∷ [])
 

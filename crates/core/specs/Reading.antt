@@ -108,7 +108,8 @@ pub record Reading (cx : Context) : Type 1 where
 
 module _ {cx : Context} (r : Reading cx) where
   -- ---- the value of an application
-  -- A tester and a selector have one argument and an equation two: questions 5 and 6, so the other clauses are never met.
+  -- A tester and a selector have one argument and an equation two, by question 6 and by the rules that make terms, so the
+  -- other clauses are never met.
 
   unfoldable pub equation-value : Values (r .Element) → Value (r .Element)
   equation-value nil = truth false

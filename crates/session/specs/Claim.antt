@@ -1,27 +1,29 @@
 -- Demand 3: the claim over whole scripts, stated. For every list of lines from an empty session, unreadable and refused ones
 -- included, at each answer: each cited leaf is in force; a conflict's leaves are true together in no reading by finite trees;
 -- each lemma is true in all readings; the ring clause.
-use Prim.Native.Nat.{ℕ, zero, suc, _≤_}
+use Prim.Native.Nat.{ℕ, zero, suc, _≤_, _<_}
 use mathlib.Core.Path.{_≡_}
-use mathlib.Core.Logic.{_≢_, _⊎_}
+use mathlib.Core.Logic.{_≢_, _⊎_, _↔_}
 use mathlib.Core.Bool.{Bool, true, false}
 use mathlib.Core.List.{List, [], _∷_}
 use mathlib.Core.Option.{Option, none, some}
 use lib.Dec.{T}
+use lib.ListN.{length}
 use Rattle.core.specs.Lists.{mem}
-use Rattle.core.specs.Context.{Context, ctor-app, is-datatype-sort, sort-of, children}
+use Rattle.core.specs.Term.{Eq, Uninterpreted}
+use Rattle.core.specs.Context.{Context, term, ctor-app, is-datatype-sort, sort-of, children}
 use Rattle.core.specs.Reading.{Reading}
 use Rattle.theory.specs.Types.{EqLeaf}
-use Rattle.solver.specs.State.{State}
-use Rattle.solver.specs.Records.{is-some}
+use Rattle.solver.specs.State.{State, equal}
+use Rattle.solver.specs.Records.{is-some, relevant}
 use Rattle.solver.specs.Rules as Rules
 use Rattle.solver.specs.Rules.{Phase, TCheck, Conflict, Split}
 use Rattle.solver.specs.Check.{before-ring}
 use Rattle.session.specs.Line as Line
 use Rattle.session.specs.Line.{Command, read-line}
-use Rattle.session.specs.Answer.{Refusal, Answer, Checked, Refused}
+use Rattle.session.specs.Answer.{Refusal, Answer, TermIs, Checked, Refused}
 use Rattle.session.specs.Session.{Session, empty-session, Performed, step}
-use Rattle.session.specs.History.{History, LeafInForce, EqualNow, AllTrue, LemmaTrue, history-after}
+use Rattle.session.specs.History.{History, signature, Accepted, LeafInForce, EqualNow, AllTrue, LemmaTrue, history-after}
 
 -- ---- conflicts and lemmas
 
@@ -39,9 +41,19 @@ Valid cx h atoms guards = (r : Reading cx) → LemmaTrue r h atoms guards
 
 -- ---- rings, over the terms and marks of a state and the lines of a history
 
+-- t stands n levels below a
+abbrev pub Below : Context → ℕ → ℕ → ℕ → Type 0
+Below cx zero a t = a ≡ t
+Below cx (suc n) a t = (b : ℕ) × T (mem b (children cx a)) × Below cx n b t
+
 module _ (s : State) (h : History) where
+  -- 01: Collection goes down through the children of a registered atom, the atom included
+  abbrev pub Collected : ℕ → Type 0
+  Collected t = (v a n : ℕ) × Accepted h (Line.Register v a) × Below (s .terms) n a t × T (relevant (s .terms) t)
+
+  -- 01: marked, by Collection or a rule so far, in this check too
   abbrev pub Marked : ℕ → Type 0
-  Marked t = T (mem t (s .dt .marks))
+  Marked t = Collected t ⊎ T (mem t (s .dt .marks))
 
   abbrev pub MarkedCtor : ℕ → Type 0
   MarkedCtor t = Marked t × T (is-some (ctor-app (s .terms) t))
@@ -76,7 +88,7 @@ SaysConflict a = (ls : List EqLeaf) × (a ≡ Checked (Conflict ls))
 
 -- ---- the claim
 
--- what is claimed of one line: s and h are the session and the history before it, p what it does, h′ the history after it
+-- what is claimed of one line: s is the session before it, p what it does, h′ the history after it
 pub record AtLine (s : Session) (line : List ℕ) (p : Performed) (h′ : History) : Type 1 where
   -- each cited leaf is in force, a conflict's leaves are true together in no reading, and a conflict is not empty
   pub conflict : (ls : List EqLeaf) → p .answer ≡ Checked (Conflict ls) → AllInForce h′ ls × Impossible (p .session .state .terms) h′ ls × (ls ≢ [])
@@ -87,10 +99,26 @@ pub record AtLine (s : Session) (line : List ℕ) (p : Performed) (h′ : Histor
   -- a refused line leaves the session as it was
   pub refused : (q : Refusal) → p .answer ≡ Refused q → p .session ≡ s
 
+-- what ties the words of the claim to the lines
+pub record Tied (s : Session) (line : List ℕ) (p : Performed) (h′ : History) : Type 1 where
+  -- the sorts and symbols are those that the lines declare
+  pub sorts : p .session .state .terms .sorts ≡ signature h′ .sorts
+  pub symbols : p .session .state .terms .symbols ≡ signature h′ .symbols
+  -- a term keeps its number
+  pub kept : (t : ℕ) → t < length (s .state .terms .terms) → term (p .session .state .terms) t ≡ term (s .state .terms) t
+  -- the number that a `term` or `eq` line is answered is that of the term it names
+  pub made : (f : ℕ) (ts : List ℕ) (n : ℕ) → read-line line ≡ some (Line.MkTerm f ts) → p .answer ≡ TermIs n → term (p .session .state .terms) n ≡ record { op = Uninterpreted f; args = ts }
+  pub made-eq : (t u n : ℕ) → read-line line ≡ some (Line.MkEq t u) → p .answer ≡ TermIs n → term (p .session .state .terms) n ≡ record { op = Eq; args = t ∷ u ∷ [] }
+  -- the session's classes are exactly equal now, by the lines in force
+  pub classes : (x y : ℕ) → T (equal (p .session .state) x y) ↔ EqualNow (p .session .state .terms) h′ x y
+  -- once declarations are closed there is a reading, so that nothing is claimed of an empty class of readings
+  pub reading : T (p .session .closed) → Reading (p .session .state .terms)
+
 abbrev pub ClaimFrom : Session → History → List (List ℕ) → Type 1
 ClaimFrom s h [] = Unit {1}
 ClaimFrom s h (line ∷ rest) =
     AtLine s line (step s line) (history-after h line (step s line .answer))
+    × Tied s line (step s line) (history-after h line (step s line .answer))
     × ClaimFrom (step s line .session) (history-after h line (step s line .answer)) rest
 
 -- for every list of lines, each working on the session that the line before left

@@ -6,7 +6,6 @@ use mathlib.Core.List.{List, [], _∷_}
 use lib.Dec.{T, eqb}
 use lib.ListN.{length}
 use Rattle.core.specs.Lists.{every, same-list, lists-definitions}
-use Rattle.core.specs.Ids.{ids-definitions}
 use Rattle.core.specs.Sort.{sort-definitions}
 use Rattle.core.specs.Term.{term-definitions}
 use Rattle.core.specs.Context.{context-definitions}
@@ -26,7 +25,7 @@ use Rattle.session.specs.Run.{Ran, run, result-number, program-sizes, ru
 
 -- everything that a run computes with
 unfoldable pub definitions : Unit {0}
-unfolding lists-definitions ids-definitions sort-definitions term-definitions context-definitions types-definitions engine-definitions atom-definitions state-definitions records-definitions rules-definitions ring-definitions check-definitions text-definitions line-definitions answer-definitions session-definitions run-definitions
+unfolding lists-definitions sort-definitions term-definitions context-definitions types-definitions engine-definitions atom-definitions state-definitions records-definitions rules-definitions ring-definitions check-definitions text-definitions line-definitions answer-definitions session-definitions run-definitions
 definitions = tt
 
 -- a script, its answers, the result, the counts of lines answered and bytes written

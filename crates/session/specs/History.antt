@@ -1,5 +1,5 @@
--- 01, Reading: what the accepted lines alone decide. A history is the list of accepted lines, newest first; a term number means
--- the term that the lines made.
+-- 01, Reading: what the accepted lines alone decide. A history is the list of accepted lines, newest first. A term number means
+-- the term of that number in the table that the lines and the rules have made.
 use Prim.Native.Nat.{ℕ, zero, suc, _≤_}
 use mathlib.Core.Path.{_≡_}
 use mathlib.Core.Logic.{_⊎_}
@@ -9,7 +9,7 @@ use mathlib.Core.Option.{Option, none, some}
 use lib.Dec.{T, ltb}
 use Rattle.core.specs.Ids as Ids
 use Rattle.core.specs.Term.{Eq}
-use Rattle.core.specs.Context.{Context, term, children}
+use Rattle.core.specs.Context.{Context, empty-context, declare-sort, dt-add-constructor, declare-fun, term, children}
 use Rattle.core.specs.Reading.{Reading, Value, truth, value}
 use Rattle.theory.specs.Types.{EqLeaf, AssertedLeaf, InterfaceLeaf}
 use Rattle.session.specs.Line.{Command, DeclareSort, DeclareCtor, DeclareFun, Close, MkTerm, MkEq, Register, Equate, Cong, Iface, Assert, Push, Pop, Check, read-line}
@@ -17,6 +17,29 @@ use Rattle.session.specs.Answer.{Answer, Ok, TermIs, Checked, Refused}
 
 abbrev pub History : Type 0
 History = List Command
+
+-- ---- declarations
+
+-- the sorts and symbols that the lines declare
+unfoldable pub declared : Command → Context → Context
+declared (DeclareSort n) cx = declare-sort cx n
+declared (DeclareCtor dt fs) cx = dt-add-constructor cx dt fs
+declared (DeclareFun r as′) cx = declare-fun cx r as′
+declared Close cx = cx
+declared (MkTerm f ts) cx = cx
+declared (MkEq t u) cx = cx
+declared (Register x t) cx = cx
+declared (Equate l) cx = cx
+declared (Cong t u) cx = cx
+declared (Iface t u h g) cx = cx
+declared (Assert l) cx = cx
+declared Push cx = cx
+declared (Pop k) cx = cx
+declared (Check e) cx = cx
+
+unfoldable pub signature : History → Context
+signature [] = empty-context
+signature (c ∷ h) = declared c (signature h)
 
 -- ---- levels
 

@@ -45,7 +45,7 @@ joined sep (x ∷ y ∷ ys) = x ++ (sep ∷ joined sep (y ∷ ys))
 
 -- ---- decimal
 
--- the digits of n before the text that follows. The first number bounds how many: n has fewer digits than n + 1.
+-- the digits of n before the text that follows. The first number bounds how many: n has at most n + 1 digits.
 unfoldable pub digits-before : ℕ → ℕ → List ℕ → List ℕ
 digits-before zero n rest = rest
 digits-before (suc k) n rest =

@@ -3,9 +3,9 @@
 use Prim.Native.Nat.{ℕ}
 use mathlib.Core.Bool.{Bool, true, false, cond, _&&_}
 use mathlib.Core.List.{List, [], _∷_, foldl}
+use mathlib.Core.Option.{Option, none, some, Option·map}
 use lib.Dec.{T, eqb}
-use Rattle.core.specs.Lists.{every, same-list, lists-definitions}
-use Rattle.core.specs.Ids.{ids-definitions}
+use Rattle.core.specs.Lists.{every, same-list, cons-option, lists-definitions}
 use Rattle.core.specs.Sort.{Datatype, sort-definitions}
 use Rattle.core.specs.Term.{Term, Uninterpreted, term-definitions}
 use Rattle.core.specs.Context.{Context, empty-context, declare-sort, dt-add-constructor, declare-fun, context-definitions}
@@ -21,7 +21,7 @@ use Rattle.solver.specs.Check.{check, check-definitions}
 
 -- everything that a check computes with
 unfoldable pub definitions : Unit {0}
-unfolding lists-definitions ids-definitions sort-definitions term-definitions context-definitions types-definitions engine-definitions atom-definitions state-definitions records-definitions rules-definitions ring-definitions check-definitions
+unfolding lists-definitions sort-definitions term-definitions context-definitions types-definitions engine-definitions atom-definitions state-definitions records-definitions rules-definitions ring-definitions check-definitions
 definitions = tt
 
 -- ---- answers compared
@@ -79,13 +79,13 @@ signature =
 abbrev app : ℕ → List ℕ → Term
 app f ts = record { op = Uninterpreted f; args = ts }
 
--- the terms, all of them marked; merged terms with their literals, in order; asserted testers with their literals, registered as
--- variable 0; terms split on; the answer of a full check
+-- the terms; the marked ones; merged terms with their literals, in order; an asserted tester with its literal, registered as
+-- variable 0, or none; terms split on; the answer of a full check
 pub record Example : Type 0 where
   pub terms : List Term
   pub marks : List ℕ
   pub equal : List (ℕ × ℕ × ℕ)
-  pub testers : List (ℕ × ℕ)
+  pub tester : Option (ℕ × ℕ)
   pub split : List ℕ
   pub answer : TCheck
 
@@ -93,12 +93,12 @@ unfoldable pub start : Example → State
 start e = record {
   terms = record { sorts = signature .sorts; symbols = signature .symbols; terms = e .terms };
   eq = foldl (λ ms (l : ℕ × ℕ × ℕ). merge ms 0 (l .0) (l .1) (Asserted (l .2))) [] (e .equal);
-  atoms = foldl (λ rs (x : ℕ × ℕ). record { var = 0; atom = x .0 } ∷ rs) [] (e .testers);
+  atoms = cons-option (Option·map (λ (x : ℕ × ℕ). record { var = 0; atom = x .0 }) (e .tester)) [];
   level = 0;
   dt = record {
     marks = e .marks;
-    level-record = foldl (λ es (x : ℕ × ℕ). record { atom = x .0; lit = x .1; level = 0 } ∷ es) [] (e .testers);
-    lasting = foldl (λ ts (x : ℕ × ℕ). x .0 ∷ ts) [] (e .testers);
+    level-record = cons-option (Option·map (λ (x : ℕ × ℕ). record { atom = x .0; lit = x .1; level = 0 }) (e .tester)) [];
+    lasting = cons-option (Option·map (λ (x : ℕ × ℕ). x .0) (e .tester)) [];
     emitted = [];
     split-done = e .split;
   };
@@ -114,7 +114,7 @@ examples =
       terms = app 0 [] ∷ app 5 [] ∷ app 2 (1 ∷ []) ∷ app 3 (1 ∷ []) ∷ [];
       marks = 0 ∷ 1 ∷ 2 ∷ 3 ∷ [];
       equal = (0, 2, 0) ∷ (1, 2, 2) ∷ [];
-      testers = (3, 4) ∷ [];
+      tester = some (3, 4);
       split = [];
       answer = Conflict (AssertedLeaf 0 ∷ []);
     }
@@ -123,7 +123,7 @@ examples =
       terms = app 0 [] ∷ app 5 [] ∷ app 3 (1 ∷ []) ∷ [];
       marks = 0 ∷ 1 ∷ 2 ∷ [];
       equal = (1, 0, 2) ∷ [];
-      testers = (2, 4) ∷ [];
+      tester = some (2, 4);
       split = [];
       answer = Conflict (AssertedLeaf 4 ∷ AssertedLeaf 2 ∷ []);
     }
@@ -132,7 +132,7 @@ examples =
       terms = app 5 [] ∷ app 6 [] ∷ app 2 (0 ∷ []) ∷ app 2 (1 ∷ []) ∷ [];
       marks = 0 ∷ 1 ∷ 2 ∷ 3 ∷ [];
       equal = (2, 3, 0) ∷ [];
-      testers = [];
+      tester = none;
       split = [];
       answer = Split (6 ∷ []) [] [];
     }
@@ -141,7 +141,7 @@ examples =
       terms = app 5 [] ∷ app 2 (0 ∷ []) ∷ app 4 (1 ∷ []) ∷ app 3 (1 ∷ []) ∷ [];
       marks = 0 ∷ 1 ∷ 2 ∷ 3 ∷ [];
       equal = [];
-      testers = [];
+      tester = none;
       split = [];
       answer = Split (4 ∷ []) [] [];
     }
@@ -150,7 +150,7 @@ examples =
       terms = app 5 [] ∷ app 1 (0 ∷ []) ∷ [];
       marks = 0 ∷ 1 ∷ [];
       equal = [];
-      testers = (1, 0) ∷ [];
+      tester = some (1, 0);
       split = [];
       answer = Split (3 ∷ []) (1 ∷ []) [];
     }
@@ -159,7 +159,7 @@ examples =
       terms = app 5 [] ∷ [];
       marks = 0 ∷ [];
       equal = [];
-      testers = [];
+      tester = none;
       split = [];
       answer = Split (1 ∷ 2 ∷ []) [] (Positive ∷ NoPhase ∷ []);
     }
@@ -168,7 +168,7 @@ examples =
       terms = app 5 [] ∷ app 2 (0 ∷ []) ∷ app 6 [] ∷ [];
       marks = 0 ∷ 1 ∷ 2 ∷ [];
       equal = (0, 1, 0) ∷ [];
-      testers = [];
+      tester = none;
       split = 2 ∷ [];
       answer = Unknown;
     }
@@ -177,7 +177,7 @@ examples =
       terms = app 5 [] ∷ app 6 [] ∷ app 2 (0 ∷ []) ∷ app 2 (1 ∷ []) ∷ [];
       marks = 0 ∷ 1 ∷ 2 ∷ 3 ∷ [];
       equal = (0, 3, 2) ∷ (1, 2, 4) ∷ [];
-      testers = [];
+      tester = none;
       split = [];
       answer = Conflict (AssertedLeaf 2 ∷ AssertedLeaf 4 ∷ []);
     }

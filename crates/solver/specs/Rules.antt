@@ -6,7 +6,7 @@ use mathlib.Core.Option.{Option, none, some}
 use lib.Dec.{eqb}
 use lib.ListN.{length, getD, getElem?}
 use Rattle.core.specs.Lists.{any, first, gather, pairs, mem, insert}
-use Rattle.core.specs.Ids.{negative-lit}
+use Rattle.core.specs.Ids.{lit, negate}
 use Rattle.core.specs.Context.{Context, CtorApp, SelApp, TesterApp, tester-app, mk-eq, symbol, sort-of, dt-constructors, dt-tester, dt-selectors}
 use Rattle.theory.specs.Types.{EqLeaf}
 use Rattle.theory.specs.EqEngine.{explain, firsts}
@@ -157,7 +157,7 @@ mint-fields s t ctor = foldl (mint-field t) (record { ids = []; state = s }) (dt
 
 unfoldable pub guard : Option ℕ → MadeIn → Ruled
 guard none m = pass (m .state)
-guard (some v) m = hand-out-made m (negative-lit v ∷ [])
+guard (some v) m = hand-out-made m (negate (lit v true) ∷ [])
 
 unfoldable pub equate-with : ℕ → MadeIn → MadeIn
 equate-with t m = make-eq (m .state) t (m .id)
