@@ -1,0 +1,66 @@
+//! A script for each kind and seed.
+
+use crate::damage;
+use crate::limits;
+use crate::rng::Rng;
+use crate::search::{self, Size};
+
+#[derive(Clone, Copy)]
+pub enum Kind {
+    /// Like a search core; no line is refused.
+    Search,
+    /// Like a search core, with refused lines between.
+    Refused,
+    Limits,
+    Damaged,
+    Any,
+}
+
+impl Kind {
+    pub fn named(name: &str) -> Option<Kind> {
+        match name {
+            "search" => Some(Kind::Search),
+            "refused" => Some(Kind::Refused),
+            "limits" => Some(Kind::Limits),
+            "damaged" => Some(Kind::Damaged),
+            "any" => Some(Kind::Any),
+            _ => None,
+        }
+    }
+}
+
+pub fn script(kind: Kind, seed: u64) -> Vec<u8> {
+    let mut rng = Rng::new(seed);
+    script_of(kind, &mut rng)
+}
+
+fn script_of(kind: Kind, rng: &mut Rng) -> Vec<u8> {
+    match kind {
+        Kind::Search => like_a_search(rng, 0),
+        Kind::Refused => like_a_search(rng, 20),
+        Kind::Limits => limits::limits(rng),
+        Kind::Damaged => {
+            let kinds = [Kind::Search, Kind::Search, Kind::Search, Kind::Refused, Kind::Limits];
+            let script = script_of(kinds[rng.below(kinds.len())], rng);
+            damage::damage(rng, &script)
+        }
+        Kind::Any => {
+            let kind = match rng.below(100) {
+                0..=49 => Kind::Search,
+                50..=64 => Kind::Refused,
+                65..=84 => Kind::Limits,
+                _ => Kind::Damaged,
+            };
+            script_of(kind, rng)
+        }
+    }
+}
+
+fn like_a_search(rng: &mut Rng, refused_percent: usize) -> Vec<u8> {
+    let size = match rng.below(10) {
+        0..=3 => Size::Small,
+        4..=8 => Size::Middle,
+        _ => Size::Large,
+    };
+    search::search(rng, size, refused_percent).script
+}

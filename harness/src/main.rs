@@ -1,0 +1,94 @@
+//! Answers scripts with the published solver, makes scripts, and counts what they meet.
+
+mod damage;
+mod generate;
+mod limits;
+mod offence;
+mod plans;
+mod records;
+mod rng;
+mod run;
+mod script;
+mod search;
+mod session;
+mod signature;
+mod statistic;
+mod writer;
+
+use generate::Kind;
+use std::io::{Read, Write};
+
+const USAGE: &str = "harness answer [--result]
+harness generate KIND SEED
+harness batch KIND COUNT SEED
+harness statistic KIND COUNT SEED
+harness fixed EXAMPLES
+harness verify
+KIND is search, refused, limits, damaged or any.";
+
+fn main() {
+    let arguments: Vec<String> = std::env::args().skip(1).collect();
+    let arguments: Vec<&str> = arguments.iter().map(String::as_str).collect();
+    if command(&arguments).is_none() {
+        eprintln!("{USAGE}");
+        std::process::exit(64);
+    }
+}
+
+fn command(arguments: &[&str]) -> Option<()> {
+    match arguments {
+        ["answer"] => answer(false),
+        ["answer", "--result"] => answer(true),
+        ["generate", kind, seed] => put(&generate::script(Kind::named(kind)?, seed.parse().ok()?)),
+        ["batch", kind, count, seed] => {
+            records::write_batch(Kind::named(kind)?, count.parse().ok()?, seed.parse().ok()?, &mut std::io::stdout());
+        }
+        ["statistic", kind, count, seed] => {
+            statistic(Kind::named(kind)?, count.parse().ok()?, seed.parse().ok()?);
+        }
+        ["fixed", examples] => records::write_fixed(examples.as_ref(), &mut std::io::stdout()),
+        ["verify"] => verify(),
+        _ => return None,
+    }
+    Some(())
+}
+
+fn put(bytes: &[u8]) {
+    std::io::stdout().write_all(bytes).expect("standard output");
+}
+
+fn input() -> Vec<u8> {
+    let mut bytes = Vec::new();
+    std::io::stdin().read_to_end(&mut bytes).expect("standard input");
+    bytes
+}
+
+/// Answers standard input, and says on standard error whether a line was refused.
+fn answer(with_result: bool) {
+    let run = run::run(&input(), |_, _, _| ());
+    put(&run.output);
+    match run.refused {
+        0 => eprintln!("no line refused"),
+        refused => eprintln!("{refused} lines refused"),
+    }
+    if with_result {
+        eprintln!("result={} lines={} bytes={}", run.result, run.lines, run.output.len());
+    }
+}
+
+fn statistic(kind: Kind, count: u64, seed: u64) {
+    let mut statistic = statistic::Statistic::default();
+    for script in (0..count).map(|place| generate::script(kind, seed + place)) {
+        statistic.add(statistic::met_by(&script));
+    }
+    statistic.print();
+}
+
+/// Answers the scripts of records on standard input anew and compares.
+fn verify() {
+    let (count, differing) = records::verify(&input());
+    println!("{count} scripts, {differing} answered otherwise");
+    if differing > 0 {
+        std::process::exit(1);
+    }
+}

@@ -1,0 +1,308 @@
+//! Scripts like those of a search core: it declares, builds terms, registers atoms, decides, closes under congruence,
+//! checks, follows the lemmas it is handed and goes back after conflicts. Unless asked for, no line is refused.
+
+use crate::rng::Rng;
+use crate::run::{MOST_OUTPUT, MOST_SCRIPT};
+use crate::session::{Answer, MOST_LEVELS, MOST_PLACES, MOST_TERMS, MOST_VARIABLES};
+use crate::signature::{Shape, Signature};
+use crate::writer::Writer;
+use std::collections::HashMap;
+
+/// How large a script becomes.
+#[derive(Clone, Copy)]
+pub enum Size {
+    Small,
+    Middle,
+    Large,
+}
+
+pub struct Search<'a> {
+    pub rng: &'a mut Rng,
+    pub w: Writer,
+    pub signature: Signature,
+    pub size: Size,
+    /// How many of a hundred steps follow a refused line.
+    refused_percent: usize,
+    /// Each registered variable with its atom.
+    pub variables: Vec<(usize, usize)>,
+    first_variable: HashMap<usize, usize>,
+}
+
+pub fn search(rng: &mut Rng, size: Size, refused_percent: usize) -> Writer {
+    let mut search = Search::start(rng, size, refused_percent);
+    search.fill();
+    search.w
+}
+
+impl<'a> Search<'a> {
+    pub fn start(rng: &'a mut Rng, size: Size, refused_percent: usize) -> Search<'a> {
+        let (datatypes, others, constants, functions) = match size {
+            Size::Small => (rng.between(1, 2), rng.below(2), 2, 2),
+            Size::Middle => (rng.between(1, 3), rng.below(3), 4, 4),
+            Size::Large => (rng.between(2, 6), rng.below(4), 6, 8),
+        };
+        let shape = Shape { datatypes, others, constants, functions, refused_percent };
+        let mut w = Writer::new();
+        let signature = Signature::declare(rng, &mut w, &shape);
+        Search { rng, w, signature, size, refused_percent, variables: Vec::new(), first_variable: HashMap::new() }
+    }
+
+    fn fill(&mut self) {
+        let (terms, atoms, steps) = match self.size {
+            Size::Small => (self.rng.between(2, 8), self.rng.between(1, 4), self.rng.between(3, 15)),
+            Size::Middle => (self.rng.between(4, 25), self.rng.between(2, 10), self.rng.between(5, 50)),
+            Size::Large => (self.rng.between(20, 120), self.rng.between(8, 50), self.rng.between(30, 250)),
+        };
+        let plan = self.any_plan();
+        if plan.is_none() || self.rng.chance(40) {
+            self.make_terms(terms);
+            self.make_atoms(atoms);
+        }
+        if let Some(plan) = plan {
+            plan(self);
+        }
+        for _ in 0..steps {
+            if !self.room() {
+                break;
+            }
+            if self.rng.chance(self.refused_percent) {
+                self.offend();
+            }
+            self.step();
+        }
+    }
+
+    /// Keeps away from every limit, so that no line is refused and the run does not end early.
+    fn room(&self) -> bool {
+        self.w.session.term_count() + 300 < MOST_TERMS
+            && self.w.session.places() + 1_200 < MOST_PLACES
+            && self.w.script.len() + 4_096 < MOST_SCRIPT
+            && self.w.output + 16_384 < MOST_OUTPUT
+            && self.variables.len() + 64 < MOST_VARIABLES as usize
+    }
+
+    fn step(&mut self) {
+        match self.rng.below(100) {
+            0..=89 => self.step_over_known_terms(),
+            90..=93 => self.make_terms(2),
+            _ => self.make_atoms(1),
+        }
+    }
+
+    /// A step whose only new terms are those of a check.
+    pub fn step_over_known_terms(&mut self) {
+        match self.rng.below(100) {
+            0..=9 => self.push(),
+            10..=15 => self.pop(),
+            16..=41 => self.decide(),
+            42..=48 => self.join_by_interface(),
+            49..=66 => self.close_congruences(),
+            67..=98 => self.check(),
+            _ => {
+                self.w.line("check=0");
+            }
+        }
+    }
+
+    pub fn push(&mut self) {
+        if self.w.session.level() < MOST_LEVELS {
+            self.w.line("push=1");
+        }
+    }
+
+    pub fn pop(&mut self) {
+        let level = self.w.session.level();
+        let target = if self.rng.chance(85) { self.rng.below(level + 1) } else { self.rng.below(level + 3) };
+        self.w.numbers("pop", &[target]);
+    }
+
+    fn decide(&mut self) {
+        let Some(&(variable, atom)) = self.rng.pick(&self.variables) else {
+            return;
+        };
+        if self.rng.chance(20) {
+            self.w.numbers("assert", &[2 * variable + 1]);
+        } else {
+            self.hold(variable, atom);
+        }
+    }
+
+    /// Asserts an atom and merges its sides if it is an equation, as a search core does.
+    fn hold(&mut self, variable: usize, atom: usize) {
+        let equation = self.w.session.symbol_of(atom).is_none();
+        let answer =
+            if !equation || self.rng.chance(50) { self.w.numbers("assert", &[2 * variable]) } else { Answer::Ok };
+        if equation {
+            self.w.numbers("equate", &[2 * variable]);
+        }
+        self.go_back_after(&answer);
+    }
+
+    fn go_back_after(&mut self, answer: &Answer) {
+        let level = self.w.session.level();
+        if matches!(answer, Answer::Conflict(_)) && level > 0 && self.rng.chance(80) {
+            let target = self.rng.below(level);
+            self.w.numbers("pop", &[target]);
+        }
+    }
+
+    fn join_by_interface(&mut self) {
+        let Some((t, u)) = self.two_of_one_sort() else {
+            return;
+        };
+        let theory = if self.rng.chance(90) { self.rng.below(6) } else { self.rng.below(65_536) };
+        let tag = if self.rng.chance(90) { self.rng.below(20) } else { self.rng.below(4_294_967_296) };
+        self.w.numbers("iface", &[t, u, theory, tag]);
+    }
+
+    fn two_of_one_sort(&mut self) -> Option<(usize, usize)> {
+        let count = self.w.session.term_count();
+        if count == 0 {
+            return None;
+        }
+        let t = self.rng.below(count);
+        let sort = self.w.session.sort_of(t);
+        let same: Vec<usize> = (0..count).filter(|&u| self.w.session.sort_of(u) == sort).collect();
+        let u = *self.rng.pick(&same)?;
+        Some((t, u))
+    }
+
+    /// Joins congruent applications, sometimes all of them and sometimes a few.
+    pub fn close_congruences(&mut self) {
+        let most = if self.rng.chance(50) { 3 } else { 30 };
+        for _ in 0..most {
+            let candidates = self.congruent_pairs();
+            let Some(&(t, u)) = self.rng.pick(&candidates) else {
+                return;
+            };
+            let (t, u) = if self.rng.chance(50) { (t, u) } else { (u, t) };
+            self.w.numbers("cong", &[t, u]);
+        }
+    }
+
+    fn congruent_pairs(&mut self) -> Vec<(usize, usize)> {
+        let session = &mut self.w.session;
+        let applications: Vec<(usize, Option<usize>, Vec<usize>)> = (0..session.term_count())
+            .map(|t| (t, session.symbol_of(t), session.arguments_of(t)))
+            .filter(|(_, _, arguments)| !arguments.is_empty())
+            .collect();
+        let mut pairs = Vec::new();
+        for (place, (t, symbol, left)) in applications.iter().enumerate() {
+            for (u, other, right) in &applications[place + 1..] {
+                let congruent = symbol == other && left.iter().zip(right).all(|(&a, &b)| session.equal(a, b));
+                if congruent && !session.equal(*t, *u) {
+                    pairs.push((*t, *u));
+                }
+            }
+        }
+        pairs
+    }
+
+    pub fn check(&mut self) {
+        let answer = self.w.line("check=1");
+        if let Answer::Split { atoms, guards, phases } = &answer {
+            if self.rng.chance(90) {
+                self.follow(atoms, guards, phases);
+            }
+        }
+        self.go_back_after(&answer);
+    }
+
+    /// Registers a lemma's atoms and lets one of them hold, mostly one that a phase prefers.
+    fn follow(&mut self, atoms: &[usize], guards: &[u32], phases: &[Option<bool>]) {
+        if guards.is_empty() && atoms.len() == 1 && self.rng.chance(25) {
+            self.w.line("pop=0");
+        }
+        for &atom in atoms {
+            if !self.first_variable.contains_key(&atom) || self.rng.chance(5) {
+                self.register(atom);
+            }
+        }
+        let preferred: Vec<usize> =
+            atoms.iter().zip(phases).filter(|(_, phase)| phase.is_some()).map(|(&atom, _)| atom).collect();
+        let choice = if self.rng.chance(50) { self.rng.pick(&preferred) } else { None };
+        let Some(&atom) = choice.or_else(|| self.rng.pick(atoms)) else {
+            return;
+        };
+        if atoms.len() > 1 && self.rng.chance(50) {
+            self.push();
+        }
+        self.hold(self.first_variable[&atom], atom);
+    }
+
+    pub fn register(&mut self, atom: usize) -> usize {
+        let taken = |variable: usize, known: &[(usize, usize)]| known.iter().any(|&(v, _)| v == variable);
+        let mut variable = if self.rng.chance(90) { self.variables.len() } else { self.rng.below(1_024) };
+        while taken(variable, &self.variables) {
+            variable = (variable + 1) % MOST_VARIABLES as usize;
+        }
+        self.w.numbers("var", &[variable, atom]);
+        self.variables.push((variable, atom));
+        self.first_variable.entry(atom).or_insert(variable);
+        variable
+    }
+
+    pub fn make_terms(&mut self, count: usize) {
+        for _ in 0..count {
+            let symbol = self.rng.below(self.signature.symbols.len());
+            self.apply(symbol, 3);
+        }
+    }
+
+    /// Applies a symbol to known or new terms; `depth` bounds the new ones.
+    fn apply(&mut self, symbol: usize, depth: usize) -> usize {
+        let arguments = self.signature.symbols[symbol].arguments.clone();
+        let mut numbers = vec![symbol];
+        for sort in arguments {
+            numbers.push(self.any_term(sort, depth));
+        }
+        self.w.term("term", &numbers).expect("well sorted, and room")
+    }
+
+    pub fn any_term(&mut self, sort: usize, depth: usize) -> usize {
+        let session = &self.w.session;
+        let known: Vec<usize> = (0..session.term_count()).filter(|&t| session.sort_of(t) == sort).collect();
+        if !known.is_empty() && self.rng.chance(75) {
+            return known[self.rng.below(known.len())];
+        }
+        let fits = |symbol: &usize| {
+            let declared = &self.signature.symbols[*symbol];
+            declared.result == sort && (depth > 0 || declared.arguments.is_empty())
+        };
+        let symbols: Vec<usize> = (0..self.signature.symbols.len()).filter(fits).collect();
+        let symbol = *self.rng.pick(&symbols).expect("each sort has a constant");
+        self.apply(symbol, depth.saturating_sub(1))
+    }
+
+    /// Makes and registers atoms: equations, testers and other Boolean terms.
+    pub fn make_atoms(&mut self, count: usize) {
+        for _ in 0..count {
+            let atom = match self.rng.below(10) {
+                0..=5 => self.random_equation(),
+                6..=8 => self.random_tester(),
+                _ => Some(self.any_term(0, 2)),
+            };
+            if let Some(atom) = atom {
+                self.register(atom);
+            }
+        }
+    }
+
+    fn random_equation(&mut self) -> Option<usize> {
+        let (t, u) = self.two_of_one_sort()?;
+        if t == u {
+            return None;
+        }
+        self.w.term("eq", &[t, u])
+    }
+
+    fn random_tester(&mut self) -> Option<usize> {
+        let place = self.rng.below(self.signature.constructors.len());
+        let (tester, sort) = {
+            let constructor = &self.signature.constructors[place];
+            (constructor.tester(), constructor.sort)
+        };
+        let t = self.any_term(sort, 2);
+        self.w.term("term", &[tester, t])
+    }
+}

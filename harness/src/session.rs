@@ -1,0 +1,459 @@
+//! The session: questions 4 to 11 over the published solver. `check` and `assert` answers come from `DtSolver`,
+//! equality from `EqualityEngine`, terms from `Context`.
+
+use crate::script::{self, Line};
+use shinri_core::{BuiltinOp, Context, DtRole, Lit, Op, SortId, SymbolId, TermId, TermNode, TheoryJust, Var};
+use shinri_dt::DtSolver;
+use shinri_sat::Effort;
+use shinri_theory::types::{EqJust, EqLeaf, Owner};
+use shinri_theory::{AtomRegistry, ENodeId, EqualityEngine, TCheck, TheoryCtx, TheorySolver};
+use std::fmt;
+
+pub const MOST_SORTS: usize = 64;
+pub const MOST_SYMBOLS: usize = 512;
+pub const MOST_TERMS: usize = 1_024;
+pub const MOST_PLACES: usize = 4_096;
+pub const MOST_PAIRS: usize = 2_048;
+pub const MOST_LEVELS: usize = 64;
+pub const MOST_VARIABLES: u32 = 1_024;
+
+#[derive(Clone, PartialEq, Eq, Debug)]
+pub enum Answer {
+    Ok,
+    Term(usize),
+    Conflict(Vec<Leaf>),
+    Split { atoms: Vec<usize>, guards: Vec<u32>, phases: Vec<Option<bool>> },
+    Sat,
+    Unknown,
+    Refused(u32),
+}
+
+#[derive(Clone, Copy, PartialEq, Eq, Debug)]
+pub enum Leaf {
+    Literal(u32),
+    Interface { theory: u16, tag: u32 },
+}
+
+/// The number of the question that was answered with no.
+type Refusal = u32;
+
+#[derive(Default)]
+pub struct Session {
+    terms: Context,
+    eq: EqualityEngine,
+    atoms: AtomRegistry,
+    dt: DtSolver,
+    sorts: Vec<SortId>,
+    symbols: Vec<SymbolId>,
+    closed: bool,
+    term_count: usize,
+    places: usize,
+    pairs: usize,
+    /// The pairs in force when each open level began.
+    pairs_before: Vec<usize>,
+    /// The accepted lines, to build the session again after a refused check.
+    accepted: Vec<Line>,
+}
+
+impl Session {
+    pub fn new() -> Session {
+        let mut session = Session::default();
+        session.sorts.push(session.terms.bool_sort());
+        session
+    }
+
+    pub fn answer(&mut self, line: &[u8]) -> Answer {
+        let Some(line) = script::read(line) else {
+            return Answer::Refused(3);
+        };
+        match self.obey(&line) {
+            Ok(answer) => {
+                self.accepted.push(line);
+                answer
+            }
+            Err(question) => Answer::Refused(question),
+        }
+    }
+
+    pub fn term_count(&self) -> usize {
+        self.term_count
+    }
+
+    /// The argument places of all terms.
+    pub fn places(&self) -> usize {
+        self.places
+    }
+
+    pub fn level(&self) -> usize {
+        self.eq.level()
+    }
+
+    /// The number of a term's sort.
+    pub fn sort_of(&self, t: usize) -> usize {
+        let sort = self.terms.sort_of(self.known_term(t));
+        self.sorts.iter().position(|&known| known == sort).expect("a declared sort")
+    }
+
+    /// The number of a term's symbol; an equation has none.
+    pub fn symbol_of(&self, t: usize) -> Option<usize> {
+        match self.operation(self.known_term(t)) {
+            Op::Uninterpreted(symbol) => self.symbols.iter().position(|&known| known == symbol),
+            Op::Builtin(_) => None,
+        }
+    }
+
+    /// What a term's symbol is among the datatype symbols.
+    pub fn role_of(&self, t: usize) -> Option<DtRole> {
+        match self.operation(self.known_term(t)) {
+            Op::Uninterpreted(symbol) => self.terms.dt_role(symbol),
+            Op::Builtin(_) => None,
+        }
+    }
+
+    pub fn is_datatype(&self, t: usize) -> bool {
+        self.terms.is_datatype_sort(self.terms.sort_of(self.known_term(t)))
+    }
+
+    /// The atom of a registered variable.
+    pub fn atom_of(&self, variable: u32) -> usize {
+        self.atoms.atom(Var::new(variable)).index()
+    }
+
+    pub fn arguments_of(&self, t: usize) -> Vec<usize> {
+        self.arguments(self.known_term(t)).iter().map(|argument| argument.index()).collect()
+    }
+
+    pub fn equal(&mut self, t: usize, u: usize) -> bool {
+        let (t, u) = (self.known_term(t), self.known_term(u));
+        let (a, b) = (self.eq.intern(t), self.eq.intern(u));
+        self.eq.are_equal(a, b)
+    }
+
+    fn obey(&mut self, line: &Line) -> Result<Answer, Refusal> {
+        let declares = matches!(line, Line::Sort { .. } | Line::Ctor { .. } | Line::Fun { .. } | Line::Close);
+        ensure(declares != self.closed, 4)?;
+        match line {
+            Line::Sort { datatype } => self.declare_sort(*datatype),
+            Line::Ctor { sort, fields } => self.declare_constructor(*sort, fields),
+            Line::Fun { result, arguments } => self.declare_function(*result, arguments),
+            Line::Close => self.close(),
+            Line::Term { symbol, arguments } => self.make_application(*symbol, arguments),
+            Line::Eq(t, u) => self.make_equation(*t, *u),
+            Line::Var { variable, atom } => self.register(*variable, *atom),
+            Line::Equate(literal) => self.equate(*literal),
+            Line::Cong(t, u) => self.join_congruent(*t, *u),
+            Line::Iface { sides, theory, tag } => {
+                self.join_by_interface(*sides, TheoryJust { theory: *theory, tag: *tag })
+            }
+            Line::Assert(literal) => self.assert(*literal),
+            Line::Push => self.push(),
+            Line::Pop(level) => self.pop(*level),
+            Line::Check { full } => self.check(*full),
+        }
+    }
+
+    fn declare_sort(&mut self, datatype: bool) -> Result<Answer, Refusal> {
+        ensure(self.sorts.len() < MOST_SORTS, 11)?;
+        let name = format!("sort{}", self.sorts.len());
+        self.sorts.push(if datatype {
+            self.terms.declare_datatype_sort(&name)
+        } else {
+            self.terms.declare_sort(&name)
+        });
+        Ok(Answer::Ok)
+    }
+
+    fn declare_constructor(&mut self, sort: u32, fields: &[u32]) -> Result<Answer, Refusal> {
+        let datatype = self.sort(sort)?;
+        let fields = self.sorts_of(fields)?;
+        ensure(self.terms.is_datatype_sort(datatype), 6)?;
+        ensure(self.symbols.len() + 2 + fields.len() <= MOST_SYMBOLS, 11)?;
+        let constructor = self.declare_symbol(&fields, datatype);
+        let tester = self.declare_symbol(&[datatype], self.terms.bool_sort());
+        let selectors: Vec<SymbolId> = fields.iter().map(|&field| self.declare_symbol(&[datatype], field)).collect();
+        self.terms.dt_add_constructor(datatype, constructor, &selectors, tester);
+        Ok(Answer::Ok)
+    }
+
+    fn declare_function(&mut self, result: u32, arguments: &[u32]) -> Result<Answer, Refusal> {
+        let result = self.sort(result)?;
+        let arguments = self.sorts_of(arguments)?;
+        ensure(self.symbols.len() < MOST_SYMBOLS, 11)?;
+        self.declare_symbol(&arguments, result);
+        Ok(Answer::Ok)
+    }
+
+    fn declare_symbol(&mut self, arguments: &[SortId], result: SortId) -> SymbolId {
+        let name = format!("symbol{}", self.symbols.len());
+        let symbol = self.terms.declare_fun(&name, arguments, result);
+        self.symbols.push(symbol);
+        symbol
+    }
+
+    fn close(&mut self) -> Result<Answer, Refusal> {
+        let datatypes = self.sorts.iter().filter(|&&sort| self.terms.is_datatype_sort(sort));
+        ensure(datatypes.copied().all(|datatype| self.has_base_constructor(datatype)), 10)?;
+        self.closed = true;
+        Ok(Answer::Ok)
+    }
+
+    fn has_base_constructor(&self, datatype: SortId) -> bool {
+        let constructors = self.terms.dt_constructors(datatype).unwrap_or_default();
+        constructors.iter().any(|&constructor| {
+            let fields = self.terms.fun_params(constructor).unwrap_or_default();
+            fields.iter().all(|&field| !self.terms.is_datatype_sort(field))
+        })
+    }
+
+    fn make_application(&mut self, symbol: u32, arguments: &[u32]) -> Result<Answer, Refusal> {
+        let symbol = *self.symbols.get(symbol as usize).ok_or(5u32)?;
+        let arguments = arguments.iter().map(|&t| self.term(t)).collect::<Result<Vec<_>, _>>()?;
+        self.make(Op::Uninterpreted(symbol), &arguments)
+    }
+
+    fn make_equation(&mut self, t: u32, u: u32) -> Result<Answer, Refusal> {
+        let sides = [self.term(t)?, self.term(u)?];
+        ensure(sides[0] != sides[1], 6)?;
+        self.make(Op::Builtin(BuiltinOp::Eq), &sides)
+    }
+
+    fn make(&mut self, op: Op, arguments: &[TermId]) -> Result<Answer, Refusal> {
+        let room = self.term_count < MOST_TERMS && self.places + arguments.len() <= MOST_PLACES;
+        if !room {
+            // Only an existing term may be named now; the clone tells whether it exists and leaves the table alone.
+            let t = self.terms.clone().mk_app(op, arguments).map_err(|_| 6u32)?;
+            ensure(t.index() < self.term_count, 11)?;
+        }
+        let t = self.terms.mk_app(op, arguments).map_err(|_| 6u32)?;
+        self.count_new_terms();
+        Ok(Answer::Term(t.index()))
+    }
+
+    /// Counts the terms made since the last count, and their argument places. The published argument arena also
+    /// grows for a repeated term, so places are counted over the terms.
+    fn count_new_terms(&mut self) {
+        while let Some(t) = self.existing_term(self.term_count) {
+            self.places += self.arguments(t).len();
+            self.term_count += 1;
+        }
+    }
+
+    fn register(&mut self, variable: u32, atom: u32) -> Result<Answer, Refusal> {
+        let atom = self.term(atom)?;
+        ensure(variable < MOST_VARIABLES, 5)?;
+        ensure(self.terms.sort_of(atom) == self.terms.bool_sort(), 6)?;
+        let variable = Var::new(variable);
+        ensure(!self.atoms.is_registered(variable), 7)?;
+        self.atoms.register(variable, atom, Owner::Datatypes);
+        let (dt, mut cx) = self.solver();
+        dt.new_var(&mut cx, variable, atom);
+        Ok(Answer::Ok)
+    }
+
+    fn equate(&mut self, literal: u32) -> Result<Answer, Refusal> {
+        let literal = self.literal(literal)?;
+        let atom = self.atoms.atom(literal.var());
+        ensure(literal.is_positive() && self.operation(atom) == Op::Builtin(BuiltinOp::Eq), 8)?;
+        let sides = self.arguments(atom).to_vec();
+        self.merge(sides[0], sides[1], EqJust::Asserted(literal));
+        Ok(Answer::Ok)
+    }
+
+    fn join_congruent(&mut self, t: u32, u: u32) -> Result<Answer, Refusal> {
+        let (t, u) = (self.term(t)?, self.term(u)?);
+        ensure(self.operation(t) == self.operation(u), 9)?;
+        let (left, right) = (self.nodes_of_arguments(t), self.nodes_of_arguments(u));
+        let pairs: Vec<(ENodeId, ENodeId)> = left.into_iter().zip(right).collect();
+        ensure(pairs.iter().all(|&(a, b)| self.eq.are_equal(a, b)), 9)?;
+        let (a, b) = (self.eq.intern(t), self.eq.intern(u));
+        // The published engine keeps the pairs of a merge that joins nothing too; here they take no room.
+        if !self.eq.are_equal(a, b) {
+            ensure(self.pairs + pairs.len() <= MOST_PAIRS, 11)?;
+            self.pairs += pairs.len();
+            self.eq.merge_congruence(a, b, &pairs).expect("no disequalities");
+            self.eq.drain_merges(&mut Vec::new());
+        }
+        Ok(Answer::Ok)
+    }
+
+    fn join_by_interface(&mut self, sides: (u32, u32), leaf: TheoryJust) -> Result<Answer, Refusal> {
+        let (t, u) = (self.term(sides.0)?, self.term(sides.1)?);
+        ensure(self.terms.sort_of(t) == self.terms.sort_of(u), 6)?;
+        self.merge(t, u, EqJust::Interface(leaf));
+        Ok(Answer::Ok)
+    }
+
+    fn merge(&mut self, t: TermId, u: TermId, label: EqJust) {
+        let (a, b) = (self.eq.intern(t), self.eq.intern(u));
+        self.eq.merge(a, b, label).expect("no disequalities");
+        // The published `pop` asserts that the merge events were taken.
+        self.eq.drain_merges(&mut Vec::new());
+    }
+
+    fn assert(&mut self, literal: u32) -> Result<Answer, Refusal> {
+        let literal = self.literal(literal)?;
+        let (dt, mut cx) = self.solver();
+        Ok(match dt.assert(&mut cx, literal) {
+            None => Answer::Ok,
+            Some(leaves) => Answer::Conflict(first_occurrences(&leaves)),
+        })
+    }
+
+    fn push(&mut self) -> Result<Answer, Refusal> {
+        ensure(self.eq.level() < MOST_LEVELS, 11)?;
+        self.eq.push();
+        self.dt.push();
+        self.pairs_before.push(self.pairs);
+        Ok(Answer::Ok)
+    }
+
+    fn pop(&mut self, level: u32) -> Result<Answer, Refusal> {
+        let level = level as usize;
+        // The published `UndoLog` asserts that the level is not above its own.
+        if level < self.eq.level() {
+            self.eq.pop(level);
+            self.dt.pop(level);
+            self.pairs = self.pairs_before[level];
+            self.pairs_before.truncate(level);
+        }
+        Ok(Answer::Ok)
+    }
+
+    fn check(&mut self, full: bool) -> Result<Answer, Refusal> {
+        let effort = if full { Effort::Full } else { Effort::Standard };
+        let (dt, mut cx) = self.solver();
+        let result = dt.check(&mut cx, effort);
+        self.count_new_terms();
+        if self.term_count > MOST_TERMS || self.places > MOST_PLACES {
+            self.rebuild();
+            return Err(11);
+        }
+        Ok(check_answer(result))
+    }
+
+    /// Undoes a refused check. The published solver cannot be copied, so the accepted lines are obeyed anew.
+    fn rebuild(&mut self) {
+        let accepted = std::mem::take(&mut self.accepted);
+        *self = Session::new();
+        for line in &accepted {
+            self.obey(line).expect("accepted before");
+        }
+        self.accepted = accepted;
+    }
+
+    fn solver(&mut self) -> (&mut DtSolver, TheoryCtx<'_>) {
+        (&mut self.dt, TheoryCtx { terms: &mut self.terms, eq: &mut self.eq, atoms: &self.atoms })
+    }
+
+    fn sort(&self, number: u32) -> Result<SortId, Refusal> {
+        self.sorts.get(number as usize).copied().ok_or(5)
+    }
+
+    fn sorts_of(&self, numbers: &[u32]) -> Result<Vec<SortId>, Refusal> {
+        numbers.iter().map(|&number| self.sort(number)).collect()
+    }
+
+    fn term(&self, number: u32) -> Result<TermId, Refusal> {
+        self.existing_term(number as usize).ok_or(5)
+    }
+
+    fn known_term(&self, index: usize) -> TermId {
+        self.existing_term(index).expect("a term of the session")
+    }
+
+    fn existing_term(&self, index: usize) -> Option<TermId> {
+        let t = TermId::new(u32::try_from(index + 1).ok()?)?;
+        self.terms.contains_term(t).then_some(t)
+    }
+
+    fn literal(&self, code: u32) -> Result<Lit, Refusal> {
+        let literal = Lit::from_code(code);
+        ensure(self.atoms.is_registered(literal.var()), 5)?;
+        Ok(literal)
+    }
+
+    fn operation(&self, t: TermId) -> Op {
+        match self.terms.term_node(t) {
+            TermNode::App { op, .. } => *op,
+            TermNode::Const { .. } => unreachable!("a script has no constants"),
+        }
+    }
+
+    fn arguments(&self, t: TermId) -> &[TermId] {
+        match self.terms.term_node(t) {
+            TermNode::App { args, .. } => self.terms.children(*args),
+            TermNode::Const { .. } => unreachable!("a script has no constants"),
+        }
+    }
+
+    fn nodes_of_arguments(&mut self, t: TermId) -> Vec<ENodeId> {
+        let arguments = self.arguments(t).to_vec();
+        arguments.into_iter().map(|argument| self.eq.intern(argument)).collect()
+    }
+}
+
+fn ensure(yes: bool, question: u32) -> Result<(), Refusal> {
+    if yes {
+        Ok(())
+    } else {
+        Err(question)
+    }
+}
+
+fn check_answer(result: TCheck) -> Answer {
+    match result {
+        TCheck::Sat => Answer::Sat,
+        TCheck::Unknown => Answer::Unknown,
+        TCheck::Conflict(leaves) => Answer::Conflict(first_occurrences(&leaves)),
+        TCheck::Split { atoms, guards, phases } => Answer::Split {
+            atoms: atoms.into_iter().map(TermId::index).collect(),
+            guards: guards.into_iter().map(Lit::code).collect(),
+            phases,
+        },
+    }
+}
+
+fn first_occurrences(leaves: &[EqLeaf]) -> Vec<Leaf> {
+    let mut kept = Vec::new();
+    for leaf in leaves {
+        let leaf = match leaf {
+            EqLeaf::Asserted(literal) => Leaf::Literal(literal.code()),
+            EqLeaf::Interface(just) => Leaf::Interface { theory: just.theory, tag: just.tag },
+        };
+        if !kept.contains(&leaf) {
+            kept.push(leaf);
+        }
+    }
+    kept
+}
+
+impl fmt::Display for Leaf {
+    fn fmt(&self, f: &mut fmt::Formatter<'_>) -> fmt::Result {
+        match self {
+            Leaf::Literal(code) => write!(f, "a{code}"),
+            Leaf::Interface { theory, tag } => write!(f, "i{theory}.{tag}"),
+        }
+    }
+}
+
+impl fmt::Display for Answer {
+    fn fmt(&self, f: &mut fmt::Formatter<'_>) -> fmt::Result {
+        match self {
+            Answer::Ok => write!(f, "ok=1"),
+            Answer::Term(number) => write!(f, "term={number}"),
+            Answer::Conflict(leaves) => write!(f, "conflict={}", comma_list(leaves)),
+            Answer::Split { atoms, guards, phases } => {
+                let phases: Vec<&str> =
+                    phases.iter().map(|phase| if *phase == Some(true) { "1" } else { "-" }).collect();
+                write!(f, "split={};{};{}", comma_list(atoms), comma_list(guards), phases.join(","))
+            }
+            Answer::Sat => write!(f, "sat=1"),
+            Answer::Unknown => write!(f, "unknown=1"),
+            Answer::Refused(question) => write!(f, "refused={question}"),
+        }
+    }
+}
+
+fn comma_list<T: fmt::Display>(items: &[T]) -> String {
+    items.iter().map(T::to_string).collect::<Vec<_>>().join(",")
+}
