@@ -1,14 +1,17 @@
 -- Laws of the list functions that the definitions share.
 use Prim.Native.Nat.{ℕ, zero, suc, _+_, _≤_, _<_}
-use mathlib.Core.Path.{_≡_, refl, sym, subst}
+use mathlib.Core.Path.{_≡_, refl, sym, subst, ap, ap₂, _∙_}
 use mathlib.Core.Logic.{_⊎_, inl, inr}
-use mathlib.Core.Bool.{Bool, true, false, cond, _&&_}
-use mathlib.Core.List.{List, [], _∷_}
-use native.Mathlib.Nat.{le-antisymm, not-suc-le-zero, le-of-suc-le-suc, zero-lt-suc}
+use mathlib.Core.Bool.{Bool, true, false, cond, _&&_, false≢true}
+use mathlib.Core.List.{List, [], _∷_, _++_, map}
+use native.Mathlib.Nat.{le-antisymm, add-zero, add-suc, suc-add}
 use native.Mathlib.Decide.{decLe}
 use native.Mathlib.Omega.{arith}
-use lib.Dec.{T}
-use Rattle.core.specs.Lists.{keep, every, any, range}
+use lib.Dec.{T, eqb}
+use borrow.Author.Tests.{eq-eqb, ne-eqb}
+use lib.ListN.{length, getD, take, drop, set, length-set, drop-of-length-le}
+use lib.Seq.{sets, getD-set-same, getD-set-other, drop-cons}
+use Rattle.core.specs.Lists.{keep, every, any, range, same-list}
 
 -- ---- tests
 
@@ -19,6 +22,14 @@ T-and false b t = absurd t
 pub T-both : (a b : Bool) → T a → T b → T (a && b)
 T-both true b s t = t
 T-both false b s t = absurd s
+
+cond-same : (b : Bool) → cond b false false ≡ false
+cond-same true = refl
+cond-same false = refl
+
+cond-both : (b : Bool) → cond b true true ≡ true
+cond-both true = refl
+cond-both false = refl
 
 cond-and : (b r : Bool) → T (cond b r false) → T b × T r
 cond-and true r t = (tt, t)
@@ -82,3 +93,169 @@ pub in-range : (k n x : ℕ) → k ≤ x → x < k + n → In x (range k n)
 unfolding range
 in-range k zero x h l = absurd (omega arith)
 in-range k (suc n) x h l = range-step k n x (decLe x k) h (λ g. in-range (suc k) n x g (omega arith))
+
+-- ---- a function over a range
+
+module _ {A : Type 0} where
+  pub length-map-range : (f : ℕ → A) (k n : ℕ) → length (map f (range k n)) ≡ n
+  unfolding range
+  length-map-range f k zero = refl
+  length-map-range f k (suc n) = ap suc (length-map-range f (suc k) n)
+
+  pub getD-map-range : (f : ℕ → A) (k n i : ℕ) (d : A) → i < n → getD (map f (range k n)) i d ≡ f (k + i)
+  unfolding range
+  getD-map-range f k zero i d h = absurd (omega arith)
+  getD-map-range f k (suc n) zero d h = rw add-zero
+  getD-map-range f k (suc n) (suc i) d h = rw (getD-map-range f (suc k) n i d (omega arith), add-suc, suc-add)
+
+  -- two functions that agree on a range
+  pub map-range-cong : (f g : ℕ → A) (k n : ℕ) → ((i : ℕ) → k ≤ i → i < k + n → f i ≡ g i) → map f (range k n) ≡ map g (range k n)
+  unfolding range
+  map-range-cong f g k zero h = refl
+  map-range-cong f g k (suc n) h =
+      ap₂ (λ (x : A) (xs : List A). x ∷ xs) (h k (omega arith) (omega arith))
+      (map-range-cong f g (suc k) n (λ i l u. h i (omega arith) (omega arith)))
+
+  -- one more at the end
+  pub map-range-suc : (f : ℕ → A) (k n : ℕ) → map f (range k (suc n)) ≡ map f (range k n) ++ (f (k + n) ∷ [])
+  unfolding range
+  map-range-suc f k zero = rw add-zero
+  map-range-suc f k (suc n) =
+      ap {B = List A} (λ xs. f k ∷ xs) (map-range-suc f (suc k) n ∙ ap (λ (m : ℕ). map f (range (suc k) n) ++ (f m ∷ [])) (suc-add k n ∙ sym (add-suc k n)))
+
+  -- the first of them
+  pub take-map-range : (f : ℕ → A) (k n m : ℕ) → m ≤ n → take m (map f (range k n)) ≡ map f (range k m)
+  unfolding range
+  take-map-range f k n zero h = refl
+  take-map-range f k zero (suc m) h = absurd (omega arith)
+  take-map-range f k (suc n) (suc m) h = ap {B = List A} (λ xs. f k ∷ xs) (take-map-range f (suc k) n m (omega arith))
+
+  -- ---- a run of stores
+
+  pub getD-sets-out : (l : List A) (i : ℕ) (vs : List A) (k : ℕ) (d : A) → (k < i) ⊎ (i + length vs ≤ k) → getD (sets l i vs) k d ≡ getD l k d
+  getD-sets-out l i [] k d h = refl
+  getD-sets-out l i (v ∷ vs) k d (inl h) =
+      getD-sets-out (set l i v) (suc i) vs k d (inl (omega arith)) ∙ getD-set-other l i k v d (omega arith)
+  getD-sets-out l i (v ∷ vs) k d (inr h) =
+      getD-sets-out (set l i v) (suc i) vs k d (inr (omega arith)) ∙ getD-set-other l i k v d (omega arith)
+
+  pub getD-sets-in : (l : List A) (i : ℕ) (vs : List A) (k : ℕ) (d : A) → k < length vs → i + length vs ≤ length l → getD (sets l i vs) (i + k) d ≡ getD vs k d
+  getD-sets-in l i [] k d h m = absurd (omega arith)
+  getD-sets-in l i (v ∷ vs) zero d h m =
+      getD-sets-out (set l i v) (suc i) vs (i + 0) d (inl (omega arith))
+      ∙ ap (λ (j : ℕ). getD (set l i v) j d) (add-zero i)
+      ∙ getD-set-same l i v d (omega arith)
+  getD-sets-in l i (v ∷ vs) (suc k) d h m =
+      ap (λ (j : ℕ). getD (sets (set l i v) (suc i) vs) j d) (add-suc i k ∙ sym (suc-add i k))
+      ∙ getD-sets-in (set l i v) (suc i) vs k d (omega arith) (rw length-set (omega arith))
+
+-- ---- lists compared
+
+pub same-list-true : (xs ys : List ℕ) → length xs ≡ length ys → ((k : ℕ) → k < length xs → getD xs k 0 ≡ getD ys k 0) → same-list xs ys ≡ true
+unfolding same-list
+same-list-true [] [] e h = refl
+same-list-true [] (y ∷ ys) e h = absurd (omega arith)
+same-list-true (x ∷ xs) [] e h = absurd (omega arith)
+same-list-true (x ∷ xs) (y ∷ ys) e h =
+    ap (λ (b : Bool). cond b (same-list xs ys) false) (eq-eqb x y (h 0 (omega arith)))
+    ∙ same-list-true xs ys (omega arith) (λ k l. h (suc k) (omega arith))
+
+pub same-list-false : (xs ys : List ℕ) (k : ℕ) → k < length xs → (getD xs k 0 ≡ getD ys k 0 → ⊥) → same-list xs ys ≡ false
+unfolding same-list
+same-list-false [] ys k l n = absurd (omega arith)
+same-list-false (x ∷ xs) [] k l n = refl
+same-list-false (x ∷ xs) (y ∷ ys) zero l n = ap (λ (b : Bool). cond b (same-list xs ys) false) (ne-eqb x y n)
+same-list-false (x ∷ xs) (y ∷ ys) (suc k) l n =
+    ap (λ (b : Bool). cond (eqb x y) b false) (same-list-false xs ys k (omega arith) n) ∙ cond-same (eqb x y)
+
+pub same-list-longer : (xs ys : List ℕ) → (length xs ≡ length ys → ⊥) → same-list xs ys ≡ false
+unfolding same-list
+same-list-longer [] [] n = absurd (n refl)
+same-list-longer [] (y ∷ ys) n = refl
+same-list-longer (x ∷ xs) [] n = refl
+same-list-longer (x ∷ xs) (y ∷ ys) n =
+    ap (λ (b : Bool). cond (eqb x y) b false) (same-list-longer xs ys (λ e. n (ap suc e))) ∙ cond-same (eqb x y)
+
+-- ---- a loop that copies vs into t₀ from a place on
+
+-- i elements are copied, and copying the others into the table as it is now gives the whole copy
+pub record Copying (t₀ : List ℕ) (at : ℕ) (vs t : List ℕ) (i : ℕ) : Type 0 where
+  pub within : i ≤ length vs
+  pub long : length t ≡ length t₀
+  pub rest : sets t (at + i) (drop i vs) ≡ sets t₀ at vs
+
+pub copy-first : (t : List ℕ) (at : ℕ) (vs : List ℕ) → Copying t at vs t 0
+copy-first t at vs = record { within = omega arith; long = refl; rest = ap (λ (k : ℕ). sets t k vs) (add-zero at) }
+
+pub copy-next : (t₀ : List ℕ) (at : ℕ) (vs t : List ℕ) (i : ℕ) → Copying t₀ at vs t i → i < length vs → Copying t₀ at vs (set t (at + i) (getD vs i 0)) (i + 1)
+copy-next t₀ at vs t i c h =
+    let e : at + (i + 1) ≡ suc (at + i) = omega arith in
+    let d : i + 1 ≡ suc i = omega arith in
+    record {
+      within = omega arith;
+      long = length-set t (at + i) (getD vs i 0) ∙ c .long;
+      rest =
+          ap₂ (λ (k m : ℕ). sets (set t (at + i) (getD vs i 0)) k (drop m vs)) e d
+          ∙ sym (ap (λ (ws : List ℕ). sets t (at + i) ws) (drop-cons vs i 0 h))
+          ∙ c .rest;
+    }
+
+pub copy-done : (t₀ : List ℕ) (at : ℕ) (vs t : List ℕ) (i : ℕ) → Copying t₀ at vs t i → length vs ≤ i → t ≡ sets t₀ at vs
+copy-done t₀ at vs t i c h = sym (ap (λ (ws : List ℕ). sets t (at + i) ws) (drop-of-length-le vs h)) ∙ c .rest
+
+-- stores one after the other
+pub set-after : (l l₁ l₂ : List ℕ) (i v : ℕ) → l₂ ≡ set l₁ i v → l₁ ≡ l → l₂ ≡ set l i v
+set-after l l₁ l₂ i v e p = e ∙ ap (λ (m : List ℕ). set m i v) p
+
+-- ---- tests over a list, by its members
+
+pub T-true : (b : Bool) → T b → b ≡ true
+T-true true t = refl
+T-true false t = absurd t
+
+pub true-T : (b : Bool) → b ≡ true → T b
+true-T true e = tt
+true-T false e = absurd (false≢true e)
+
+module _ {A : Type 0} where
+  pub any-none : (p : A → Bool) (xs : List A) → ((x : A) → In x xs → p x ≡ false) → any p xs ≡ false
+  unfolding any
+  any-none p [] h = refl
+  any-none p (x ∷ xs) h =
+      ap (λ (b : Bool). cond b true (any p xs)) (h x (inl refl)) ∙ any-none p xs (λ y i. h y (inr i))
+
+  pub any-some : (p : A → Bool) (xs : List A) (x : A) → In x xs → p x ≡ true → any p xs ≡ true
+  unfolding any
+  any-some p [] x i e = absurd i
+  any-some p (y ∷ ys) x (inl q) e = ap (λ (b : Bool). cond b true (any p ys)) (ap p (sym q) ∙ e)
+  any-some p (y ∷ ys) x (inr i) e = ap (λ (b : Bool). cond (p y) true b) (any-some p ys x i e) ∙ cond-both (p y)
+
+  pub every-all : (p : A → Bool) (xs : List A) → ((x : A) → In x xs → p x ≡ true) → every p xs ≡ true
+  unfolding every
+  every-all p [] h = refl
+  every-all p (x ∷ xs) h =
+      ap (λ (b : Bool). cond b (every p xs) false) (h x (inl refl)) ∙ every-all p xs (λ y i. h y (inr i))
+
+  pub every-not : (p : A → Bool) (xs : List A) (x : A) → In x xs → p x ≡ false → every p xs ≡ false
+  unfolding every
+  every-not p [] x i e = absurd i
+  every-not p (y ∷ ys) x (inl q) e = ap (λ (b : Bool). cond b (every p ys) false) (ap p (sym q) ∙ e)
+  every-not p (y ∷ ys) x (inr i) e = ap (λ (b : Bool). cond (p y) b false) (every-not p ys x i e) ∙ cond-same (p y)
+
+pub range-in : (k n x : ℕ) → In x (range k n) → (k ≤ x) × (x < k + n)
+unfolding range
+range-in k zero x i = absurd i
+range-in k (suc n) x (inl e) = (omega arith, omega arith)
+range-in k (suc n) x (inr i) = let r = range-in (suc k) n x i in (omega arith, omega arith)
+
+-- ---- members by their places
+
+pub at-in : (xs : List ℕ) (i : ℕ) → i < length xs → In (getD xs i 0) xs
+at-in [] i h = absurd (omega arith)
+at-in (x ∷ xs) zero h = inl refl
+at-in (x ∷ xs) (suc i) h = inr (at-in xs i (omega arith))
+
+pub in-at : (xs : List ℕ) (x : ℕ) → In x xs → (j : ℕ) × (j < length xs) × (getD xs j 0 ≡ x)
+in-at [] x i = absurd i
+in-at (y ∷ ys) x (inl e) = (zero, omega arith, sym e)
+in-at (y ∷ ys) x (inr i) = let (j, h, e) = in-at ys x i in (suc j, omega arith, e)

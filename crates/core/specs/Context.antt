@@ -6,7 +6,7 @@ use mathlib.Core.Bool.{Bool, true, false, not, _&&_}
 use mathlib.Core.List.{List, [], _∷_, _++_, map}
 use mathlib.Core.Option.{Option, none, some}
 use lib.Dec.{eqb, leb}
-use lib.ListN.{length, getD}
+use lib.ListN.{length, getD, take}
 use Rattle.core.specs.Lists.{keep, every, any, place-from, range, total}
 use Rattle.core.specs.Sort.{SortNode, BoolSort, Datatype, Uninterpreted, is-datatype}
 use Rattle.core.specs.Term as Term
@@ -136,6 +136,18 @@ mk-eq cx a b = mk-app cx Eq (a ∷ b ∷ [])
 unfoldable pub places : Context → ℕ
 places cx = total (map (λ (t : Term). length (t .args)) (cx .terms))
 
+-- Question 11 for terms: 1,024 terms, 4,096 argument places of terms
+unfoldable pub terms-fit : Context → Bool
+terms-fit cx = leb (length (cx .terms)) 1024 && leb (places cx) 4096
+
+-- Question 11 for declarations: 64 sorts with Bool, 512 symbols
+unfoldable pub declarations-fit : Context → Bool
+declarations-fit cx = leb (length (cx .sorts)) 64 && leb (length (cx .symbols)) 512
+
+-- the first n terms: a refused line gives back the terms that it made
+unfoldable pub cut-terms : ℕ → Context → Context
+cut-terms n cx = record { sorts = cx .sorts; symbols = cx .symbols; terms = take n (cx .terms) }
+
 -- ---- a term by its role
 
 -- an application of a constructor, of a selector, of a tester
@@ -199,5 +211,5 @@ unfoldable pub tester-app : Context → ℕ → Option TesterApp
 tester-app cx t = tester-by-op cx t (term cx t .op) (children cx t)
 
 unfoldable pub context-definitions : Unit {0}
-unfolding empty-context with-symbols declare-sort selectors-from constructor-symbols dt-add-constructor declare-fun sort-node is-datatype-sort no-symbol symbol is-constructor builds dt-constructors dt-tester dt-selectors has-plain-fields grounded all-grounded no-term term children result-of sort-of intern mk-app mk-eq places ctor-by-role sel-by-role tester-by-role ctor-by-op sel-by-op tester-by-op ctor-app sel-app tester-app
+unfolding empty-context with-symbols declare-sort selectors-from constructor-symbols dt-add-constructor declare-fun sort-node is-datatype-sort no-symbol symbol is-constructor builds dt-constructors dt-tester dt-selectors has-plain-fields grounded all-grounded no-term term children result-of sort-of intern mk-app mk-eq places terms-fit declarations-fit cut-terms ctor-by-role sel-by-role tester-by-role ctor-by-op sel-by-op tester-by-op ctor-app sel-app tester-app
 context-definitions = tt

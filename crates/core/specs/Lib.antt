@@ -5,3 +5,5 @@ pub mod Sort
 pub mod Term
 pub mod Context
 pub mod Reading
+pub mod Table
+pub mod Codes

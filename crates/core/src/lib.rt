@@ -1,1 +1,5 @@
-// Ids, sorts, symbols and terms. What is right here is defined in specs/.
+// Ids, sorts, symbols and terms: ids.rs, sort.rs, term.rs and what is kept of context.rs, on one lent table.
+pub mod context;
+pub mod ids;
+pub mod table;
+pub mod term;

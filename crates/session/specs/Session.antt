@@ -9,7 +9,7 @@ use lib.ListN.{length}
 use Rattle.core.specs.Lists.{every, same-list}
 use Rattle.core.specs.Ids as Ids
 use Rattle.core.specs.Term.{Op, Eq, Uninterpreted, same-op}
-use Rattle.core.specs.Context.{Context, Made, declare-sort, dt-add-constructor, declare-fun, is-datatype-sort, symbol, all-grounded, term, children, sort-of, mk-app, mk-eq, places}
+use Rattle.core.specs.Context.{Context, Made, declare-sort, dt-add-constructor, declare-fun, is-datatype-sort, symbol, all-grounded, term, children, sort-of, mk-app, mk-eq, terms-fit, declarations-fit}
 use Rattle.theory.specs.Types.{EqLeaf, EqJust, Asserted, Congruence, Interface}
 use Rattle.theory.specs.EqEngine.{merge, are-equal, pop-merges, pairs-in-force}
 use Rattle.theory.specs.Atom as Atom
@@ -191,12 +191,7 @@ perform s (Line.Check e) = let c = Check.check e (s .state) in done s (Checked (
 -- force, 64 levels?
 unfoldable pub fits : State → Bool
 fits st =
-    leb (length (st .terms .sorts)) 64
-    && leb (length (st .terms .symbols)) 512
-    && leb (length (st .terms .terms)) 1024
-    && leb (places (st .terms)) 4096
-    && leb (pairs-in-force (st .eq)) 2048
-    && leb (st .level) 64
+    declarations-fit (st .terms) && terms-fit (st .terms) && leb (pairs-in-force (st .eq)) 2048 && leb (st .level) 64
 
 -- ---- one line
 

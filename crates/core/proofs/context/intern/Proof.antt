@@ -1,0 +1,119 @@
+use Prim.Native.Nat.{_≤_}
+use native.Mathlib.Omega.{arith}
+use Rattle.core.proofs.Intern.{made-old, no-more-terms, no-more-places, made-new, start-fits}
+use borrow.Author.Needs.{needs}
+use Rattle.core.proofs.context.intern.Statement.{statement}
+use Rattle.core.proofs.context.intern.Tie as tie
+use Rattle.core.proofs.context.intern.Reads as reads
+use Rattle.core.proofs.context.intern.Lts as lts
+use Rattle.core.proofs.context.append_term.Reads as append-term-reads
+use Rattle.core.proofs.context.find_app.Reads as find-app-reads
+use Rattle.core.proofs.table.get.Reads as get-reads
+
+-- src/context.rt:213:9
+get-requires : tie.Need-get-requires
+get-requires c κs = search needs
+
+-- src/context.rt:214:9
+find-app-requires : tie.Need-find-app-requires
+find-app-requires c κs = search needs
+
+-- src/context.rt:216:32
+cast-t12 : tie.Need-cast-t12
+cast-t12 c = search needs
+
+-- src/context.rt:216:9
+same-length : tie.Need-same-length
+same-length c = search needs
+
+-- src/context.rt:216:9
+returns : tie.Need-returns
+returns c = made-old _ _ _ (c .before .before .before .before .before .before .before .pre .0) _ _ (c .before .before .before .get .ensures .0) (c .before .find-app .ensures) (c .if1 .taken)
+
+-- src/context.rt:219:9
+same-length-2 : tie.Need-same-length-2
+same-length-2 c = search needs
+
+-- src/context.rt:219:9
+returns-2 : tie.Need-returns-2
+returns-2 c = no-more-terms _ _ _ (c .before .before .before .before .before .before .before .before .pre .0) _ _ (c .before .before .before .before .get .ensures .0) (c .before .before .find-app .ensures) (c .before .if1 .left) (c .if2 .taken)
+
+-- src/context.rt:221:24
+add-get : tie.Need-add-get
+add-get c = search needs
+
+-- src/context.rt:221:9
+get-requires-2 : tie.Need-get-requires-2
+get-requires-2 c κs = search needs
+
+-- src/context.rt:222:8
+sub-if3 : tie.Need-sub-if3
+sub-if3 c = start-fits _ _ _ (c .before .before .before .before .before .before .before .before .before .before .pre .0) (c .before .before .before .before .before .before .get .ensures .0) (c .get2 .ensures .0)
+
+-- src/context.rt:223:9
+same-length-3 : tie.Need-same-length-3
+same-length-3 c = search needs
+
+-- src/context.rt:223:9
+returns-3 : tie.Need-returns-3
+returns-3 c = no-more-places _ _ _ (c .before .before .before .before .before .before .before .before .before .before .before .pre .0) _ _ _ (c .before .before .before .before .before .before .before .get .ensures .0) (c .before .before .before .before .before .find-app .ensures) (c .before .before .before .before .if1 .left) (c .before .get2 .ensures .0) (c .if3 .taken)
+
+-- src/context.rt:225:5
+append-term-requires : tie.Need-append-term-requires
+append-term-requires c κs =
+    let z = c .before .before .before .before .before .before .before .before .before .before .before .before .pre in
+    let e = c .before .before .before .before .before .before .before .before .get .ensures .0 in
+    let f : c .before .before .before .before .before .before .before .before .get .result ≤ 1024 = rw e (z .0 .terms-fit) in
+    let g = c .before .before .before .before .if2 .left in
+    let p = c .before .if3 .left in
+    let q : c .before .before .get2 .result ≤ 4096 = start-fits _ _ _ (z .0) e (c .before .before .get2 .ensures .0) in
+    record {
+      sound = z .0;
+      next = e;
+      at = c .before .before .get2 .ensures .0;
+      room = omega arith;
+      places = omega arith;
+      declared = z .1;
+      terms = λ j l. rw e (z .2 j l);
+    }
+
+-- src/context.rt:226:21
+cast-t21 : tie.Need-cast-t21
+cast-t21 c = search needs
+
+-- src/context.rt:209:1
+same-length-4 : tie.Need-same-length-4
+same-length-4 c = search needs
+
+-- src/context.rt:209:1
+returns-4 : tie.Need-returns-4
+returns-4 c =
+    let z = c .before .before .before .before .before .before .before .before .before .before .before .before .before .before .before .pre .0 in
+    let e = c .before .before .before .before .before .before .before .before .before .before .before .get .ensures .0 in
+    let f : c .before .before .before .before .before .before .before .before .before .before .before .get .result ≤ 1024 = rw e (z .terms-fit) in
+    let g = c .before .before .before .before .before .before .before .if2 .left in
+    let p = c .before .before .before .before .if3 .left in
+    let o = c .before .before .before .before .before .get2 .ensures .0 in
+    let q : c .before .before .before .before .before .get2 .result ≤ 4096 = start-fits _ _ _ z e o in
+    made-new _ _ _ z _ _ _ _ e (c .before .before .before .before .before .before .before .before .before .find-app .ensures) (c .before .before .before .before .before .before .before .before .if1 .left) (omega arith) o (omega arith) (c .before .before .append-term .ensures)
+
+pub intern-spec : {M : Type 1} → statement M
+intern-spec =
+    tie.close
+    (tie.spec
+    get-requires
+    find-app-requires
+    cast-t12
+    same-length
+    returns
+    same-length-2
+    returns-2
+    add-get
+    get-requires-2
+    sub-if3
+    same-length-3
+    returns-3
+    append-term-requires
+    cast-t21
+    same-length-4
+    returns-4)

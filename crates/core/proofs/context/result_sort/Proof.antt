@@ -1,0 +1,33 @@
+use Rattle.core.proofs.Words.{result-is}
+use borrow.Author.Needs.{needs}
+use Rattle.core.proofs.context.result_sort.Statement.{statement}
+use Rattle.core.proofs.context.result_sort.Tie as tie
+use Rattle.core.proofs.context.result_sort.Reads as reads
+use Rattle.core.proofs.context.result_sort.Lts as lts
+use Rattle.core.proofs.table.get.Reads as get-reads
+
+-- src/context.rt:54:13
+cast-i : tie.Need-cast-i
+cast-i c = search needs
+
+-- src/context.rt:55:19
+add-get : tie.Need-add-get
+add-get c = search needs
+
+-- src/context.rt:55:12
+get-requires : tie.Need-get-requires
+get-requires c κs = search needs
+
+-- src/context.rt:55:12
+cast-t6 : tie.Need-cast-t6
+cast-t6 c = search needs
+
+-- src/context.rt:50:1
+returns : tie.Need-returns
+returns c =
+    let z = c .before .before .before .pre in
+    let e = c .get .ensures .0 in
+    (result-is _ _ _ (z .1) e, rw e (z .0 .result _ (z .1)))
+
+pub result-sort-spec : {M : Type 1} → statement M
+result-sort-spec = tie.close (tie.spec cast-i add-get get-requires cast-t6 returns)

@@ -1,0 +1,57 @@
+use Rattle.core.specs.Table.{sealed}
+use Rattle.core.proofs.Lists.{set-after}
+use borrow.Author.Needs.{needs}
+use Rattle.core.proofs.context.seal_term.Statement.{statement}
+use Rattle.core.proofs.context.seal_term.Tie as tie
+use Rattle.core.proofs.context.seal_term.Reads as reads
+use Rattle.core.proofs.context.seal_term.Lts as lts
+use Rattle.core.proofs.table.put.Reads as put-reads
+
+-- src/context.rt:192:12
+add-put : tie.Need-add-put
+add-put c = search needs
+
+-- src/context.rt:192:5
+put-requires : tie.Need-put-requires
+put-requires c κs = search needs
+
+-- src/context.rt:193:12
+add-put-2 : tie.Need-add-put-2
+add-put-2 c = search needs
+
+-- src/context.rt:193:5
+put-requires-2 : tie.Need-put-requires-2
+put-requires-2 c κs = search needs
+
+-- src/context.rt:194:15
+add-put-3 : tie.Need-add-put-3
+add-put-3 c = search needs
+
+-- src/context.rt:194:5
+put-requires-3 : tie.Need-put-requires-3
+put-requires-3 c κs = search needs
+
+-- src/context.rt:188:1
+same-length : tie.Need-same-length
+same-length c = search needs
+
+-- src/context.rt:188:1
+returns : tie.Need-returns
+unfolding sealed
+returns c =
+    let p1 = c .before .before .before .before .before .before .before .before .before .before .put .ensures in
+    let p2 = c .before .before .before .before .before .before .put2 .ensures in
+    set-after _ _ _ _ _ (c .before .before .put3 .ensures) (set-after _ _ _ _ _ p2 p1)
+
+pub seal-term-spec : {M : Type 1} → statement M
+seal-term-spec =
+    tie.close
+    (tie.spec
+    add-put
+    put-requires
+    add-put-2
+    put-requires-2
+    add-put-3
+    put-requires-3
+    same-length
+    returns)

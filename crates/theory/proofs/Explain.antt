@@ -1,0 +1,462 @@
+-- Explanations: each leaf labels a merge, and the leaves together force the equality that they explain.
+use Prim.Native.Nat.{ℕ, zero, suc, _≤_, _<_}
+use mathlib.Core.Path.{_≡_, refl, sym, subst, ap, ap₂, _∙_}
+use mathlib.Core.Logic.{_⊎_, inl, inr, _↔_}
+use mathlib.Core.Bool.{Bool, true, false, cond, _&&_, _||_}
+use mathlib.Core.List.{List, [], _∷_, _++_, map, foldl}
+use native.Mathlib.Omega.{arith}
+use lib.Dec.{T, eqb, eqb→eq, eqb-refl}
+use lib.ListN.{length}
+use borrow.Author.Tests.{eq-eqb}
+use Rattle.core.specs.Lists.{any}
+use Rattle.core.proofs.Lists.{In, any-in, T-and, T-both}
+use Rattle.theory.specs.Types.{EqJust, Asserted, Congruence, Interface, EqLeaf, AssertedLeaf, InterfaceLeaf, same-leaf}
+use Rattle.theory.specs.EqEngine.{Merge, Step, find, are-equal, merge, pop-merges, pairs-of, path, Explained, same-pair, visit, cite, expand-edge, explain-rec, explain, firsts-after, firsts}
+use Rattle.theory.proofs.Members.{T-or, T-left, in-left, in-right, in-either, in-any, Apart, apart-length}
+use Rattle.theory.proofs.Classes.{Same, same?, same-alone, same-kept, same-suffix, equal-same, Suffix, suffix-self, suffix-tail, in-suffix, pop-suffix}
+use Rattle.theory.proofs.Forest.{Leads, Along, path-over, Joins, PathOf, path-of, path-age}
+
+-- ---- labels
+
+-- the leaf of a label; a congruence has none
+abbrev pub Labels : EqJust → EqLeaf → Type 0
+Labels (Asserted l) k = k ≡ AssertedLeaf l
+Labels (Congruence ps) k = ⊥
+Labels (Interface h g) k = k ≡ InterfaceLeaf h g
+
+-- a leaf that labels a merge of ms
+abbrev pub Cites : List Merge → EqLeaf → Type 0
+Cites ms l = (m : Merge) × In m ms × Labels (m .just) l
+
+-- each merge joined two classes, and the pairs of its label were equal then
+abbrev pub Justified : List Merge → Type 0
+Justified [] = Unit {0}
+Justified (m ∷ ms) =
+    (are-equal ms (m .a) (m .b) ≡ false)
+    × ((p : ℕ × ℕ) → In p (pairs-of (m .just)) → T (are-equal ms (p .0) (p .1)))
+    × Justified ms
+
+pub justified-joins : (ms : List Merge) → Justified ms → Joins ms
+justified-joins [] j = tt
+justified-joins (m ∷ ms) (a, b, c) = (a, justified-joins ms c)
+
+pub justified-suffix : (r ms : List Merge) → Suffix r ms → Justified ms → Justified r
+justified-suffix r [] s j = subst Justified (sym s) tt
+justified-suffix r (m ∷ ms) (inl s) j = subst Justified (sym s) j
+justified-suffix r (m ∷ ms) (inr s) (a, b, c) = justified-suffix r ms s c
+
+pub pop-justified : (k : ℕ) (ms : List Merge) → Justified ms → Justified (pop-merges k ms)
+pop-justified k ms j = justified-suffix (pop-merges k ms) ms (pop-suffix k ms) j
+
+pub merge-justified : (ms : List Merge) (level x y : ℕ) (j : EqJust) → Justified ms → ((p : ℕ × ℕ) → In p (pairs-of j) → T (are-equal ms (p .0) (p .1))) → Justified (merge ms level x y j)
+unfolding merge
+merge-justified ms level x y j J f = go (are-equal ms x y) refl
+  where
+    go : (b : Bool) → are-equal ms x y ≡ b → Justified (cond b ms (record { a = x; b = y; just = j; level = level } ∷ ms))
+    go true e = J
+    go false e = (e, f, J)
+
+pairs-newest : (m : Merge) (r : List Merge) → Justified (m ∷ r) → (n : Merge) → n ≡ m → (p : ℕ × ℕ) → In p (pairs-of (n .just)) → Same r (p .0) (p .1)
+pairs-newest m r j n e p i = equal-same r (p .0) (p .1) (j .1 p (subst (λ (k : Merge). In p (pairs-of (k .just))) e i))
+
+-- the pairs of every label were equal before the newest merge
+pairs-before : (m : Merge) (r : List Merge) → Justified (m ∷ r) → (n : Merge) → In n (m ∷ r) → (p : ℕ × ℕ) → In p (pairs-of (n .just)) → Same r (p .0) (p .1)
+pairs-before m [] j n (inl e) p i = pairs-newest m [] j n e p i
+pairs-before m [] j n (inr q) p i = absurd q
+pairs-before m (k ∷ r) j n (inl e) p i = pairs-newest m (k ∷ r) j n e p i
+pairs-before m (k ∷ r) j n (inr q) p i = same-kept k r (p .0) (p .1) (pairs-before k r (j .2) n q p i)
+
+-- ---- what every step of an explanation keeps
+
+module _ {A : Type 0} (P : Explained → Type 0) (f : Explained → A → Explained) where
+  fold-keeps : (xs : List A) (e : Explained) → ((x : A) → In x xs → (e′ : Explained) → P e′ → P (f e′ x)) → P e → P (foldl f e xs)
+  fold-keeps [] e h p = p
+  fold-keeps (x ∷ xs) e h p = fold-keeps xs (f e x) (λ y i. h y (inr i)) (h x (inl refl) e p)
+
+edge-keeps : (P : Explained → Type 0) (R : ℕ → ℕ → Explained → Explained) (j : EqJust) → ((l : EqLeaf) → Labels j l → (e : Explained) → P e → P (cite l e)) → ((p : ℕ × ℕ) → In p (pairs-of j) → (e : Explained) → P e → P (R (p .0) (p .1) e)) → (e : Explained) → P e → P (expand-edge R j e)
+unfolding expand-edge pairs-of
+edge-keeps P R (Asserted l) c h e p = c (AssertedLeaf l) refl e p
+edge-keeps P R (Interface i g) c h e p = c (InterfaceLeaf i g) refl e p
+edge-keeps P R (Congruence ps) c h e p = fold-keeps P (λ e′ (q : ℕ × ℕ). R (q .0) (q .1) e′) ps e h p
+
+-- P is kept by citing the label of a merge, and by visiting a new pair that has Q, as the pairs of labels have
+pub record Keeps (ms : List Merge) (P : Explained → Type 0) (Q : ℕ × ℕ → Type 0) : Type 0 where
+  pub cites : (m : Merge) → In m ms → (l : EqLeaf) → Labels (m .just) l → (e : Explained) → P e → P (cite l e)
+  pub pairs : (m : Merge) → In m ms → (p : ℕ × ℕ) → In p (pairs-of (m .just)) → Q p
+  pub visits : (x y : ℕ) (e : Explained) → Q (x, y) → (eqb x y || any (same-pair x y) (e .visited)) ≡ false → P e → P (visit x y e)
+
+pub rec-keeps : (ms : List Merge) (P : Explained → Type 0) (Q : ℕ × ℕ → Type 0) → Keeps ms P Q → (k x y : ℕ) (e : Explained) → Q (x, y) → P e → P (explain-rec k ms x y e)
+unfolding explain-rec
+rec-keeps ms P Q K zero x y e q p = p
+rec-keeps ms P Q K (suc k) x y e q p = go (eqb x y || any (same-pair x y) (e .visited)) refl (rec-keeps ms P Q K k)
+  where
+    expand : Explained → Step → Explained
+    expand e′ s = expand-edge (explain-rec k ms) (s .just) e′
+
+    go : (b : Bool) → (eqb x y || any (same-pair x y) (e .visited)) ≡ b → ((x y : ℕ) (e : Explained) → Q (x, y) → P e → P (explain-rec k ms x y e)) → P (cond b e (foldl expand (visit x y e) (path ms x y)))
+    go true t h = p
+    go false t h =
+        fold-keeps P expand (path ms x y) (visit x y e)
+        (λ s i e′ p′. let (m, o, a) = path-over ms x y s i in
+        edge-keeps P (explain-rec k ms) (s .just)
+        (λ l c e″ p″. K .cites m o l (subst (λ (j : EqJust). Labels j l) (a .0) c) e″ p″)
+        (λ r o′ e″ p″. h (r .0) (r .1) e″ (K .pairs m o r (subst (λ (j : EqJust). In r (pairs-of j)) (a .0) o′)) p″)
+        e′ p′)
+        (K .visits x y e q t p)
+
+-- ---- what is cited
+
+-- From any starting leaves, each further one labels a merge.
+pub rec-cites : (k : ℕ) (ms : List Merge) (x y : ℕ) (e : Explained) (l : EqLeaf) → In l (explain-rec k ms x y e .leaves) → In l (e .leaves) ⊎ Cites ms l
+unfolding cite visit
+rec-cites k ms x y e = rec-keeps ms Cited (λ p. Unit {0}) keeps k x y e tt (λ l i. inl i)
+  where
+    Cited : Explained → Type 0
+    Cited e′ = (l : EqLeaf) → In l (e′ .leaves) → In l (e .leaves) ⊎ Cites ms l
+
+    one : (m : Merge) → In m ms → (c : EqLeaf) → Labels (m .just) c → (e′ : Explained) → Cited e′ → (l : EqLeaf) → In l (e′ .leaves) ⊎ In l (c ∷ []) → In l (e .leaves) ⊎ Cites ms l
+    one m i c h e′ f l (inl j) = f l j
+    one m i c h e′ f l (inr (inl q)) = inr (m, i, subst (Labels (m .just)) (sym q) h)
+    one m i c h e′ f l (inr (inr j)) = absurd j
+
+    keeps : Keeps ms Cited (λ p. Unit {0})
+    keeps = record {
+      cites = λ m i c h e′ f l j. one m i c h e′ f l (in-either l (e′ .leaves) (c ∷ []) j);
+      pairs = λ m i p j. tt;
+      visits = λ x′ y′ e′ q t f. f;
+    }
+
+pub explain-cites : (ms : List Merge) (x y : ℕ) (l : EqLeaf) → In l (explain ms x y) → Cites ms l
+unfolding explain
+explain-cites ms x y l i = go (rec-cites (suc (length ms)) ms x y (record { visited = []; leaves = [] }) l i)
+  where
+    go : In l [] ⊎ Cites ms l → Cites ms l
+    go (inl j) = absurd j
+    go (inr c) = c
+
+-- ---- what is forced
+
+-- a visited pair in either order
+same-pair-is : (x y : ℕ) (p : ℕ × ℕ) → T (same-pair x y p) → ((x ≡ p .0) × (y ≡ p .1)) ⊎ ((x ≡ p .1) × (y ≡ p .0))
+unfolding same-pair
+same-pair-is x y p t = go (T-or (eqb x (p .0) && eqb y (p .1)) (eqb x (p .1) && eqb y (p .0)) t)
+  where
+    go : T (eqb x (p .0) && eqb y (p .1)) ⊎ T (eqb x (p .1) && eqb y (p .0)) → ((x ≡ p .0) × (y ≡ p .1)) ⊎ ((x ≡ p .1) × (y ≡ p .0))
+    go (inl s) = let (u, v) = T-and (eqb x (p .0)) (eqb y (p .1)) s in inl (eqb→eq x (p .0) u, eqb→eq y (p .1) v)
+    go (inr s) = let (u, v) = T-and (eqb x (p .1)) (eqb y (p .0)) s in inr (eqb→eq x (p .1) u, eqb→eq y (p .0) v)
+
+module _ {Val : Type 0} (val : ℕ → Val) (True : EqLeaf → Type 0) where
+  -- what a label says of the values of its sides
+  abbrev pub SoundLabel : EqJust → ℕ → ℕ → Type 0
+  SoundLabel (Asserted l) x y = True (AssertedLeaf l) → val x ≡ val y
+  SoundLabel (Congruence ps) x y = ((p : ℕ × ℕ) → In p ps → val (p .0) ≡ val (p .1)) → val x ≡ val y
+  SoundLabel (Interface h g) x y = True (InterfaceLeaf h g) → val x ≡ val y
+
+  abbrev pub Sound : List Merge → Type 0
+  Sound ms = (m : Merge) → In m ms → SoundLabel (m .just) (m .a) (m .b)
+
+  -- the leaves so far force an equality
+  abbrev Forced : Explained → ℕ → ℕ → Type 0
+  Forced e x y = ((l : EqLeaf) → In l (e .leaves) → True l) → val x ≡ val y
+
+  -- nothing is lost from e to e′, and each pair visited in between is forced
+  record Grown (e e′ : Explained) : Type 0 where
+    keeps : (l : EqLeaf) → In l (e .leaves) → In l (e′ .leaves)
+    news : (p : ℕ × ℕ) → In p (e′ .visited) → In p (e .visited) ⊎ Forced e′ (p .0) (p .1)
+
+  forced-on : (e e′ : Explained) (x y : ℕ) → Grown e e′ → Forced e x y → Forced e′ x y
+  forced-on e e′ x y g f t = f (λ l i. t l (g .keeps l i))
+
+  grown-none : (e : Explained) → Grown e e
+  grown-none e = record { keeps = λ l i. i; news = λ p i. inl i }
+
+  grown-then : (e f g : Explained) → Grown e f → Grown f g → Grown e g
+  grown-then e f g h k = record { keeps = λ l i. k .keeps l (h .keeps l i); news = λ p i. go p (k .news p i) }
+    where
+      mid : (p : ℕ × ℕ) → In p (e .visited) ⊎ Forced f (p .0) (p .1) → In p (e .visited) ⊎ Forced g (p .0) (p .1)
+      mid p (inl i) = inl i
+      mid p (inr u) = inr (forced-on f g (p .0) (p .1) k u)
+
+      go : (p : ℕ × ℕ) → In p (f .visited) ⊎ Forced g (p .0) (p .1) → In p (e .visited) ⊎ Forced g (p .0) (p .1)
+      go p (inl i) = mid p (h .news p i)
+      go p (inr u) = inr u
+
+  -- every visited pair that was equal in r is forced
+  abbrev Done : List Merge → Explained → Type 0
+  Done r e = (p : ℕ × ℕ) → In p (e .visited) → Same r (p .0) (p .1) → Forced e (p .0) (p .1)
+
+  done-on : (r : List Merge) (e e′ : Explained) → Grown e e′ → Done r e → Done r e′
+  done-on r e e′ g d p i s = go (g .news p i)
+    where
+      go : In p (e .visited) ⊎ Forced e′ (p .0) (p .1) → Forced e′ (p .0) (p .1)
+      go (inl j) = forced-on e e′ (p .0) (p .1) g (d p j s)
+      go (inr f) = f
+
+  -- e′ explains x and y
+  abbrev Explains : Explained → Explained → ℕ → ℕ → Type 0
+  Explains e e′ x y = Grown e e′ × Forced e′ x y
+
+  module _ {A : Type 0} (r : List Merge) (f : Explained → A → Explained) (l : A → ℕ) (h : A → ℕ) where
+    fold-explains : (xs : List A) (e : Explained) → ((x : A) → In x xs → (e′ : Explained) → Done r e′ → Explains e′ (f e′ x) (l x) (h x)) → Done r e → Grown e (foldl f e xs) × ((x : A) → In x xs → Forced (foldl f e xs) (l x) (h x))
+    fold-explains [] e g d = (grown-none e, λ x i. absurd i)
+    fold-explains (x ∷ xs) e g d =
+        let (a, b) = g x (inl refl) e d in
+        let (c, k) = fold-explains xs (f e x) (λ y i. g y (inr i)) (done-on r e (f e x) a d) in
+        (grown-then e (f e x) (foldl f (f e x) xs) a c, λ y i. go c b k y i)
+      where
+        go : Grown (f e x) (foldl f (f e x) xs) → Forced (f e x) (l x) (h x) → ((y : A) → In y xs → Forced (foldl f (f e x) xs) (l y) (h y)) → (y : A) → In y (x ∷ xs) → Forced (foldl f (f e x) xs) (l y) (h y)
+        go c b k y (inl q) = subst (λ (z : A). Forced (foldl f (f e x) xs) (l z) (h z)) (sym q) (forced-on (f e x) (foldl f (f e x) xs) (l x) (h x) c b)
+        go c b k y (inr i) = k y i
+
+  cite-explains : (k : EqLeaf) (e : Explained) (x y : ℕ) → (True k → val x ≡ val y) → Explains e (cite k e) x y
+  unfolding cite
+  cite-explains k e x y s =
+      (record { keeps = λ l i. in-left l (e .leaves) (k ∷ []) i; news = λ p i. inl i }, λ t. s (t k (in-right k (e .leaves) (k ∷ []) (inl refl))))
+
+  edge-explains : (r : List Merge) (R : ℕ → ℕ → Explained → Explained) → ((x y : ℕ) (e : Explained) → Same r x y → Done r e → Explains e (R x y e) x y) → (j : EqJust) (x y : ℕ) → SoundLabel j x y → ((p : ℕ × ℕ) → In p (pairs-of j) → Same r (p .0) (p .1)) → (e : Explained) → Done r e → Explains e (expand-edge R j e) x y
+  unfolding expand-edge pairs-of
+  edge-explains r R h (Asserted l) x y s q e d = cite-explains (AssertedLeaf l) e x y s
+  edge-explains r R h (Interface t g) x y s q e d = cite-explains (InterfaceLeaf t g) e x y s
+  edge-explains r R h (Congruence ps) x y s q e d =
+      let (a, b) = fold-explains r (λ e′ (p : ℕ × ℕ). R (p .0) (p .1) e′) (λ p. p .0) (λ p. p .1) ps e (λ p i e′ k. h (p .0) (p .1) e′ (q p i) k) d in
+      (a, λ t. s (λ p i. b p i t))
+
+  leads-value : (w : List Step) (x z : ℕ) → Leads x w z → ((s : Step) → In s w → val (s .node) ≡ val (s .up)) → val x ≡ val z
+  leads-value [] x z e f = ap val e
+  leads-value (s ∷ w) x z (a, l) f = ap val (sym a) ∙ f s (inl refl) ∙ leads-value w (s .up) z l (λ t i. f t (inr i))
+
+  -- a path whose every step is forced forces its ends
+  path-value : (ms : List Merge) (x y : ℕ) → PathOf ms x y → ((s : Step) → In s (path ms x y) → val (s .node) ≡ val (s .up)) → val x ≡ val y
+  path-value ms x y k f =
+      let g : (s : Step) → In s (k .rise ++ k .fall) → val (s .node) ≡ val (s .up) = λ s i. f s (subst (λ (w : List Step). In s w) (sym (k .parts)) i) in
+      leads-value (k .rise) x (k .peak) (k .from-x) (λ s i. g s (in-left s (k .rise) (k .fall) i))
+      ∙ sym (leads-value (k .fall) y (k .peak) (k .from-y) (λ s i. g s (in-right s (k .rise) (k .fall) i)))
+
+  sound-move : (j : EqJust) (a b x y : ℕ) → SoundLabel j a b → (val a ≡ val b → val x ≡ val y) → SoundLabel j x y
+  sound-move (Asserted l) a b x y h f = λ t. f (h t)
+  sound-move (Congruence ps) a b x y h f = λ t. f (h t)
+  sound-move (Interface i g) a b x y h f = λ t. f (h t)
+
+  along-sound : (m : Merge) (s : Step) → Along m s → SoundLabel (m .just) (m .a) (m .b) → SoundLabel (s .just) (s .node) (s .up)
+  along-sound m s (j, inl (p, q)) h =
+      subst (λ (i : EqJust). SoundLabel i (s .node) (s .up)) (sym j) (sound-move (m .just) (m .a) (m .b) (s .node) (s .up) h (λ e. ap val p ∙ e ∙ sym (ap val q)))
+  along-sound m s (j, inr (p, q)) h =
+      subst (λ (i : EqJust). SoundLabel i (s .node) (s .up)) (sym j) (sound-move (m .just) (m .a) (m .b) (s .node) (s .up) h (λ e. ap val p ∙ sym e ∙ sym (ap val q)))
+
+  -- a skipped pair is of one term or was finished
+  skipped : (r : List Merge) (x y : ℕ) (e : Explained) → Same r x y → Done r e → T (eqb x y || any (same-pair x y) (e .visited)) → Forced e x y
+  skipped r x y e s d t = go (T-or (eqb x y) (any (same-pair x y) (e .visited)) t)
+    where
+      either : (p : ℕ × ℕ) → In p (e .visited) → ((x ≡ p .0) × (y ≡ p .1)) ⊎ ((x ≡ p .1) × (y ≡ p .0)) → Forced e x y
+      either p i (inl (u, v)) h = ap val u ∙ d p i (ap (find r) (sym u) ∙ s ∙ ap (find r) v) h ∙ sym (ap val v)
+      either p i (inr (u, v)) h = ap val u ∙ sym (d p i (ap (find r) (sym v) ∙ sym s ∙ ap (find r) u) h) ∙ sym (ap val v)
+
+      go : T (eqb x y) ⊎ T (any (same-pair x y) (e .visited)) → Forced e x y
+      go (inl u) h = ap val (eqb→eq x y u)
+      go (inr u) h = let (p, i, q) = any-in (same-pair x y) (e .visited) u in either p i (same-pair-is x y p q) h
+
+  module _ (ms : List Merge) (J : Justified ms) (S : Sound ms) where
+    expand : ℕ → Explained → Step → Explained
+    expand k e s = expand-edge (explain-rec k ms) (s .just) e
+
+    -- the path of terms that only the newest merge of m ∷ r made equal, expanded
+    expanded : (m : Merge) (r : List Merge) (k x y : ℕ) (e : Explained) → Suffix (m ∷ r) ms → ((x y : ℕ) (e : Explained) → Same r x y → Done r e → Explains e (explain-rec k ms x y e) x y) → Same (m ∷ r) x y → (Same r x y → ⊥) → Done (m ∷ r) e → Explains e (foldl (expand k) (visit x y e) (path ms x y)) x y
+    unfolding visit expand
+    expanded m r k x y e u f s h d =
+        let (a, b) = fold-explains r (expand k) (λ t. t .node) (λ t. t .up) (path ms x y) (visit x y e) one start in
+        let c : Forced (foldl (expand k) (visit x y e) (path ms x y)) x y = λ t. path-value ms x y (path-of ms (justified-joins ms J) x y (same-suffix (m ∷ r) ms x y u s)) (λ q i. b q i t) in
+        (record { keeps = a .keeps; news = λ p i. late p c (a .news p i) }, c)
+      where
+        start : Done r (visit x y e)
+        start p (inl q) w = absurd (h (ap (λ (z : ℕ × ℕ). find r (z .0)) (sym q) ∙ w ∙ ap (λ (z : ℕ × ℕ). find r (z .1)) q))
+        start p (inr i) w = d p i (same-kept m r (p .0) (p .1) w)
+
+        one : (q : Step) → In q (path ms x y) → (e′ : Explained) → Done r e′ → Explains e′ (expand k e′ q) (q .node) (q .up)
+        one q i e′ g =
+            let (n, o, a) = path-age ms (m ∷ r) x y (justified-joins ms J) u s q i in
+            edge-explains r (explain-rec k ms) f (q .just) (q .node) (q .up) (along-sound n q a (S n (in-suffix (m ∷ r) ms n u o)))
+            (λ p z. pairs-before m r (justified-suffix (m ∷ r) ms u J) n o p (subst (λ (j : EqJust). In p (pairs-of j)) (a .0) z)) e′ g
+
+        late : (p : ℕ × ℕ) → Forced (foldl (expand k) (visit x y e) (path ms x y)) x y → In p ((x, y) ∷ e .visited) ⊎ Forced (foldl (expand k) (visit x y e) (path ms x y)) (p .0) (p .1) → In p (e .visited) ⊎ Forced (foldl (expand k) (visit x y e) (path ms x y)) (p .0) (p .1)
+        late p c (inl (inl q)) = inr (λ t. ap (λ (z : ℕ × ℕ). val (z .0)) q ∙ c t ∙ sym (ap (λ (z : ℕ × ℕ). val (z .1)) q))
+        late p c (inl (inr i)) = inl i
+        late p c (inr g) = inr g
+
+    -- one call with enough depth: skipped, or its path is expanded
+    one-call : (r : List Merge) (k x y : ℕ) (e : Explained) → Same r x y → Done r e → Explains e (foldl (expand k) (visit x y e) (path ms x y)) x y → Explains e (explain-rec (suc k) ms x y e) x y
+    unfolding explain-rec expand
+    one-call r k x y e s d f = go (eqb x y || any (same-pair x y) (e .visited)) refl
+      where
+        go : (b : Bool) → (eqb x y || any (same-pair x y) (e .visited)) ≡ b → Explains e (cond b e (foldl (expand k) (visit x y e) (path ms x y))) x y
+        go true q = (grown-none e, skipped r x y e s d (subst T (sym q) tt))
+        go false q = f
+
+    -- one term needs no leaf
+    alone : (k x y : ℕ) (e : Explained) → x ≡ y → Explains e (explain-rec (suc k) ms x y e) x y
+    unfolding explain-rec expand
+    alone k x y e q = go (eqb x y || any (same-pair x y) (e .visited)) (T-left (eqb x y) (any (same-pair x y) (e .visited)) (subst T (sym (eq-eqb x y q)) tt))
+      where
+        go : (b : Bool) → T b → Explains e (cond b e (foldl (expand k) (visit x y e) (path ms x y))) x y
+        go true t = (grown-none e, λ h. ap val q)
+        go false t = absurd t
+
+    abbrev Enough : List Merge → Type 0
+    Enough r = (k x y : ℕ) (e : Explained) → length r < k → Same r x y → Done r e → Explains e (explain-rec k ms x y e) x y
+
+    deeper : (m : Merge) (r : List Merge) → Suffix (m ∷ r) ms → Enough r → (k x y : ℕ) (e : Explained) → length r < k → Same (m ∷ r) x y → Done (m ∷ r) e → Dec (Same r x y) → Explains e (explain-rec (suc k) ms x y e) x y
+    deeper m r u f k x y e l s d (yes q) = f (suc k) x y e (omega arith) q (λ p i w. d p i (same-kept m r (p .0) (p .1) w))
+    deeper m r u f k x y e l s d (no h) =
+        one-call (m ∷ r) k x y e s d (expanded m r k x y e u (λ x′ y′ e′ s′ d′. f k x′ y′ e′ l s′ d′) s h d)
+
+    -- Ages fall, so the depth is enough, and no pair that is still being expanded is met again.
+    forces : (r : List Merge) → Suffix r ms → Enough r
+    forces [] u zero x y e l s d = absurd (omega arith)
+    forces [] u (suc k) x y e l s d = alone k x y e (same-alone x y s)
+    forces (m ∷ r) u zero x y e l s d = absurd (omega arith)
+    forces (m ∷ r) u (suc k) x y e l s d = deeper m r u (forces r (suffix-tail m r ms u)) k x y e (omega arith) s d (same? r x y)
+
+  -- Whoever takes the leaves for true, and each merge for sound, has equal values.
+  pub explain-forces : (ms : List Merge) (x y : ℕ) → Justified ms → Sound ms → T (are-equal ms x y) → ((l : EqLeaf) → In l (explain ms x y) → True l) → val x ≡ val y
+  unfolding explain
+  explain-forces ms x y J S t h =
+      forces ms J S ms (suffix-self ms) (suc (length ms)) x y (record { visited = []; leaves = [] }) (omega arith) (equal-same ms x y t) (λ p i w. absurd i) .1 h
+
+-- ---- an explanation is not empty
+
+-- a congruence has a pair of two different terms
+abbrev pub TwoTerms : EqJust → Type 0
+TwoTerms (Asserted l) = Unit {0}
+TwoTerms (Congruence ps) = (p : ℕ × ℕ) × In p ps × (p .0 ≡ p .1 → ⊥)
+TwoTerms (Interface h g) = Unit {0}
+
+two-terms-sound : (j : EqJust) (x y : ℕ) → TwoTerms j → SoundLabel (λ (n : ℕ). n) (λ l. ⊥) j x y
+two-terms-sound (Asserted l) x y a = λ t. absurd t
+two-terms-sound (Congruence ps) x y (p, i, h) = λ f. absurd (h (f p i))
+two-terms-sound (Interface g t) x y a = λ t. absurd t
+
+-- With no leaf, terms themselves would be values that satisfy every label.
+pub explain-nonempty : (ms : List Merge) (x y : ℕ) → Justified ms → ((m : Merge) → In m ms → TwoTerms (m .just)) → (x ≡ y → ⊥) → T (are-equal ms x y) → explain ms x y ≡ [] → ⊥
+explain-nonempty ms x y J A h t e =
+    h (explain-forces (λ (n : ℕ). n) (λ l. ⊥) ms x y J (λ m i. two-terms-sound (m .just) (m .a) (m .b) (A m i)) t (λ l i. subst (λ (ls : List EqLeaf). In l ls) e i))
+
+-- ---- first occurrences
+
+pub same-leaf-eq : (k l : EqLeaf) → T (same-leaf k l) → k ≡ l
+unfolding same-leaf
+same-leaf-eq (AssertedLeaf m) (AssertedLeaf n) t = ap AssertedLeaf (eqb→eq m n t)
+same-leaf-eq (AssertedLeaf m) (InterfaceLeaf h g) t = absurd t
+same-leaf-eq (InterfaceLeaf h g) (AssertedLeaf n) t = absurd t
+same-leaf-eq (InterfaceLeaf h g) (InterfaceLeaf i k) t =
+    let (a, b) = T-and (eqb h i) (eqb g k) t in
+    ap₂ InterfaceLeaf (eqb→eq h i a) (eqb→eq g k b)
+
+pub same-leaf-refl : (l : EqLeaf) → T (same-leaf l l)
+unfolding same-leaf
+same-leaf-refl (AssertedLeaf m) = eqb-refl m
+same-leaf-refl (InterfaceLeaf h g) = T-both (eqb h h) (eqb g g) (eqb-refl h) (eqb-refl g)
+
+seen-in : (l : EqLeaf) (seen : List EqLeaf) → T (any (same-leaf l) seen) → In l seen
+seen-in l seen t =
+    let (k, i, s) = any-in (same-leaf l) seen t in
+    subst (λ (z : EqLeaf). In z seen) (sym (same-leaf-eq l k s)) i
+
+in-seen : (l : EqLeaf) (seen : List EqLeaf) → In l seen → T (any (same-leaf l) seen)
+in-seen l seen i = in-any (same-leaf l) seen l i (same-leaf-refl l)
+
+-- what is kept stood there
+after-in : (seen ls : List EqLeaf) (l : EqLeaf) → In l (firsts-after seen ls) → In l ls
+unfolding firsts-after
+after-in seen [] l i = absurd i
+after-in seen (k ∷ ls) l i = go (any (same-leaf k) seen) (after-in seen ls l) (after-in (k ∷ seen) ls l) i
+  where
+    go : (b : Bool) → (In l (firsts-after seen ls) → In l ls) → (In l (firsts-after (k ∷ seen) ls) → In l ls) → In l (cond b (firsts-after seen ls) (k ∷ firsts-after (k ∷ seen) ls)) → In l (k ∷ ls)
+    go true f g j = inr (f j)
+    go false f g (inl e) = inl e
+    go false f g (inr j) = inr (g j)
+
+-- what stood there is kept, or was seen before
+in-after : (seen ls : List EqLeaf) (l : EqLeaf) → In l ls → In l (firsts-after seen ls) ⊎ In l seen
+unfolding firsts-after
+in-after seen [] l i = absurd i
+in-after seen (k ∷ ls) l i = go (any (same-leaf k) seen) refl i (in-after seen ls l) (in-after (k ∷ seen) ls l)
+  where
+    later : In l (firsts-after (k ∷ seen) ls) ⊎ In l (k ∷ seen) → In l (k ∷ firsts-after (k ∷ seen) ls) ⊎ In l seen
+    later (inl j) = inl (inr j)
+    later (inr (inl e)) = inl (inl e)
+    later (inr (inr j)) = inr j
+
+    go : (b : Bool) → any (same-leaf k) seen ≡ b → In l (k ∷ ls) → (In l ls → In l (firsts-after seen ls) ⊎ In l seen) → (In l ls → In l (firsts-after (k ∷ seen) ls) ⊎ In l (k ∷ seen)) → In l (cond b (firsts-after seen ls) (k ∷ firsts-after (k ∷ seen) ls)) ⊎ In l seen
+    go true e (inl q) f g = inr (subst (λ (z : EqLeaf). In z seen) (sym q) (seen-in k seen (subst T (sym e) tt)))
+    go true e (inr j) f g = f j
+    go false e (inl q) f g = inl (inl q)
+    go false e (inr j) f g = later (g j)
+
+-- what is kept is new
+after-new : (seen ls : List EqLeaf) (l : EqLeaf) → In l (firsts-after seen ls) → In l seen → ⊥
+unfolding firsts-after
+after-new seen [] l i s = i
+after-new seen (k ∷ ls) l i s = go (any (same-leaf k) seen) refl i (after-new seen ls l) (after-new (k ∷ seen) ls l)
+  where
+    go : (b : Bool) → any (same-leaf k) seen ≡ b → In l (cond b (firsts-after seen ls) (k ∷ firsts-after (k ∷ seen) ls)) → (In l (firsts-after seen ls) → In l seen → ⊥) → (In l (firsts-after (k ∷ seen) ls) → In l (k ∷ seen) → ⊥) → ⊥
+    go true e j f g = f j s
+    go false e (inl q) f g = subst T e (in-seen k seen (subst (λ (z : EqLeaf). In z seen) q s))
+    go false e (inr j) f g = g j (inr s)
+
+after-apart : (seen ls : List EqLeaf) → Apart (firsts-after seen ls)
+unfolding firsts-after
+after-apart seen [] = tt
+after-apart seen (k ∷ ls) = go (any (same-leaf k) seen) (after-apart seen ls) (after-apart (k ∷ seen) ls)
+  where
+    go : (b : Bool) → Apart (firsts-after seen ls) → Apart (firsts-after (k ∷ seen) ls) → Apart (cond b (firsts-after seen ls) (k ∷ firsts-after (k ∷ seen) ls))
+    go true f g = f
+    go false f g = (λ i. after-new (k ∷ seen) ls k i (inl refl), g)
+
+pub firsts-in : (ls : List EqLeaf) (l : EqLeaf) → In l (firsts ls) ↔ In l ls
+unfolding firsts
+firsts-in ls l = (after-in [] ls l, λ i. go (in-after [] ls l i))
+  where
+    go : In l (firsts-after [] ls) ⊎ In l [] → In l (firsts-after [] ls)
+    go (inl j) = j
+    go (inr j) = absurd j
+
+pub firsts-empty : (ls : List EqLeaf) → firsts ls ≡ [] → ls ≡ []
+firsts-empty [] e = refl
+firsts-empty (l ∷ ls) e = absurd (subst (λ (ks : List EqLeaf). In l ks) e (firsts-in (l ∷ ls) l .1 (inl refl)))
+
+pub firsts-apart : (ls : List EqLeaf) → Apart (firsts ls)
+unfolding firsts
+firsts-apart ls = after-apart [] ls
+
+-- ---- how many leaves
+
+label-leaf : EqJust → EqLeaf
+label-leaf (Asserted l) = AssertedLeaf l
+label-leaf (Congruence ps) = AssertedLeaf 0
+label-leaf (Interface h g) = InterfaceLeaf h g
+
+labels-leaf : (j : EqJust) (l : EqLeaf) → Labels j l → l ≡ label-leaf j
+unfolding label-leaf
+labels-leaf (Asserted n) l e = e
+labels-leaf (Congruence ps) l e = absurd e
+labels-leaf (Interface h g) l e = e
+
+cites-in : (ms : List Merge) (l : EqLeaf) → Cites ms l → In l (map (λ (m : Merge). label-leaf (m .just)) ms)
+cites-in [] l (m, i, c) = absurd i
+cites-in (n ∷ ms) l (m, inl e, c) = inl (labels-leaf (m .just) l c ∙ ap (λ (k : Merge). label-leaf (k .just)) e)
+cites-in (n ∷ ms) l (m, inr i, c) = inr (cites-in ms l (m, i, c))
+
+map-length : (ms : List Merge) → length (map (λ (m : Merge). label-leaf (m .just)) ms) ≡ length ms
+map-length [] = refl
+map-length (m ∷ ms) = ap suc (map-length ms)
+
+-- no more first occurrences than a list that has them all
+pub firsts-within : (ls ks : List EqLeaf) → ((l : EqLeaf) → In l ls → In l ks) → length (firsts ls) ≤ length ks
+firsts-within ls ks f = apart-length (firsts ls) ks (firsts-apart ls) (λ l i. f l (firsts-in ls l .0 i))
+
+-- Leaves that label merges are, without repetition, no more than the merges.
+pub cited-length : (ms : List Merge) (ls : List EqLeaf) → ((l : EqLeaf) → In l ls → Cites ms l) → length (firsts ls) ≤ length ms
+cited-length ms ls f =
+    rw map-length at (firsts-within ls (map (λ (m : Merge). label-leaf (m .just)) ms) (λ l i. cites-in ms l (f l i)))
+
+pub explain-length : (ms : List Merge) (x y : ℕ) → length (firsts (explain ms x y)) ≤ length ms
+explain-length ms x y = cited-length ms (explain ms x y) (explain-cites ms x y)

@@ -1,0 +1,8 @@
+-- Laws of the theory layer. Members: lists; Classes: equality in the list of merges; Forest: ways and paths; Sizes: how large
+-- classes are and how many merges there can be; Explain: what an explanation cites and forces; Visits: the pairs it expands.
+pub mod Members
+pub mod Classes
+pub mod Forest
+pub mod Sizes
+pub mod Explain
+pub mod Visits
