@@ -3,8 +3,9 @@ use Prim.Native.Nat.{ℕ, zero, suc, _+_, _-_, _≤_, _<_}
 use mathlib.Core.Path.{_≡_, refl, sym, ap, _∙_, subst}
 use mathlib.Core.List.{List}
 use native.Mathlib.Omega.{arith}
+use lib.ListN.{length}
 use Rattle.core.specs.Term.{Role, Constructor, Tester, Selector, Function, Eq, Uninterpreted}
-use Rattle.core.specs.Table.{op-of, role-of, member-role, context, symbols#}
+use Rattle.core.specs.Table.{op-of, role-of, member-role, context}
 use Rattle.core.specs.Context.{symbol, sort-of, result-of}
 use Rattle.core.specs.declared.ids.SymbolId.{SymbolId}
 use Rattle.core.specs.Codes.{opIs, OpBelow, RoleBelow, OpAt}
@@ -66,9 +67,9 @@ role-below m n DtRole.the-variants.Function h b = tt
 
 -- ---- an operation that a match has found
 
-pub symbol-below : (t : List ℕ) (x : ℕ) (r : Op.Op) (f : SymbolId) → OpAt t x r → r ≡ Op.the-variants.Uninterpreted f → f .0 < symbols# t
+pub symbol-below : (t : List ℕ) (x : ℕ) (r : Op.Op) (f : SymbolId) → OpAt t x r → r ≡ Op.the-variants.Uninterpreted f → f .0 < length (context t .symbols)
 unfolding OpBelow
-symbol-below t x r f o e = subst (OpBelow (symbols# t)) e (o .declared)
+symbol-below t x r f o e = subst (OpBelow (length (context t .symbols))) e (o .declared)
 
 pub eq-sort : (t : List ℕ) (x : ℕ) (r : Op.Op) → OpAt t x r → r ≡ Op.the-variants.Eq → 0 ≡ sort-of (context t) x
 unfolding sort-of result-of opIs

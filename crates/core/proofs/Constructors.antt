@@ -60,10 +60,10 @@ seek-next t dt from s k e = record {
 }
 
 pub seek-found : (t : List ℕ) (dt from s n : ℕ) → n ≡ symbols# t → Seeking t dt from s → s < n → true ≡ builds (context t) dt s → NextConstructor t dt from s
-seek-found t dt from s n e k h b = record { after = k .after; within = omega arith; between = k .between; here = λ l. sym b }
+seek-found t dt from s n e k h b = let l = symbols-length t in record { after = k .after; within = omega arith; between = k .between; here = λ l. sym b }
 
 pub seek-none : (t : List ℕ) (dt from s n : ℕ) → n ≡ symbols# t → Seeking t dt from s → s ≤ n → n ≤ s → NextConstructor t dt from s
-seek-none t dt from s n e k h l = record { after = k .after; within = omega arith; between = k .between; here = λ g. absurd (omega arith) }
+seek-none t dt from s n e k h l = let m = symbols-length t in record { after = k .after; within = omega arith; between = k .between; here = λ g. absurd (omega arith) }
 
 -- ---- fields
 

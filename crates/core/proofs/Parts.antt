@@ -6,7 +6,7 @@ use native.Mathlib.Omega.{arith}
 use lib.ListN.{length}
 use Rattle.core.specs.Context.{Context}
 use Rattle.core.specs.Table.{word, sorts#, symbols#, terms#, owner-word, result-word, arity-word, params-at, op-word, offset, pool-at, context, Sound}
-use Rattle.core.proofs.Words.{Agree, offset-mono}
+use Rattle.core.proofs.Words.{Agree, offset-mono, sorts-length, symbols-length, terms-length}
 
 pub record SymbolsSound (t : List ℕ) : Type 0 where
   pub symbols-fit : symbols# t ≤ 512
@@ -26,6 +26,9 @@ pub record TermsSound (t : List ℕ) : Type 0 where
 pub from-parts : (t : List ℕ) → 16384 ≤ length t → 0 < sorts# t → sorts# t ≤ 64 → SymbolsSound t → TermsSound t → Sound t
 from-parts t l b s y m = record {
   long = l;
+  sort-count = sorts-length t;
+  symbol-count = symbols-length t;
+  term-count = terms-length t;
   bool = b;
   sorts-fit = s;
   symbols-fit = y .symbols-fit;

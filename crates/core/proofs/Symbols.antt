@@ -11,7 +11,7 @@ use Rattle.core.specs.Context.{Context, with-symbols, selectors-from, co
 use Rattle.core.specs.Table.{word, sorts#, symbols#, role-of, context, Sound, SymbolRoom, SymbolAdded, SelectorRoom, SymbolsAdded}
 use Rattle.core.specs.Codes.{AllBelow, Declares}
 use Rattle.core.specs.declared.context.Declared as Declared
-use Rattle.core.proofs.Words.{sorts-length, symbols-length}
+use Rattle.core.proofs.Words.{sorts-length, symbols-length, sorts-below}
 use Rattle.core.proofs.Codes.{role-of-ctor, role-of-tester, role-of-selector}
 use Rattle.core.proofs.Declare.{too-many-symbols, refused, accepted}
 
@@ -199,3 +199,16 @@ module _ (t : List ℕ) (n dt r : ℕ) (fields t₁ : List ℕ) (z : Sound t) (d
         declared = omega arith;
         sorts = λ j l. let q = f j l in omega arith;
       }
+
+-- ---- room for one symbol, by what the view has
+
+pub symbol-room : (t : List ℕ) (n owner result : ℕ) (params : List ℕ) → Sound t → n ≡ symbols# t → n < 512 → owner ≤ suc n → result < length (context t .sorts) → length params ≤ 16 → AllBelow (length (context t .sorts)) params → SymbolRoom t n owner result params
+symbol-room t n owner result params z e r o d f s = record {
+  sound = z;
+  next = e;
+  room = r;
+  owned = o;
+  declared = sorts-below t result d;
+  few = f;
+  sorts = λ j l. sorts-below t (word params j) (s j l);
+}

@@ -211,3 +211,14 @@ args-same t args at h =
 pub args-differ : (t args : List ℕ) (at k : ℕ) → k < length args → (word t (at + k) ≡ getD args k 0 → ⊥) → same-list args (words t at (length args)) ≡ false
 args-differ t args at k l n =
     same-list-false args (words t at (length args)) k l (λ e. n (sym (words-at t at (length args) k l) ∙ sym e))
+
+-- ---- a number that names something in the view names it in the table
+
+pub sorts-below : (t : List ℕ) (s : ℕ) → s < length (context t .sorts) → s < sorts# t
+sorts-below t s h = subst (λ (n : ℕ). s < n) (sorts-length t) h
+
+pub symbols-below : (t : List ℕ) (s : ℕ) → s < length (context t .symbols) → s < symbols# t
+symbols-below t s h = subst (λ (n : ℕ). s < n) (symbols-length t) h
+
+pub terms-below : (t : List ℕ) (x : ℕ) → x < length (context t .terms) → x < terms# t
+terms-below t x h = subst (λ (n : ℕ). x < n) (terms-length t) h

@@ -8,7 +8,7 @@ use Rattle.core.specs.Term as Term
 use Rattle.core.specs.Context as Context
 use Rattle.core.specs.Context.{Context, symbol, term, mk-app, terms-fit, declarations-fit}
 use Rattle.core.specs.Sort.{SortNode, Datatype, Uninterpreted}
-use Rattle.core.specs.Table.{context, symbols#, Sound}
+use Rattle.core.specs.Table.{context, Sound}
 use Rattle.core.specs.declared.term.Op as Op
 use Rattle.core.specs.declared.context.Made as Made
 use Rattle.core.specs.declared.context.Declared as Declared
@@ -38,12 +38,12 @@ RoleBelow n DtRole.the-variants.Function = Unit {0}
 -- the operation of term x: what it is, and that it is declared
 pub record OpAt (t : List ℕ) (x : ℕ) (r : Op.Op) : Type 0 where
   pub is : opIs r ≡ term (context t) x .op
-  pub declared : OpBelow (symbols# t) r
+  pub declared : OpBelow (length (context t .symbols)) r
 
 -- the role of symbol s: what it is, and that the constructor it belongs to is declared
 pub record RoleAt (t : List ℕ) (s : ℕ) (r : DtRole.DtRole) : Type 0 where
   pub is : roleIs r ≡ symbol (context t) s .role
-  pub declared : RoleBelow (symbols# t) r
+  pub declared : RoleBelow (length (context t .symbols)) r
 
 -- ---- making a term
 

@@ -109,6 +109,10 @@ context t = record {
 
 pub record Sound (t : List ℕ) : Type 0 where
   pub long : 16384 ≤ length t
+  -- the counts are those of what the table means
+  pub sort-count : length (context t .sorts) ≡ sorts# t
+  pub symbol-count : length (context t .symbols) ≡ symbols# t
+  pub term-count : length (context t .terms) ≡ terms# t
   -- Bool is there
   pub bool : 0 < sorts# t
   pub sorts-fit : sorts# t ≤ 64
@@ -189,6 +193,6 @@ pub record SymbolsAdded (t : List ℕ) (new : List Symbol) (u : List ℕ) : Type
 -- r is the lowest constructor of dt from symbol `from` on, or the number of symbols if there is none
 pub record NextConstructor (t : List ℕ) (dt from r : ℕ) : Type 0 where
   pub after : from ≤ r
-  pub within : r ≤ symbols# t
+  pub within : r ≤ length (context t .symbols)
   pub between : (s : ℕ) → from ≤ s → s < r → builds (context t) dt s ≡ false
-  pub here : r < symbols# t → builds (context t) dt r ≡ true
+  pub here : r < length (context t .symbols) → builds (context t) dt r ≡ true

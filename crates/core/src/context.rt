@@ -80,7 +80,7 @@ pub fn term_count(t: &[u32]) -> usize
 // ---- sorts and symbols
 
 pub fn is_datatype_sort(t: &[u32], s: SortId) -> bool
-    requires { ⌜ Sound (now t) × (s .0 < sorts# (now t)) ⌝ }
+    requires { ⌜ Sound (now t) × (s .0 < length (context (now t) .sorts)) ⌝ }
     ensures { λ r. ⌜ r ≡ is-datatype-sort (context (now (t .entry))) (s .0) ⌝ }
 {
     let i = s.0 as usize;
@@ -88,8 +88,8 @@ pub fn is_datatype_sort(t: &[u32], s: SortId) -> bool
 }
 
 pub fn result_sort(t: &[u32], f: SymbolId) -> SortId
-    requires { ⌜ Sound (now t) × (f .0 < symbols# (now t)) ⌝ }
-    ensures { λ r. ⌜ (r .0 ≡ symbol (context (now (t .entry))) (f .0) .result) × (r .0 < sorts# (now (t .entry))) ⌝ }
+    requires { ⌜ Sound (now t) × (f .0 < length (context (now t) .symbols)) ⌝ }
+    ensures { λ r. ⌜ (r .0 ≡ symbol (context (now (t .entry))) (f .0) .result) × (r .0 < length (context (now (t .entry)) .sorts)) ⌝ }
 {
     let i = f.0 as usize;
     SortId(get(t, 640 + i) as u32)
@@ -97,7 +97,7 @@ pub fn result_sort(t: &[u32], f: SymbolId) -> SortId
 
 // How many parameters a symbol has.
 pub fn arity(t: &[u32], f: SymbolId) -> usize
-    requires { ⌜ Sound (now t) × (f .0 < symbols# (now t)) ⌝ }
+    requires { ⌜ Sound (now t) × (f .0 < length (context (now t) .symbols)) ⌝ }
     ensures { λ r. ⌜ (r ≡ length (symbol (context (now (t .entry))) (f .0) .params)) × (r ≤ 16) ⌝ }
 {
     let i = f.0 as usize;
@@ -105,7 +105,7 @@ pub fn arity(t: &[u32], f: SymbolId) -> usize
 }
 
 pub fn fun_params(t: &[u32], f: SymbolId) -> &[u32]
-    requires { ⌜ Sound (now t) × (f .0 < symbols# (now t)) ⌝ }
+    requires { ⌜ Sound (now t) × (f .0 < length (context (now t) .symbols)) ⌝ }
     ensures { λ r. ⌜ now r ≡ symbol (context (now (t .entry))) (f .0) .params ⌝ }
 {
     let i = f.0 as usize;
@@ -115,7 +115,7 @@ pub fn fun_params(t: &[u32], f: SymbolId) -> &[u32]
 }
 
 pub fn dt_role(t: &[u32], f: SymbolId) -> DtRole
-    requires { ⌜ Sound (now t) × (f .0 < symbols# (now t)) ⌝ }
+    requires { ⌜ Sound (now t) × (f .0 < length (context (now t) .symbols)) ⌝ }
     ensures { λ r. ⌜ RoleAt (now (t .entry)) (f .0) r ⌝ }
 {
     let i = f.0 as usize;
@@ -125,7 +125,7 @@ pub fn dt_role(t: &[u32], f: SymbolId) -> DtRole
 // ---- terms
 
 pub fn op(t: &[u32], x: TermId) -> Op
-    requires { ⌜ Sound (now t) × (x .0 < terms# (now t)) ⌝ }
+    requires { ⌜ Sound (now t) × (x .0 < length (context (now t) .terms)) ⌝ }
     ensures { λ r. ⌜ OpAt (now (t .entry)) (x .0) r ⌝ }
 {
     let i = x.0 as usize;
@@ -134,7 +134,7 @@ pub fn op(t: &[u32], x: TermId) -> Op
 
 // The children of a term are the very stretch of the argument pool.
 pub fn children(t: &[u32], x: TermId) -> &[u32]
-    requires { ⌜ Sound (now t) × (x .0 < terms# (now t)) ⌝ }
+    requires { ⌜ Sound (now t) × (x .0 < length (context (now t) .terms)) ⌝ }
     ensures { λ r. ⌜ now r ≡ children (context (now (t .entry))) (x .0) ⌝ }
 {
     let i = x.0 as usize;
@@ -144,8 +144,8 @@ pub fn children(t: &[u32], x: TermId) -> &[u32]
 }
 
 pub fn sort_of(t: &[u32], x: TermId) -> SortId
-    requires { ⌜ Sound (now t) × (x .0 < terms# (now t)) ⌝ }
-    ensures { λ r. ⌜ (r .0 ≡ sort-of (context (now (t .entry))) (x .0)) × (r .0 < sorts# (now (t .entry))) ⌝ }
+    requires { ⌜ Sound (now t) × (x .0 < length (context (now t) .terms)) ⌝ }
+    ensures { λ r. ⌜ (r .0 ≡ sort-of (context (now (t .entry))) (x .0)) × (r .0 < length (context (now (t .entry)) .sorts)) ⌝ }
 {
     match op(t, x) {
         Op::Eq => SortId(0),
@@ -255,7 +255,7 @@ fn intern(t: &mut [u32], code: usize, args: &[u32]) -> Made
 }
 
 pub fn mk_app(t: &mut [u32], f: SymbolId, args: &[u32]) -> Made
-    requires { ⌜ Sound (now t) × (f .0 < symbols# (now t)) × AllBelow (terms# (now t)) (now args) ⌝ }
+    requires { ⌜ Sound (now t) × (f .0 < length (context (now t) .symbols)) × AllBelow (length (context (now t) .terms)) (now args) ⌝ }
     ensures { λ r. ⌜ MkApp (now (t .entry)) (Term.Uninterpreted (f .0)) (now (args .entry)) r (now (t .exit)) ⌝ }
 {
     let code = f.0 as usize + 1;
@@ -263,7 +263,7 @@ pub fn mk_app(t: &mut [u32], f: SymbolId, args: &[u32]) -> Made
 }
 
 pub fn mk_eq(t: &mut [u32], a: TermId, b: TermId) -> Made
-    requires { ⌜ Sound (now t) × (a .0 < terms# (now t)) × (b .0 < terms# (now t)) ⌝ }
+    requires { ⌜ Sound (now t) × (a .0 < length (context (now t) .terms)) × (b .0 < length (context (now t) .terms)) ⌝ }
     ensures { λ r. ⌜ MkApp (now (t .entry)) Term.Eq (a .0 ∷ b .0 ∷ []) r (now (t .exit)) ⌝ }
 {
     let sides = [a.0, b.0];
@@ -274,7 +274,7 @@ pub fn mk_eq(t: &mut [u32], a: TermId, b: TermId) -> Made
 
 // Back to the first n terms: what a refused full check has made is given back.
 pub fn truncate(t: &mut [u32], n: usize)
-    requires { ⌜ Sound (now t) × (n ≤ terms# (now t)) ⌝ }
+    requires { ⌜ Sound (now t) × (n ≤ length (context (now t) .terms)) ⌝ }
     ensures { λ _. ⌜ Sound (now (t .exit)) × (context (now (t .exit)) ≡ cut-terms n (context (now (t .entry)))) ⌝ }
 {
     put(t, 2, n);
@@ -322,7 +322,7 @@ fn add_symbol(t: &mut [u32], n: usize, owner: usize, result: usize, params: &[u3
 }
 
 pub fn declare_fun(t: &mut [u32], result: SortId, params: &[u32]) -> Declared
-    requires { ⌜ Sound (now t) × (result .0 < sorts# (now t)) × (length (now params) ≤ 16) × AllBelow (sorts# (now t)) (now params) ⌝ }
+    requires { ⌜ Sound (now t) × (result .0 < length (context (now t) .sorts)) × (length (now params) ≤ 16) × AllBelow (length (context (now t) .sorts)) (now params) ⌝ }
     ensures { λ r. ⌜ Declares (now (t .entry)) (declare-fun (context (now (t .entry))) (result .0) (now (params .entry))) r (now (t .exit)) ⌝ }
 {
     let n = get(t, 1);
@@ -355,7 +355,7 @@ fn wide(x: u32) -> usize
 
 // A constructor takes symbols for itself, its tester and each selector, in this order.
 pub fn dt_add_constructor(t: &mut [u32], dt: SortId, fields: &[u32]) -> Declared
-    requires { ⌜ Sound (now t) × (dt .0 < sorts# (now t)) × (length (now fields) ≤ 16) × AllBelow (sorts# (now t)) (now fields) ⌝ }
+    requires { ⌜ Sound (now t) × (dt .0 < length (context (now t) .sorts)) × (length (now fields) ≤ 16) × AllBelow (length (context (now t) .sorts)) (now fields) ⌝ }
     ensures { λ r. ⌜ Declares (now (t .entry)) (dt-add-constructor (context (now (t .entry))) (dt .0) (now (fields .entry))) r (now (t .exit)) ⌝ }
 {
     let n = get(t, 1);
@@ -385,7 +385,7 @@ fn builds(t: &[u32], dt: usize, s: usize) -> bool
 
 // The lowest constructor of dt from symbol `from` on, or the number of symbols if there is none.
 pub fn next_constructor(t: &[u32], dt: SortId, from: usize) -> usize
-    requires { ⌜ Sound (now t) × (from ≤ symbols# (now t)) ⌝ }
+    requires { ⌜ Sound (now t) × (from ≤ length (context (now t) .symbols)) ⌝ }
     ensures { λ r. ⌜ NextConstructor (now (t .entry)) (dt .0) from r ⌝ }
 {
     let n = get(t, 1);

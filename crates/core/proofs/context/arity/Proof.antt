@@ -1,3 +1,4 @@
+use Rattle.core.proofs.Words.{symbols-below}
 use Rattle.core.proofs.Words.{arity-is}
 use borrow.Author.Needs.{needs}
 use Rattle.core.proofs.context.arity.Statement.{statement}
@@ -20,7 +21,7 @@ get-requires c κs = search needs
 
 -- src/context.rt:59:1
 returns : tie.Need-returns
-returns c = (arity-is _ _ _ (c .before .before .before .pre .1) (c .get .ensures .0), rw (c .get .ensures .0) (c .before .before .before .pre .0 .arity _ (c .before .before .before .pre .1)))
+returns c = (arity-is _ _ _ (symbols-below _ _ (c .before .before .before .pre .1)) (c .get .ensures .0), rw (c .get .ensures .0) (c .before .before .before .pre .0 .arity _ (symbols-below _ _ (c .before .before .before .pre .1))))
 
 pub arity-spec : {M : Type 1} → statement M
 arity-spec = tie.close (tie.spec cast-i add-get get-requires returns)

@@ -1,3 +1,4 @@
+use Rattle.core.proofs.Words.{terms-below}
 use native.Mathlib.Omega.{arith}
 use Rattle.core.proofs.Words.{stretch}
 use borrow.Author.Needs.{needs}
@@ -41,19 +42,19 @@ mul-result c = search needs
 
 -- src/context.rt:103:5
 sub-result : tie.Need-sub-result
-sub-result c = let z = c .before .before .before .before .pre in let s = stretch _ _ _ _ (z .0) (z .1) (c .before .get .ensures .0) (c .get2 .ensures .0) in omega arith
+sub-result c = let z = c .before .before .before .before .pre in let s = stretch _ _ _ _ (z .0) (terms-below _ _ (z .1)) (c .before .get .ensures .0) (c .get2 .ensures .0) in omega arith
 
 -- src/context.rt:103:5
 part-result-start : tie.Need-part-result-start
-part-result-start c = let z = c .before .before .before .before .pre in let s = stretch _ _ _ _ (z .0) (z .1) (c .before .get .ensures .0) (c .get2 .ensures .0) in omega arith
+part-result-start c = let z = c .before .before .before .before .pre in let s = stretch _ _ _ _ (z .0) (terms-below _ _ (z .1)) (c .before .get .ensures .0) (c .get2 .ensures .0) in omega arith
 
 -- src/context.rt:103:5
 part-result-end : tie.Need-part-result-end
-part-result-end c = let z = c .before .before .before .before .pre in let s = stretch _ _ _ _ (z .0) (z .1) (c .before .get .ensures .0) (c .get2 .ensures .0) in let l = z .0 .long in omega arith
+part-result-end c = let z = c .before .before .before .before .pre in let s = stretch _ _ _ _ (z .0) (terms-below _ _ (z .1)) (c .before .get .ensures .0) (c .get2 .ensures .0) in let l = z .0 .long in omega arith
 
 -- src/context.rt:96:1
 returns : tie.Need-returns
-returns c = let z = c .before .before .before .before .before .pre in stretch _ _ _ _ (z .0) (z .1) (c .before .before .get .ensures .0) (c .before .get2 .ensures .0) .is-children
+returns c = let z = c .before .before .before .before .before .pre in stretch _ _ _ _ (z .0) (terms-below _ _ (z .1)) (c .before .before .get .ensures .0) (c .before .get2 .ensures .0) .is-children
 
 pub children-spec : {M : Type 1} → statement M
 children-spec =

@@ -1,4 +1,5 @@
-use Rattle.core.proofs.Symbols.{no-function, function-added}
+use native.Mathlib.Omega.{arith}
+use Rattle.core.proofs.Symbols.{symbol-room, no-function, function-added}
 use borrow.Author.Needs.{needs}
 use Rattle.core.proofs.context.declare_fun.Statement.{statement}
 use Rattle.core.proofs.context.declare_fun.Tie as tie
@@ -25,7 +26,12 @@ cast-sort c = search needs
 
 -- src/context.rt:333:5
 add-symbol-requires : tie.Need-add-symbol-requires
-add-symbol-requires c κs = search needs
+add-symbol-requires c κs =
+    let z = c .before .before .before .before .before .before .before .pre in
+    let e = c .before .before .before .get .ensures .0 in
+    let g = c .before .before .if1 .left in
+    let f = z .0 .symbols-fit in
+    symbol-room _ _ _ _ _ (z .0) e (omega arith) (omega arith) (z .1) (z .2) (z .3)
 
 -- src/context.rt:324:1
 same-length-2 : tie.Need-same-length-2

@@ -1,4 +1,6 @@
-use Rattle.core.proofs.Symbols.{no-constructor, tester-room, selectors-room, constructor-added}
+use native.Mathlib.Omega.{arith}
+use Rattle.core.proofs.Words.{sorts-below}
+use Rattle.core.proofs.Symbols.{symbol-room, no-constructor, tester-room, selectors-room, constructor-added}
 use borrow.Author.Needs.{needs}
 use Rattle.core.proofs.context.dt_add_constructor.Statement.{statement}
 use Rattle.core.proofs.context.dt_add_constructor.Tie as tie
@@ -39,7 +41,12 @@ wide-requires c κs = search needs
 
 -- src/context.rt:366:5
 add-symbol-requires : tie.Need-add-symbol-requires
-add-symbol-requires c κs = search needs
+add-symbol-requires c κs =
+    let z = c .before .before .before .before .before .before .before .pre in
+    let e = c .before .before .before .get .ensures .0 in
+    let w = c .wide .ensures in
+    let g = c .before .before .if1 .left in
+    symbol-room _ _ _ _ _ (z .0) e (omega arith) (omega arith) (omega arith) (z .2) (z .3)
 
 -- src/context.rt:368:19
 add-add-symbol-2 : tie.Need-add-add-symbol-2
@@ -57,13 +64,13 @@ slice-aggregate-add-symbol c = search needs
 add-symbol-requires-2 : tie.Need-add-symbol-requires-2
 add-symbol-requires-2 c κs =
     let z = c .before .before .before .before .before .before .before .before .before .before .before .before .pre in
-    tester-room _ _ _ _ _ _ (z .0) (z .1) (c .before .before .before .before .before .before .before .before .get .ensures .0) (c .before .before .before .before .before .before .before .if1 .left) (c .before .before .before .before .add-symbol .ensures)
+    tester-room _ _ _ _ _ _ (z .0) (sorts-below _ _ (z .1)) (c .before .before .before .before .before .before .before .before .get .ensures .0) (c .before .before .before .before .before .before .before .if1 .left) (c .before .before .before .before .add-symbol .ensures)
 
 -- src/context.rt:369:5
 add-selectors-requires : tie.Need-add-selectors-requires
 add-selectors-requires c κs =
     let z = c .before .before .before .before .before .before .before .before .before .before .before .before .before .before .before .before .pre in
-    selectors-room _ _ _ _ _ _ (z .0) (z .1) (c .before .before .before .before .before .before .before .before .before .before .before .before .get .ensures .0) (c .before .before .before .before .before .before .before .before .before .before .before .if1 .left) (c .before .before .before .before .before .before .before .before .add-symbol .ensures) _ (z .3) (c .before .before .before .add-symbol2 .ensures)
+    selectors-room _ _ _ _ _ _ (z .0) (sorts-below _ _ (z .1)) (c .before .before .before .before .before .before .before .before .before .before .before .before .get .ensures .0) (c .before .before .before .before .before .before .before .before .before .before .before .if1 .left) (c .before .before .before .before .before .before .before .before .add-symbol .ensures) _ (λ j l. sorts-below _ _ (z .3 j l)) (c .before .before .before .add-symbol2 .ensures)
 
 -- src/context.rt:357:1
 same-length-2 : tie.Need-same-length-2

@@ -1,9 +1,11 @@
+use Rattle.core.proofs.Words.{symbols-below}
 use Prim.Native.Nat.{_+_}
 use Rattle.core.proofs.Codes.{role-below}
 use mathlib.Core.Path.{sym, ap, _∙_}
 use native.Mathlib.Omega.{arith}
 use Rattle.core.proofs.Words.{role-is}
-use Rattle.core.specs.Table.{role-of, symbols#}
+use Rattle.core.specs.Table.{role-of, context}
+use lib.ListN.{length}
 use borrow.Author.Needs.{needs}
 use Rattle.core.proofs.context.dt_role.Statement.{statement}
 use Rattle.core.proofs.context.dt_role.Tie as tie
@@ -30,15 +32,15 @@ cast-role-from c = search needs
 
 -- src/context.rt:82:5
 role-from-requires : tie.Need-role-from-requires
-role-from-requires c κs = let h = c .before .before .before .pre .0 .owner _ (c .before .before .before .pre .1) in rw (c .get .ensures .0) (omega arith)
+role-from-requires c κs = let h = c .before .before .before .pre .0 .owner _ (symbols-below _ _ (c .before .before .before .pre .1)) in rw (c .get .ensures .0) (omega arith)
 
 -- src/context.rt:77:1
 returns : tie.Need-returns
 returns c =
     let z = c .before .before .before .before .pre in
     record {
-      is = c .role-from .ensures .0 ∙ ap (role-of _) (c .before .get .ensures .0) ∙ role-is _ _ (z .1);
-      declared = role-below (c .before .before .before .before .args .f .0 + 1) (symbols# (c .before .before .before .before .args .t .now)) _ (let h = z .1 in omega arith) (c .role-from .ensures .1);
+      is = c .role-from .ensures .0 ∙ ap (role-of _) (c .before .get .ensures .0) ∙ role-is _ _ (symbols-below _ _ (z .1));
+      declared = role-below (c .before .before .before .before .args .f .0 + 1) (length (context (c .before .before .before .before .args .t .now) .symbols)) _ (let h = z .1 in omega arith) (c .role-from .ensures .1);
     }
 
 pub dt-role-spec : {M : Type 1} → statement M

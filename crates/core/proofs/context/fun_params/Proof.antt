@@ -1,3 +1,4 @@
+use Rattle.core.proofs.Words.{symbols-below}
 use native.Mathlib.Omega.{arith}
 use Rattle.core.proofs.Words.{params-part}
 use borrow.Author.Needs.{needs}
@@ -45,11 +46,11 @@ part-result-start c = search needs
 
 -- src/context.rt:74:5
 part-result-end : tie.Need-part-result-end
-part-result-end c = let z = c .before .before .before .pre in let m = z .0 .arity _ (z .1) in let l = z .0 .long in let e = c .get .ensures .0 in omega arith
+part-result-end c = let z = c .before .before .before .pre in let m = z .0 .arity _ (symbols-below _ _ (z .1)) in let l = z .0 .long in let e = c .get .ensures .0 in omega arith
 
 -- src/context.rt:67:1
 returns : tie.Need-returns
-returns c = let z = c .before .before .before .before .pre in params-part _ _ _ (z .0) (z .1) (c .before .get .ensures .0)
+returns c = let z = c .before .before .before .before .pre in params-part _ _ _ (z .0) (symbols-below _ _ (z .1)) (c .before .get .ensures .0)
 
 pub fun-params-spec : {M : Type 1} → statement M
 fun-params-spec =

@@ -1,3 +1,4 @@
+use Rattle.core.proofs.Words.{sorts-below}
 use Rattle.core.proofs.Words.{datatype-word}
 use borrow.Author.Needs.{needs}
 use Rattle.core.proofs.context.is_datatype_sort.Statement.{statement}
@@ -20,7 +21,7 @@ get-requires c κs = search needs
 
 -- src/context.rt:42:1
 returns : tie.Need-returns
-returns c = datatype-word _ _ _ (c .before .before .before .pre .1) (c .get .ensures .0)
+returns c = datatype-word _ _ _ (sorts-below _ _ (c .before .before .before .pre .1)) (c .get .ensures .0)
 
 pub is-datatype-sort-spec : {M : Type 1} → statement M
 is-datatype-sort-spec = tie.close (tie.spec cast-i add-get get-requires returns)

@@ -1,3 +1,5 @@
+use Rattle.core.proofs.Words.{terms-below}
+use native.Mathlib.Omega.{arith}
 use Rattle.core.proofs.Intern.{symbol-code}
 use borrow.Author.Needs.{needs}
 use Rattle.core.proofs.context.mk_app.Statement.{statement}
@@ -16,7 +18,9 @@ add-code c = search needs
 
 -- src/context.rt:234:5
 intern-requires : tie.Need-intern-requires
-intern-requires c κs = search needs
+intern-requires c κs =
+    let z = c .before .before .before .before .pre in
+    (z .0, omega arith, λ j l. terms-below _ _ (z .2 j l))
 
 -- src/context.rt:229:1
 same-length : tie.Need-same-length

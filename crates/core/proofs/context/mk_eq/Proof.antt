@@ -1,3 +1,4 @@
+use Rattle.core.proofs.Words.{terms-below}
 use Rattle.core.proofs.Intern.{eq-code, two-below}
 use borrow.Author.Needs.{needs}
 use Rattle.core.proofs.context.mk_eq.Statement.{statement}
@@ -14,7 +15,7 @@ slice-aggregate-intern c = search needs
 intern-requires : tie.Need-intern-requires
 intern-requires c κs =
     let z = c .before .before .before .pre in
-    (z .0, search needs, two-below _ _ _ (z .1) (z .2))
+    (z .0, search needs, two-below _ _ _ (terms-below _ _ (z .1)) (terms-below _ _ (z .2)))
 
 -- src/context.rt:237:1
 same-length : tie.Need-same-length

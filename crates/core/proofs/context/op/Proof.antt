@@ -1,7 +1,10 @@
+use Rattle.core.proofs.Words.{terms-below}
 use Rattle.core.proofs.Codes.{op-below}
 use mathlib.Core.Path.{sym, ap, _∙_}
 use Rattle.core.proofs.Words.{op-is}
-use Rattle.core.specs.Table.{op-of, symbols#}
+use Rattle.core.specs.Table.{op-of, context}
+use lib.ListN.{length}
+use native.Mathlib.Omega.{arith}
 use borrow.Author.Needs.{needs}
 use Rattle.core.proofs.context.op.Statement.{statement}
 use Rattle.core.proofs.context.op.Tie as tie
@@ -36,8 +39,8 @@ returns c =
     let z = c .before .before .before .before .pre in
     let e = c .before .get .ensures .0 in
     record {
-      is = c .op-from .ensures .0 ∙ ap op-of e ∙ op-is _ _ (z .1);
-      declared = op-below (c .before .get .result) (symbols# (c .before .before .before .before .args .t .now)) _ (rw e (z .0 .op _ (z .1))) (c .op-from .ensures .1);
+      is = c .op-from .ensures .0 ∙ ap op-of e ∙ op-is _ _ (terms-below _ _ (z .1));
+      declared = op-below (c .before .get .result) (length (context (c .before .before .before .before .args .t .now) .symbols)) _ (let h = z .0 .op _ (terms-below _ _ (z .1)) in omega arith) (c .op-from .ensures .1);
     }
 
 pub op-spec : {M : Type 1} → statement M

@@ -1,3 +1,5 @@
+use native.Mathlib.Omega.{arith}
+use Rattle.core.proofs.Words.{symbols-below}
 use Rattle.core.proofs.Words.{result-is}
 use borrow.Author.Needs.{needs}
 use Rattle.core.proofs.context.result_sort.Statement.{statement}
@@ -27,7 +29,8 @@ returns : tie.Need-returns
 returns c =
     let z = c .before .before .before .pre in
     let e = c .get .ensures .0 in
-    (result-is _ _ _ (z .1) e, rw e (z .0 .result _ (z .1)))
+    let h = symbols-below _ _ (z .1) in
+    (result-is _ _ _ h e, let r = z .0 .result _ h in omega arith)
 
 pub result-sort-spec : {M : Type 1} → statement M
 result-sort-spec = tie.close (tie.spec cast-i add-get get-requires cast-t6 returns)

@@ -1,3 +1,4 @@
+use native.Mathlib.Omega.{arith}
 use Rattle.core.proofs.Codes.{symbol-below, eq-sort, symbol-sort}
 use borrow.Author.Needs.{needs}
 use Rattle.core.proofs.context.sort_of.Statement.{statement}
@@ -25,7 +26,7 @@ result-sort-requires c κs = (c .before .before .before .before .before .pre .0,
 
 -- src/context.rt:106:1
 returns : tie.Need-returns
-returns c = (eq-sort _ _ _ (c .before .before .op .ensures) (c .enum-told .given .1), c .before .before .before .before .pre .0 .bool)
+returns c = (eq-sort _ _ _ (c .before .before .op .ensures) (c .enum-told .given .1), let z = c .before .before .before .before .pre .0 in omega arith)
 
 -- src/context.rt:106:1
 returns-2 : tie.Need-returns-2

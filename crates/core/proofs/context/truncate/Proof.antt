@@ -1,3 +1,4 @@
+use native.Mathlib.Omega.{arith}
 use Rattle.core.proofs.Declare.{truncated}
 use borrow.Author.Needs.{needs}
 use Rattle.core.proofs.context.truncate.Statement.{statement}
@@ -16,7 +17,7 @@ same-length c = search needs
 
 -- src/context.rt:276:1
 returns : tie.Need-returns
-returns c = truncated _ _ _ (c .before .before .before .before .before .pre .0) (c .before .before .before .before .before .pre .1) (c .before .before .put .ensures)
+returns c = truncated _ _ _ (c .before .before .before .before .before .pre .0) (let z = c .before .before .before .before .before .pre in omega arith) (c .before .before .put .ensures)
 
 pub truncate-spec : {M : Type 1} → statement M
 truncate-spec = tie.close (tie.spec put-requires same-length returns)
