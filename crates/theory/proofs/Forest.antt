@@ -13,6 +13,7 @@ use lib.ListN.{length}
 use borrow.Author.Tests.{eq-eqb, ne-eqb}
 use Rattle.core.specs.Lists.{first, mem}
 use Rattle.core.proofs.Lists.{In, any-in}
+pub use Rattle.theory.specs.Table.{Joins, end}
 use Rattle.theory.specs.EqEngine.{Merge, Step, classes, find, are-equal, before, turned, nodes, common, rehung, way, path}
 use Rattle.theory.proofs.Members.{in-either, in-any, Apart}
 use Rattle.theory.proofs.Classes.{Same, same-alone, same?, BothSides, turned-sides, unequal, Across, same-split, same-kept, same-sides, Suffix, same-suffix}
@@ -352,11 +353,6 @@ module _ (W : ℕ → List Step) (F : Forest W) where
 
 -- ---- the ways of a list of merges
 
--- each merge joined two classes
-abbrev pub Joins : List Merge → Type 0
-Joins [] = Unit {0}
-Joins (m ∷ ms) = (are-equal ms (m .a) (m .b) ≡ false) × Joins ms
-
 -- the new edge
 abbrev pub new-step : Merge → Step
 new-step m = record { node = m .a; up = m .b; just = m .just }
@@ -371,11 +367,6 @@ way-out : (m : Merge) (ms : List Merge) (x : ℕ) → (Same ms x (m .a) → ⊥)
 unfolding way find
 way-out m ms x h =
     ap (λ (b : Bool). cond b (rehung x (way ms x) m (way ms (m .a)) (way ms (m .b))) (way ms x)) (ne-eqb (find ms x) (find ms (m .a)) h)
-
--- the root that a way ends in
-abbrev pub end : ℕ → List Step → ℕ
-end x [] = x
-end x (s ∷ w) = end (s .up) w
 
 end-on : (w : List Step) (x : ℕ) → On (end x w) x w
 end-on [] x = inl refl

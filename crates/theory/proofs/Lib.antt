@@ -6,3 +6,8 @@ pub mod Forest
 pub mod Sizes
 pub mod Explain
 pub mod Visits
+pub mod UnionFind
+pub mod Nodes
+pub mod Clearing
+pub mod Registering
+pub mod Registers

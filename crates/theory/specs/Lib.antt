@@ -3,3 +3,5 @@ pub mod Types
 pub mod EqEngine
 pub mod Atom
 pub mod Examples
+pub mod Table
+pub mod Registry

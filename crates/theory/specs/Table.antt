@@ -1,0 +1,154 @@
+-- The lent table of the equality engine: where each part stands, what a table means, and when it is sound. The log of merges is
+-- the one truth; every other part is a function of it.
+use Prim.Native.Nat.{ℕ, zero, suc, _+_, _-_, _*_, _/_, _%_, _≤_, _<_}
+use mathlib.Core.Path.{_≡_}
+use mathlib.Core.Bool.{Bool, false, cond}
+use mathlib.Core.List.{List, [], _∷_, map}
+use lib.Dec.{eqb, leb}
+use lib.ListN.{length}
+use Rattle.core.specs.Lists.{range}
+use Rattle.core.specs.Table.{word}
+use Rattle.theory.specs.Types.{EqJust, Asserted, Congruence, Interface}
+use Rattle.theory.specs.EqEngine.{Merge, classes, find, are-equal, Step, way}
+
+-- ---- the layout, within 16,384 words
+
+-- how many merges are in force, and the level
+abbrev pub merges# : List ℕ → ℕ
+merges# t = word t 0
+
+abbrev pub level-word : List ℕ → ℕ
+level-word t = word t 1
+
+-- for each of 1,024 nodes: its parent in the union-find, the size of its class, its parent in the forest, and the merge of that edge
+abbrev pub parent-word : List ℕ → ℕ → ℕ
+parent-word t x = word t (64 + x)
+
+abbrev pub size-word : List ℕ → ℕ → ℕ
+size-word t x = word t (1088 + x)
+
+abbrev pub fparent-word : List ℕ → ℕ → ℕ
+fparent-word t x = word t (2112 + x)
+
+abbrev pub fedge-word : List ℕ → ℕ → ℕ
+fedge-word t x = word t (3136 + x)
+
+-- for each merge: its sides; kind of label, theory and level; literal, tag or start of its pairs; the root that went under; the
+-- forest root of the first side's tree before it was turned; the pairs in force after it
+abbrev pub a-word : List ℕ → ℕ → ℕ
+a-word t i = word t (4160 + i)
+
+abbrev pub b-word : List ℕ → ℕ → ℕ
+b-word t i = word t (5184 + i)
+
+abbrev pub kind-word : List ℕ → ℕ → ℕ
+kind-word t i = word t (6208 + i)
+
+abbrev pub value-word : List ℕ → ℕ → ℕ
+value-word t i = word t (7232 + i)
+
+abbrev pub low-word : List ℕ → ℕ → ℕ
+low-word t i = word t (8256 + i)
+
+abbrev pub froot-word : List ℕ → ℕ → ℕ
+froot-word t i = word t (9280 + i)
+
+abbrev pub after-word : List ℕ → ℕ → ℕ
+after-word t i = word t (10304 + i)
+
+-- 2,048 argument pairs
+abbrev pub left-word : List ℕ → ℕ → ℕ
+left-word t j = word t (11328 + j)
+
+abbrev pub right-word : List ℕ → ℕ → ℕ
+right-word t j = word t (13376 + j)
+
+-- ---- the log
+
+-- the label of merge i: kind 0 a literal, 1 a congruence, 2 an interface leaf
+unfoldable pub just-of : List ℕ → ℕ → ℕ → EqJust
+just-of t i zero = Asserted (value-word t i)
+just-of t i (suc zero) = Congruence (map (λ j. (left-word t j, right-word t j)) (range (value-word t i) (after-word t i - value-word t i)))
+just-of t i (suc (suc k)) = Interface (kind-word t i % 65536) (value-word t i)
+
+unfoldable pub just-at : List ℕ → ℕ → EqJust
+just-at t i = just-of t i (kind-word t i / 65536 % 4)
+
+unfoldable pub merge-at : List ℕ → ℕ → Merge
+merge-at t i = record { a = a-word t i; b = b-word t i; just = just-at t i; level = kind-word t i / 262144 }
+
+-- where the pairs of a merge begin: a merge that is no congruence has none
+unfoldable pub start-of : List ℕ → ℕ → ℕ → ℕ
+start-of t i zero = after-word t i
+start-of t i (suc zero) = value-word t i
+start-of t i (suc (suc k)) = after-word t i
+
+unfoldable pub value-start : List ℕ → ℕ → ℕ
+value-start t i = start-of t i (kind-word t i / 65536 % 4)
+
+-- the merges below n, newest first
+unfoldable pub merges-below : List ℕ → ℕ → List Merge
+merges-below t zero = []
+merges-below t (suc i) = merge-at t i ∷ merges-below t i
+
+unfoldable pub merges : List ℕ → List Merge
+merges t = merges-below t (merges# t)
+
+-- ---- the union-find
+
+-- the root that a merge put under the other, and the other
+unfoldable pub low-root : List Merge → Merge → ℕ
+low-root ms m =
+    let c = classes ms in
+    cond (leb (c .size (c .find (m .b))) (c .size (c .find (m .a)))) (c .find (m .b)) (c .find (m .a))
+
+unfoldable pub high-root : List Merge → Merge → ℕ
+high-root ms m =
+    let c = classes ms in
+    cond (leb (c .size (c .find (m .b))) (c .size (c .find (m .a)))) (c .find (m .a)) (c .find (m .b))
+
+-- the parent of a node: a root is its own
+unfoldable pub parent : List Merge → ℕ → ℕ
+parent [] x = x
+parent (m ∷ ms) x = cond (eqb x (low-root ms m)) (high-root ms m) (parent ms x)
+
+-- ---- the forest
+
+-- the node that a way ends in
+abbrev pub end : ℕ → List Step → ℕ
+end x [] = x
+end x (s ∷ w) = end (s .up) w
+
+-- the words of a node are the first edge of its way: where it leads, and the merge that has its label; a root is its own parent
+abbrev pub FirstEdge : List ℕ → ℕ → List Step → Type 0
+FirstEdge t x [] = fparent-word t x ≡ x
+FirstEdge t x (s ∷ w) = (fparent-word t x ≡ s .up) × (fedge-word t x < merges# t) × (just-at t (fedge-word t x) ≡ s .just)
+
+-- ---- when a table is sound
+
+-- each merge joined two classes
+abbrev pub Joins : List Merge → Type 0
+Joins [] = Unit {0}
+Joins (m ∷ ms) = (are-equal ms (m .a) (m .b) ≡ false) × Joins ms
+
+-- Each region is what the log of merges says.
+pub record Sound (t : List ℕ) : Type 0 where
+  pub long : 16384 ≤ length t
+  -- the log
+  pub fewer : merges# t < 1024
+  pub joins : Joins (merges t)
+  pub nodes : (i : ℕ) → i < merges# t → (a-word t i < 1024) × (b-word t i < 1024)
+  pub low : (i : ℕ) → i < merges# t → low-word t i ≡ low-root (merges-below t i) (merge-at t i)
+  pub froot : (i : ℕ) → i < merges# t → froot-word t i ≡ end (a-word t i) (way (merges-below t i) (a-word t i))
+  -- levels rise along the log, up to the level of now
+  pub levels-fit : level-word t ≤ 64
+  pub levels : (i : ℕ) → i < merges# t → kind-word t i / 262144 ≤ level-word t
+  pub levels-rise : (i : ℕ) → suc i < merges# t → kind-word t i / 262144 ≤ kind-word t (suc i) / 262144
+  -- the pairs of a merge follow those of the merge before it
+  pub first-pairs : 0 < merges# t → value-start t 0 ≡ 0
+  pub next-pairs : (i : ℕ) → suc i < merges# t → value-start t (suc i) ≡ after-word t i
+  pub pairs-fit : (i : ℕ) → i < merges# t → (value-start t i ≤ after-word t i) × (after-word t i ≤ 2048)
+  -- classes and forest
+  pub parents : (x : ℕ) → x < 1024 → parent-word t x ≡ parent (merges t) x
+  pub sizes : (x : ℕ) → x < 1024 → size-word t x ≡ classes (merges t) .size x
+  pub forest : (x : ℕ) → x < 1024 → FirstEdge t x (way (merges t) x)

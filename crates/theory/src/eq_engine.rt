@@ -1,0 +1,57 @@
+// Classes of nodes: a union-find without path compression, as in the source. A node is its term.
+use core::ids::TermId;
+use core::table::get;
+use core::table::put;
+ghost use mathlib.Core.Path.{_≡_};
+ghost use mathlib.Core.List.{[]};
+ghost use Prim.Native.Nat.{_+_, _<_, _≤_};
+ghost use lib.ListN.{length, set};
+ghost use Rattle.theory.specs.EqEngine.{find, are-equal};
+ghost use Rattle.theory.specs.Table.{merges, level-word, Sound};
+
+// Class representative: up the parents to the root.
+fn find(t: &[u32], node: usize) -> usize
+    requires { ⌜ Sound (now t) × (node < 1024) ⌝ }
+    ensures { λ r. ⌜ (r ≡ find (merges (now (t .entry))) node) × (r < 1024) ⌝ }
+{
+    let mut n = node;
+    let mut up = get(t, 64 + n);
+    while up != n {
+        n = up;
+        up = get(t, 64 + n);
+    }
+    n
+}
+
+pub fn are_equal(t: &[u32], a: TermId, b: TermId) -> bool
+    requires { ⌜ Sound (now t) × (a .0 < 1024) × (b .0 < 1024) ⌝ }
+    ensures { λ r. ⌜ r ≡ are-equal (merges (now (t .entry))) (a .0) (b .0) ⌝ }
+{
+    let x = a.0 as usize;
+    let y = b.0 as usize;
+    find(t, x) == find(t, y)
+}
+
+// One node alone: its own parent, in the forest too, in a class of one.
+fn alone(t: &mut [u32], n: usize)
+    requires { ⌜ (16384 ≤ length (now t)) × (n < 1024) ⌝ }
+    ensures { λ _. ⌜ now (t .exit) ≡ set (set (set (now (t .entry)) (64 + n) n) (1088 + n) 1) (2112 + n) n ⌝ }
+{
+    put(t, 64 + n, n);
+    put(t, 1088 + n, 1);
+    put(t, 2112 + n, n);
+}
+
+// Whatever the table held, no merge is in force now, at level 0.
+pub fn clear(t: &mut [u32])
+    requires { ⌜ 16384 ≤ length (now t) ⌝ }
+    ensures { λ _. ⌜ Sound (now (t .exit)) × (merges (now (t .exit)) ≡ []) × (level-word (now (t .exit)) ≡ 0) ⌝ }
+{
+    put(t, 0, 0);
+    put(t, 1, 0);
+    let mut n = 0;
+    while n < 1024 {
+        alone(t, n);
+        n += 1;
+    }
+}
