@@ -1,0 +1,560 @@
+-- What each accepted line owes the claim.
+use Prim.Native.Nat.{ℕ, suc, _≤_, _<_}
+use mathlib.Core.Path.{_≡_, refl, sym, subst, subst⁻¹, ap, _∙_}
+use mathlib.Core.Logic.{_⊎_, inl, inr, _≢_}
+use mathlib.Core.Bool.{Bool, true, false, cond, not, false≢true}
+use mathlib.Core.List.{List, [], _∷_, _++_, map}
+use mathlib.Core.Option.{Option, none, some}
+use native.Mathlib.Omega.{arith}
+use lib.Dec.{T, ltb, eqb→eq, ltb→lt}
+use lib.ListN.{length, length-append}
+use Rattle.core.specs.Lists.{insert, every, same-list}
+use Rattle.core.specs.Ids as Ids
+use Rattle.core.specs.Term as Term
+use Rattle.core.specs.Term.{Term, Op, Eq, Symbol}
+use Rattle.core.specs.Sort.{SortNode}
+use Rattle.core.specs.Context.{Context, Made, TesterApp, term, all-grounded, sort-of, symbol, tester-app, declare-sort, dt-add-constructor, declare-fun, with-symbols, is-datatype-sort, mk-app, mk-eq}
+use Rattle.core.proofs.Lists.{In, true-T, every-in}
+use Rattle.theory.specs.Types.{EqLeaf}
+use Rattle.theory.specs.EqEngine.{Merge}
+use Rattle.theory.specs.Atom as Atom
+use Rattle.theory.proofs.Explain.{Justified, TwoTerms}
+use Rattle.theory.proofs.Members.{in-either}
+use Rattle.solver.specs.State.{State, AssertedTester, with-terms, with-eq, with-level, with-level-record, with-lasting, with-dt}
+use Rattle.solver.specs.Records as Records
+use Rattle.solver.specs.Records.{relevant}
+use Rattle.solver.specs.Rules as Rules
+use Rattle.solver.specs.Rules.{Phase, TCheck, Conflict, Split}
+use Rattle.solver.specs.Check as Check
+use Rattle.solver.specs.Check.{before-ring}
+use Rattle.solver.proofs.Basics.{Ascending, none-some, T-no}
+use Rattle.solver.proofs.Terms.{Extends, extends-sorts, extends-symbols, Below, Agrees, Formed, Makes, mk-app-makes, mk-app-formed, same-list-eq, app}
+use Rattle.solver.proofs.Signature.{Signed, sort-signed, fun-signed, ctor-signed}
+use Rattle.solver.proofs.Apps.{tester-app-is}
+use Rattle.solver.proofs.Clash.{Refuted, Recorded, tester-refuted}
+use Rattle.solver.proofs.Moves.{Follows, AnswerHolds}
+use Rattle.solver.proofs.Answers.{CheckedWell, RingDecides, full-check-decides, check-well}
+use Rattle.solver.proofs.Collection.{relevant-kept}
+use Rattle.session.specs.Line as Line
+use Rattle.session.specs.Line.{Command, DeclareSort, DeclareCtor, DeclareFun, Close, MkTerm, MkEq, Register, Equate, Cong, Iface, Assert, Push, Pop}
+use Rattle.session.specs.Answer.{Refusal, Answer, Ok, TermIs, Checked, Refused}
+use Rattle.session.specs.Session.{Session, Performed, term-exists, one-sort, perform, done, numbered, conflict-or-ok, pop-to}
+use Rattle.session.specs.History.{History, signature, declared, level, level-after, HoldsNow, IsAtom}
+use Rattle.session.specs.Claim.{AllInForce, Impossible, Valid, Ring, SaysConflict}
+use Rattle.session.proofs.Forces.{kind}
+use Rattle.session.proofs.Invariant.{Kept, kept-self, kept-extends, kept-terms, registered-atom, Entry, Entries, entries-on, Inv}
+use Rattle.session.proofs.Truth.{two-terms, SaidNow, conflict-holds, lemma-holds}
+use Rattle.session.proofs.Rings.{ring-there, there-ring}
+use Rattle.session.proofs.Steps.{plain-kept, register-kept, pop-kept}
+
+-- ---- answers and lines told apart
+
+unfoldable pub answer-kind : Answer → ℕ
+answer-kind Ok = 0
+answer-kind (TermIs t) = 1
+answer-kind (Checked k) = 2
+answer-kind (Refused q) = 3
+
+unfoldable pub line-kind : Command → ℕ
+line-kind (DeclareSort n) = 0
+line-kind (DeclareCtor dt fs) = 1
+line-kind (DeclareFun r as′) = 2
+line-kind Close = 3
+line-kind (MkTerm f ts) = 4
+line-kind (MkEq t u) = 5
+line-kind (Register x t) = 6
+line-kind (Equate l) = 7
+line-kind (Cong t u) = 8
+line-kind (Iface t u h g) = 9
+line-kind (Assert l) = 10
+line-kind Push = 11
+line-kind (Pop k) = 12
+line-kind (Line.Check e) = 13
+
+-- conflict with a ring, sat without one
+abbrev pub RingClause : Performed → History → Type 0
+RingClause p h = (Ring (p .session .state) h × SaysConflict (p .answer)) ⊎ ((Ring (p .session .state) h → ⊥) × (p .answer ≡ Checked Rules.Sat))
+
+-- an accepted line c with what it does
+pub record Good (s : Session) (c : Command) (p : Performed) (h : History) : Type 1 where
+  pub inv : Inv (p .session) (c ∷ h)
+  pub kept : Kept (s .state .terms) (p .session .state .terms)
+  pub spoken : (q : Refusal) → p .answer ≡ Refused q → ⊥
+  pub conflict : (ls : List EqLeaf) → p .answer ≡ Checked (Conflict ls) → AllInForce (c ∷ h) ls × Impossible (p .session .state .terms) (c ∷ h) ls × (ls ≢ [])
+  pub lemma : (atoms guards : List ℕ) (phases : List Phase) → p .answer ≡ Checked (Split atoms guards phases) → Valid (p .session .state .terms) (c ∷ h) atoms guards
+  pub ring : c ≡ Line.Check true → before-ring (s .state) .answer ≡ none → RingClause p (c ∷ h)
+  pub made : (f : ℕ) (ts : List ℕ) (n : ℕ) → c ≡ MkTerm f ts → p .answer ≡ TermIs n → term (p .session .state .terms) n ≡ record { op = Term.Uninterpreted f; args = ts }
+  pub made-eq : (t u n : ℕ) → c ≡ MkEq t u → p .answer ≡ TermIs n → term (p .session .state .terms) n ≡ record { op = Eq; args = t ∷ u ∷ [] }
+
+-- a line that is answered ok=1
+pub good-ok : (s : Session) (c : Command) (p : Performed) (h : History) → p .answer ≡ Ok → (line-kind c ≡ 13 → ⊥) → Inv (p .session) (c ∷ h) → Kept (s .state .terms) (p .session .state .terms) → Good s c p h
+unfolding answer-kind line-kind
+good-ok s c p h a n I K = record {
+  inv = I;
+  kept = K;
+  spoken = λ q e. let w : _≡_ {A = ℕ} 0 3 = ap answer-kind (sym a ∙ e) in omega arith;
+  conflict = λ ls e. let w : _≡_ {A = ℕ} 0 2 = ap answer-kind (sym a ∙ e) in absurd (omega arith);
+  lemma = λ as′ gs ps e. let w : _≡_ {A = ℕ} 0 2 = ap answer-kind (sym a ∙ e) in absurd (omega arith);
+  ring = λ e. absurd (n (ap line-kind e));
+  made = λ f ts k e q. let w : _≡_ {A = ℕ} 0 1 = ap answer-kind (sym a ∙ q) in absurd (omega arith);
+  made-eq = λ t u k e q. let w : _≡_ {A = ℕ} 0 1 = ap answer-kind (sym a ∙ q) in absurd (omega arith);
+}
+
+T-closed : (b : Bool) → b ≡ false → T b → ⊥
+T-closed b e t = subst T e t
+
+T-open : (b : Bool) → T b → b ≡ false → ⊥
+T-open b t e = subst T e t
+
+-- ---- declarations
+
+declare-kept : (s : Session) (h : History) (d : Command) (cx : Context) → Inv s h → s .closed ≡ false → kind d ≡ 0 → cx .terms ≡ s .state .terms .terms → Signed cx → 0 < length (cx .sorts) → level (d ∷ h) ≡ level h → cx .sorts ≡ signature (d ∷ h) .sorts → cx .symbols ≡ signature (d ∷ h) .symbols → Inv (record { state = with-terms (s .state) cx; closed = s .closed }) (d ∷ h)
+unfolding with-terms
+declare-kept s h d cx I o k e S b l p q =
+    plain-kept s (record { state = with-terms (s .state) cx; closed = s .closed }) h d I (record {
+      not-register = λ w. omega arith;
+      not-equate = λ w. omega arith;
+      not-cong = λ w. omega arith;
+      not-iface = λ w. omega arith;
+      not-pop = λ w. omega arith;
+      ready = record { formed = record { lower = λ t m. absurd (none t m); agrees = λ t m. absurd (none t m); distinct = λ t u m n w. absurd (none t m) }; signed = S; justified = I .ready .justified; two-terms = I .ready .two-terms };
+      kept = kept-terms (s .state .terms) cx (sym e);
+      eq = refl;
+      atoms = refl;
+      level-up = omega arith;
+      level = I .level ∙ sym l;
+      entries = entries-on (s .state .dt .level-record) (s .state .level) (s .state .level) h d (λ w. omega arith) (omega arith) (I .entries);
+      marks = λ t i. i;
+      ascending = I .ascending;
+      bool-there = b;
+      sorts = p;
+      symbols = q;
+      grounded = λ t. absurd (T-closed (s .closed) o t);
+      unmade = λ w. e ∙ I .unmade w;
+      relevant-back = λ a i t m r. absurd (nothing t m);
+    })
+  where
+    nothing : (t : ℕ) → t < length (s .state .terms .terms) → ⊥
+    nothing t m = let z = subst (λ (ts : List Term). t < length ts) (I .unmade o) m in omega arith
+
+    none : (t : ℕ) → t < length (cx .terms) → ⊥
+    none t m = nothing t (subst (λ (ts : List Term). t < length ts) e m)
+
+pub sort-good : (s : Session) (h : History) (n : SortNode) → Inv s h → T (not (s .closed)) → Good s (DeclareSort n) (perform s (DeclareSort n)) h
+unfolding perform done kind line-kind level level-after with-terms
+sort-good s h n I o =
+    good-ok s (DeclareSort n) (perform s (DeclareSort n)) h refl (λ e. omega arith)
+    (declare-kept s h (DeclareSort n) (declare-sort (s .state .terms) n) I (T-no (s .closed) o) refl refl′ (sort-signed (s .state .terms) n (I .bool-there) (I .ready .signed)) more refl sorts symbols)
+    (kept-terms (s .state .terms) (declare-sort (s .state .terms) n) (sym refl′))
+  where
+    refl′ : declare-sort (s .state .terms) n .terms ≡ s .state .terms .terms
+    refl′ = unfold declare-sort in refl
+
+    more : 0 < length (declare-sort (s .state .terms) n .sorts)
+    more = unfold declare-sort in subst⁻¹ (λ (k : ℕ). 0 < k) (length-append (s .state .terms .sorts) (n ∷ [])) (omega arith)
+
+    sorts : declare-sort (s .state .terms) n .sorts ≡ signature (DeclareSort n ∷ h) .sorts
+    sorts = unfold declare-sort signature declared in ap (λ (ss : List SortNode). ss ++ (n ∷ [])) (I .sorts)
+
+    symbols : declare-sort (s .state .terms) n .symbols ≡ signature (DeclareSort n ∷ h) .symbols
+    symbols = unfold declare-sort signature declared in I .symbols
+
+pub ctor-good : (s : Session) (h : History) (dt : ℕ) (fs : List ℕ) → Inv s h → T (not (s .closed)) → T (is-datatype-sort (s .state .terms) dt) → Good s (DeclareCtor dt fs) (perform s (DeclareCtor dt fs)) h
+unfolding perform done kind line-kind level level-after with-terms
+ctor-good s h dt fs I o D =
+    good-ok s (DeclareCtor dt fs) (perform s (DeclareCtor dt fs)) h refl (λ e. omega arith)
+    (declare-kept s h (DeclareCtor dt fs) (dt-add-constructor (s .state .terms) dt fs) I (T-no (s .closed) o) refl refl′ (ctor-signed (s .state .terms) dt fs D (I .ready .signed)) more refl sorts symbols)
+    (kept-terms (s .state .terms) (dt-add-constructor (s .state .terms) dt fs) (sym refl′))
+  where
+    refl′ : dt-add-constructor (s .state .terms) dt fs .terms ≡ s .state .terms .terms
+    refl′ = unfold dt-add-constructor with-symbols in refl
+
+    more : 0 < length (dt-add-constructor (s .state .terms) dt fs .sorts)
+    more = unfold dt-add-constructor with-symbols in I .bool-there
+
+    sorts : dt-add-constructor (s .state .terms) dt fs .sorts ≡ signature (DeclareCtor dt fs ∷ h) .sorts
+    sorts = unfold dt-add-constructor with-symbols signature declared in I .sorts
+
+    symbols : dt-add-constructor (s .state .terms) dt fs .symbols ≡ signature (DeclareCtor dt fs ∷ h) .symbols
+    symbols = unfold dt-add-constructor with-symbols signature declared in ap (λ (ys : List Symbol). ys ++ Rattle.core.specs.Context.constructor-symbols (length ys) dt fs) (I .symbols)
+
+pub fun-good : (s : Session) (h : History) (r : ℕ) (as′ : List ℕ) → Inv s h → T (not (s .closed)) → Good s (DeclareFun r as′) (perform s (DeclareFun r as′)) h
+unfolding perform done kind line-kind level level-after with-terms
+fun-good s h r as′ I o =
+    good-ok s (DeclareFun r as′) (perform s (DeclareFun r as′)) h refl (λ e. omega arith)
+    (declare-kept s h (DeclareFun r as′) (declare-fun (s .state .terms) r as′) I (T-no (s .closed) o) refl refl′ (fun-signed (s .state .terms) r as′ (I .ready .signed)) more refl sorts symbols)
+    (kept-terms (s .state .terms) (declare-fun (s .state .terms) r as′) (sym refl′))
+  where
+    refl′ : declare-fun (s .state .terms) r as′ .terms ≡ s .state .terms .terms
+    refl′ = unfold declare-fun with-symbols in refl
+
+    more : 0 < length (declare-fun (s .state .terms) r as′ .sorts)
+    more = unfold declare-fun with-symbols in I .bool-there
+
+    sorts : declare-fun (s .state .terms) r as′ .sorts ≡ signature (DeclareFun r as′ ∷ h) .sorts
+    sorts = unfold declare-fun with-symbols signature declared in I .sorts
+
+    symbols : declare-fun (s .state .terms) r as′ .symbols ≡ signature (DeclareFun r as′ ∷ h) .symbols
+    symbols = unfold declare-fun with-symbols signature declared in ap (λ (ys : List Symbol). ys ++ (record { role = Term.Function; params = as′; result = r } ∷ [])) (I .symbols)
+
+-- ---- close, push
+
+-- the state stays, or only its level goes up
+same-kept : (s : Session) (h : History) (d : Command) (k : ℕ) (c : Bool) → Inv s h → kind d ≡ 0 → s .state .level ≤ k → k ≡ level (d ∷ h) → signature (d ∷ h) ≡ signature h → (T c → T (all-grounded (s .state .terms))) → (c ≡ false → s .state .terms .terms ≡ []) → Inv (record { state = with-level (s .state) k; closed = c }) (d ∷ h)
+unfolding with-level
+same-kept s h d k c I q l e z g u =
+    plain-kept s (record { state = with-level (s .state) k; closed = c }) h d I (record {
+      not-register = λ w. omega arith;
+      not-equate = λ w. omega arith;
+      not-cong = λ w. omega arith;
+      not-iface = λ w. omega arith;
+      not-pop = λ w. omega arith;
+      ready = record { formed = I .ready .formed; signed = I .ready .signed; justified = I .ready .justified; two-terms = I .ready .two-terms };
+      kept = kept-self (s .state .terms);
+      eq = refl;
+      atoms = refl;
+      level-up = l;
+      level = e;
+      entries = entries-on (s .state .dt .level-record) (s .state .level) k h d (λ w. omega arith) l (I .entries);
+      marks = λ t i. i;
+      ascending = I .ascending;
+      bool-there = I .bool-there;
+      sorts = I .sorts ∙ ap (λ (y : Context). y .sorts) (sym z);
+      symbols = I .symbols ∙ ap (λ (y : Context). y .symbols) (sym z);
+      grounded = g;
+      unmade = u;
+      relevant-back = λ a i t m r. r;
+    })
+
+pub close-good : (s : Session) (h : History) → Inv s h → T (all-grounded (s .state .terms)) → Good s Close (perform s Close) h
+unfolding perform kind line-kind level level-after signature declared with-level
+close-good s h I g =
+    good-ok s Close (perform s Close) h refl (λ e. omega arith)
+    (same-kept s h Close (s .state .level) true I refl (omega arith) (I .level) refl (λ t. g) (λ e. absurd (false≢true (sym e))))
+    (kept-self (s .state .terms))
+
+pub push-good : (s : Session) (h : History) → Inv s h → Good s Push (perform s Push) h
+unfolding perform done kind line-kind level level-after signature declared with-level
+push-good s h I =
+    good-ok s Push (perform s Push) h refl (λ e. omega arith)
+    (same-kept s h Push (suc (s .state .level)) (s .closed) I refl (omega arith) (ap suc (I .level)) refl (I .grounded) (I .unmade))
+    (kept-self (s .state .terms))
+
+pub pop-good : (s : Session) (h : History) (k : ℕ) → Inv s h → Good s (Pop k) (perform s (Pop k)) h
+unfolding perform done line-kind
+pop-good s h k I =
+    good-ok s (Pop k) (perform s (Pop k)) h refl (λ e. omega arith) (pop-kept s h k I)
+    (kept-terms (s .state .terms) (pop-to (s .state) k .terms) (sym same))
+  where
+    same : pop-to (s .state) k .terms .terms ≡ s .state .terms .terms
+    same = unfold pop-to with-level-record with-eq with-level with-dt in go (ltb k (s .state .level))
+      where
+        go : (b : Bool) → cond b (with-level-record (with-eq (with-level (s .state) k) (Rattle.theory.specs.EqEngine.pop-merges k (s .state .eq))) (Records.pop-testers k (s .state .dt .level-record))) (s .state) .terms .terms ≡ s .state .terms .terms
+        go true = unfold with-level-record with-eq with-level with-dt in refl
+        go false = refl
+
+pub register-good : (s : Session) (h : History) (v t : ℕ) → Inv s h → T (not (Atom.is-registered (s .state .atoms) v)) → t < length (s .state .terms .terms) → Good s (Register v t) (perform s (Register v t)) h
+unfolding perform done line-kind Records.new-var Rattle.solver.specs.State.with-marks with-dt Rattle.solver.specs.State.with-atoms
+register-good s h v t I n l =
+    good-ok s (Register v t) (perform s (Register v t)) h refl (λ e. omega arith) (register-kept s h v t I n l) (kept-self (s .state .terms))
+
+-- ---- lines over a longer table
+
+follows-inv : (s : Session) (h : History) (d : Command) (st : State) → Inv s h → T (s .closed) → kind d ≡ 0 → level (d ∷ h) ≡ level h → signature (d ∷ h) ≡ signature h → Follows (s .state) st → Inv (record { state = st; closed = s .closed }) (d ∷ h)
+follows-inv s h d st I c q l z F =
+    plain-kept s (record { state = st; closed = s .closed }) h d I (record {
+      not-register = λ w. omega arith;
+      not-equate = λ w. omega arith;
+      not-cong = λ w. omega arith;
+      not-iface = λ w. omega arith;
+      not-pop = λ w. omega arith;
+      ready = Rattle.solver.proofs.Moves.follows-ready (s .state) st F (I .ready);
+      kept = kept-extends (s .state .terms) (st .terms) (F .extends);
+      eq = F .eq;
+      atoms = F .atoms;
+      level-up = let e = F .level in omega arith;
+      level = F .level ∙ I .level ∙ sym l;
+      entries = subst⁻¹ (λ (es : List AssertedTester). Entries es (st .level) (d ∷ h)) (F .entries) (entries-on (s .state .dt .level-record) (s .state .level) (st .level) h d (λ w. omega arith) (let e = F .level in omega arith) (I .entries));
+      marks = F .marks;
+      ascending = F .ascending (I .ascending);
+      bool-there = subst⁻¹ (λ (ss : List SortNode). 0 < length ss) (extends-sorts (s .state .terms) (st .terms) (F .extends)) (I .bool-there);
+      sorts = extends-sorts (s .state .terms) (st .terms) (F .extends) ∙ I .sorts ∙ ap (λ (y : Context). y .sorts) (sym z);
+      symbols = extends-symbols (s .state .terms) (st .terms) (F .extends) ∙ I .symbols ∙ ap (λ (y : Context). y .symbols) (sym z);
+      grounded = λ t. grounded-kept (F .extends) (I .grounded t);
+      unmade = λ e. absurd (T-open (s .closed) c e);
+      relevant-back = λ a i t m r. subst T (relevant-kept (s .state .terms) (st .terms) t (F .extends) m) r;
+    })
+  where
+    grounded-kept : Extends (s .state .terms) (st .terms) → T (all-grounded (s .state .terms)) → T (all-grounded (st .terms))
+    grounded-kept (new, e) t = subst⁻¹ (λ (y : Context). T (all-grounded y)) e (unfold all-grounded Rattle.core.specs.Context.grounded Rattle.core.specs.Context.dt-constructors Rattle.core.specs.Context.has-plain-fields Rattle.core.specs.Context.builds is-datatype-sort Rattle.core.specs.Context.sort-node symbol in t)
+
+-- ---- terms
+
+below-of : (s : Session) (ts : List ℕ) → T (every (term-exists s) ts) → Below (length (s .state .terms .terms)) ts
+unfolding term-exists
+below-of s ts t a i = ltb→lt a (length (s .state .terms .terms)) (every-in (term-exists s) ts a t i)
+
+number-good : (s : Session) (h : History) (d : Command) (o : Op) (as′ : List ℕ) → Inv s h → T (s .closed) → kind d ≡ 0 → level (d ∷ h) ≡ level h → signature (d ∷ h) ≡ signature h → (line-kind d ≡ 13 → ⊥) → Below (length (s .state .terms .terms)) as′ → Agrees (s .state .terms) o as′ → ((f : ℕ) (ts : List ℕ) → d ≡ MkTerm f ts → app o as′ ≡ app (Term.Uninterpreted f) ts) → ((t u : ℕ) → d ≡ MkEq t u → app o as′ ≡ app Eq (t ∷ u ∷ [])) → Good s d (numbered s (mk-app (s .state .terms) o as′)) h
+unfolding numbered done with-terms answer-kind line-kind
+number-good s h d o as′ I c k l z n B A f g = record {
+  inv = follows-inv s h d (with-terms (s .state) (m .context)) I c k l z
+      (record { extends = M .extends; formed = mk-app-formed (s .state .terms) o as′ (I .ready .formed) B A; eq = refl; atoms = refl; level = refl; entries = refl; marks = λ t i. i; ascending = λ a. a });
+  kept = kept-extends (s .state .terms) (m .context) (M .extends);
+  spoken = λ q e. let w : _≡_ {A = ℕ} 1 3 = ap answer-kind e in omega arith;
+  conflict = λ ls e. let w : _≡_ {A = ℕ} 1 2 = ap answer-kind e in absurd (omega arith);
+  lemma = λ xs gs ps e. let w : _≡_ {A = ℕ} 1 2 = ap answer-kind e in absurd (omega arith);
+  ring = λ e. absurd (n (ap line-kind e));
+  made = λ x ts i e q. subst (λ (j : ℕ). term (m .context) j ≡ app (Term.Uninterpreted x) ts) (number-is i q) (M .made ∙ f x ts e);
+  made-eq = λ t u i e q. subst (λ (j : ℕ). term (m .context) j ≡ app Eq (t ∷ u ∷ [])) (number-is i q) (M .made ∙ g t u e);
+}
+  where
+    m : Made
+    m = mk-app (s .state .terms) o as′
+
+    M : Makes (s .state .terms) o as′ m
+    M = mk-app-makes (s .state .terms) o as′
+
+    number-is : (i : ℕ) → TermIs (m .id) ≡ TermIs i → m .id ≡ i
+    number-is i e = cc
+
+pub term-good : (s : Session) (h : History) (f : ℕ) (ts : List ℕ) → Inv s h → T (s .closed) → T (every (term-exists s) ts) → T (same-list (map (sort-of (s .state .terms)) ts) (symbol (s .state .terms) f .params)) → Good s (MkTerm f ts) (perform s (MkTerm f ts)) h
+unfolding perform kind level level-after signature declared line-kind
+term-good s h f ts I c b a =
+    number-good s h (MkTerm f ts) (Term.Uninterpreted f) ts I c refl refl refl (λ e. omega arith) (below-of s ts b)
+    (same-list-eq (map (sort-of (s .state .terms)) ts) (symbol (s .state .terms) f .params) a) names (λ t u e. let w : _≡_ {A = ℕ} 4 5 = ap line-kind e in absurd (omega arith))
+  where
+    names : (g : ℕ) (us : List ℕ) → MkTerm f ts ≡ MkTerm g us → app (Term.Uninterpreted f) ts ≡ app (Term.Uninterpreted g) us
+    names g us e = cc
+
+pub eq-good : (s : Session) (h : History) (t u : ℕ) → Inv s h → T (s .closed) → T (term-exists s t) → T (term-exists s u) → T (one-sort s t u) → Good s (MkEq t u) (perform s (MkEq t u)) h
+unfolding perform mk-eq kind level level-after signature declared line-kind term-exists one-sort
+eq-good s h t u I c a b e =
+    number-good s h (MkEq t u) Eq (t ∷ u ∷ []) I c refl refl refl (λ q. omega arith) below
+    (t, u, refl, eqb→eq (sort-of (s .state .terms) t) (sort-of (s .state .terms) u) e) (λ f ts q. let w : _≡_ {A = ℕ} 5 4 = ap line-kind q in absurd (omega arith)) names
+  where
+    below : Below (length (s .state .terms .terms)) (t ∷ u ∷ [])
+    below x (inl q) = subst⁻¹ (λ (y : ℕ). y < length (s .state .terms .terms)) q (ltb→lt t (length (s .state .terms .terms)) a)
+    below x (inr (inl q)) = subst⁻¹ (λ (y : ℕ). y < length (s .state .terms .terms)) q (ltb→lt u (length (s .state .terms .terms)) b)
+    below x (inr (inr i)) = absurd i
+
+    names : (x y : ℕ) → MkEq t u ≡ MkEq x y → app Eq (t ∷ u ∷ []) ≡ app Eq (x ∷ y ∷ [])
+    names x y q = cc
+
+-- ---- checks
+
+-- the entries of the level record are lines in force
+recorded-said : (s : Session) (h : History) (I : Inv s h) → SaidNow s h I (Recorded (s .state))
+recorded-said s h I k t (e, i, p, q) =
+    let E = I .entries e i in
+    subst (λ (x : ℕ). HoldsNow h (Assert x) × IsAtom h x t × T (Ids.is-positive x)) p
+    (subst (λ (x : ℕ). HoldsNow h (Assert (e .lit)) × IsAtom h (e .lit) x × T (Ids.is-positive (e .lit))) q ((e .level, E .force), E .atom, E .positive))
+
+pub check-good : (s : Session) (h : History) (full : Bool) → Inv s h → T (s .closed) → Good s (Line.Check full) (perform s (Line.Check full)) h
+unfolding perform done kind level level-after signature declared answer-kind line-kind
+check-good s h full I c = record {
+  inv = J;
+  kept = kept-extends (s .state .terms) (k .state .terms) (W .follows .extends);
+  spoken = λ q e. let w : _≡_ {A = ℕ} 2 3 = ap answer-kind e in omega arith;
+  conflict = λ ls e. conflict-holds out (Line.Check full ∷ h) J (Recorded (k .state)) (recorded-said out (Line.Check full ∷ h) J) ls (subst (AnswerHolds (k .state)) (checked-is (Conflict ls) e) (W .holds));
+  lemma = λ as′ gs ps e. lemma-holds out (Line.Check full ∷ h) J as′ gs (subst (AnswerHolds (k .state)) (checked-is (Split as′ gs ps) e) (W .holds));
+  ring = λ e q. ring full refl e q;
+  made = λ f ts n e q. let w : _≡_ {A = ℕ} 2 1 = ap answer-kind q in absurd (omega arith);
+  made-eq = λ t u n e q. let w : _≡_ {A = ℕ} 2 1 = ap answer-kind q in absurd (omega arith);
+}
+  where
+    k : Check.Checked
+    k = Check.check full (s .state)
+
+    W : CheckedWell (s .state) k
+    W = check-well (s .state) (I .ready) full
+
+    out : Session
+    out = record { state = k .state; closed = s .closed }
+
+    J : Inv out (Line.Check full ∷ h)
+    J = follows-inv s h (Line.Check full) (k .state) I c refl refl refl (W .follows)
+
+    checked-is : (a : TCheck) → Checked (k .answer) ≡ Checked a → k .answer ≡ a
+    checked-is a e = cc
+
+    full-is : (b : Bool) → Line.Check full ≡ Line.Check b → full ≡ b
+    full-is b e = cc
+
+    decided : RingDecides k → RingClause (record { answer = Checked (k .answer); session = out }) (Line.Check full ∷ h)
+    decided (inl (r, (ls, e))) = inl (there-ring out (Line.Check full ∷ h) J r, (ls, ap Checked e))
+    decided (inr (n, e)) = inr (λ r. n (ring-there out (Line.Check full ∷ h) J r), ap Checked e)
+
+    ring : (b : Bool) → full ≡ b → Line.Check full ≡ Line.Check true → before-ring (s .state) .answer ≡ none → RingClause (record { answer = Checked (k .answer); session = out }) (Line.Check full ∷ h)
+    ring b w e q = decided (subst⁻¹ (λ (x : Bool). RingDecides (Check.check x (s .state))) (full-is true e) (unfold Check.check in full-check-decides (s .state) q))
+
+-- ---- assert
+
+-- only the level record and the lasting record change
+record Noted (s : State) (s′ : State) : Type 0 where
+  terms : s′ .terms ≡ s .terms
+  eq : s′ .eq ≡ s .eq
+  atoms : s′ .atoms ≡ s .atoms
+  level : s′ .level ≡ s .level
+  marks : s′ .dt .marks ≡ s .dt .marks
+
+noted-inv : (s : Session) (h : History) (l : ℕ) (st : State) → Inv s h → Noted (s .state) st → Entries (st .dt .level-record) (st .level) (Assert l ∷ h) → Inv (record { state = st; closed = s .closed }) (Assert l ∷ h)
+unfolding kind level level-after signature declared
+noted-inv s h l st I N E =
+    plain-kept s (record { state = st; closed = s .closed }) h (Assert l) I (record {
+      not-register = λ w. omega arith;
+      not-equate = λ w. omega arith;
+      not-cong = λ w. omega arith;
+      not-iface = λ w. omega arith;
+      not-pop = λ w. omega arith;
+      ready = record {
+        formed = subst⁻¹ Formed (N .terms) (I .ready .formed);
+        signed = subst⁻¹ Signed (N .terms) (I .ready .signed);
+        justified = subst⁻¹ Justified (N .eq) (I .ready .justified);
+        two-terms = subst⁻¹ (λ (ms : List Merge). (m : Merge) → In m ms → TwoTerms (m .just)) (N .eq) (I .ready .two-terms);
+      };
+      kept = kept-terms (s .state .terms) (st .terms) (ap (λ (z : Context). z .terms) (sym (N .terms)));
+      eq = N .eq;
+      atoms = N .atoms;
+      level-up = let e = N .level in omega arith;
+      level = N .level ∙ I .level;
+      entries = E;
+      marks = λ t i. subst⁻¹ (λ (ms : List ℕ). In t ms) (N .marks) i;
+      ascending = subst⁻¹ Ascending (N .marks) (I .ascending);
+      bool-there = subst⁻¹ (λ (z : Context). 0 < length (z .sorts)) (N .terms) (I .bool-there);
+      sorts = ap (λ (z : Context). z .sorts) (N .terms) ∙ I .sorts;
+      symbols = ap (λ (z : Context). z .symbols) (N .terms) ∙ I .symbols;
+      grounded = λ t. subst⁻¹ (λ (z : Context). T (all-grounded z)) (N .terms) (I .grounded t);
+      unmade = λ e. ap (λ (z : Context). z .terms) (N .terms) ∙ I .unmade e;
+      relevant-back = λ a i t m r. subst (λ (z : Context). T (relevant z t)) (N .terms) r;
+    })
+
+conflict-is : (o : Option (List EqLeaf)) (ls : List EqLeaf) → conflict-or-ok o ≡ Checked (Conflict ls) → o ≡ some ls
+unfolding conflict-or-ok answer-kind
+conflict-is none ls e = let w : _≡_ {A = ℕ} 0 2 = ap answer-kind e in absurd (omega arith)
+conflict-is (some ks) ls e = ap {B = Option (List EqLeaf)} some (leaves-are e)
+  where
+    leaves-are : Checked (Conflict ks) ≡ Checked (Conflict ls) → ks ≡ ls
+    leaves-are q = cc
+
+never-refused : (o : Option (List EqLeaf)) (q : Refusal) → conflict-or-ok o ≡ Refused q → ⊥
+unfolding conflict-or-ok answer-kind
+never-refused none q e = let w : _≡_ {A = ℕ} 0 3 = ap answer-kind e in omega arith
+never-refused (some ks) q e = let w : _≡_ {A = ℕ} 2 3 = ap answer-kind e in omega arith
+
+never-number : (o : Option (List EqLeaf)) (n : ℕ) → conflict-or-ok o ≡ TermIs n → ⊥
+unfolding conflict-or-ok answer-kind
+never-number none n e = let w : _≡_ {A = ℕ} 0 1 = ap answer-kind e in omega arith
+never-number (some ks) n e = let w : _≡_ {A = ℕ} 2 1 = ap answer-kind e in omega arith
+
+check-kind : Answer → ℕ
+check-kind Ok = 0
+check-kind (TermIs t) = 0
+check-kind (Checked Rules.Sat) = 0
+check-kind (Checked (Conflict ls)) = 0
+check-kind (Checked (Split as′ gs ps)) = 1
+check-kind (Checked Rules.Unknown) = 0
+check-kind (Refused q) = 0
+
+never-split : (o : Option (List EqLeaf)) (as′ gs : List ℕ) (ps : List Phase) → conflict-or-ok o ≡ Checked (Split as′ gs ps) → ⊥
+unfolding conflict-or-ok check-kind
+never-split none as′ gs ps e = let w : _≡_ {A = ℕ} 0 1 = ap check-kind e in omega arith
+never-split (some ks) as′ gs ps e = let w : _≡_ {A = ℕ} 0 1 = ap check-kind e in omega arith
+
+-- what an assertion leaves: notes about the atom t of the literal l
+record AssertWell (s : Session) (h : History) (l t : ℕ) (o : Records.Outcome) : Type 1 where
+  noted : Noted (s .state) (o .state)
+  entries : Entries (o .state .dt .level-record) (o .state .level) (Assert l ∷ h)
+  refutes : (ls : List EqLeaf) → o .conflict ≡ some ls → T (Ids.is-positive l) × Refuted (s .state) (λ k u. (k ≡ l) × (u ≡ t)) ls
+
+module _ (s : Session) (h : History) (l : ℕ) (I : Inv s h) (v : T (Atom.is-registered (s .state .atoms) (Ids.var l))) where
+  atom-t : ℕ
+  atom-t = Atom.atom (s .state .atoms) (Ids.var l)
+
+  at : IsAtom h l atom-t
+  unfolding atom-t
+  at = registered-atom (s .state .terms) (s .state .atoms) h (I .named) (Ids.var l) v
+
+  old-entries : Entries (s .state .dt .level-record) (s .state .level) (Assert l ∷ h)
+  unfolding kind
+  old-entries = entries-on (s .state .dt .level-record) (s .state .level) (s .state .level) h (Assert l) (λ e. omega arith) (omega arith) (I .entries)
+
+  -- the session with nothing noted, under the longer history
+  unnoted : Inv s (Assert l ∷ h)
+  unnoted = noted-inv s h l (s .state) I (record { terms = refl; eq = refl; atoms = refl; level = refl; marks = refl }) old-entries
+
+  new-entry : AssertedTester
+  new-entry = record { atom = atom-t; lit = l; level = s .state .level }
+
+  new-entry-is : T (Ids.is-positive l) → Entry (s .state .level) (Assert l ∷ h) new-entry
+  unfolding new-entry
+  new-entry-is p = record { force = inl (refl, I .level); atom = inr at; positive = p; low = omega arith }
+
+  more-entries : T (Ids.is-positive l) → Entries (s .state .dt .level-record ++ (new-entry ∷ [])) (s .state .level) (Assert l ∷ h)
+  more-entries p e i = go (in-either e (s .state .dt .level-record) (new-entry ∷ []) i)
+    where
+      go : In e (s .state .dt .level-record) ⊎ In e (new-entry ∷ []) → Entry (s .state .level) (Assert l ∷ h) e
+      go (inl j) = old-entries e j
+      go (inr (inl q)) = subst⁻¹ (Entry (s .state .level) (Assert l ∷ h)) q (new-entry-is p)
+      go (inr (inr j)) = absurd j
+
+  record-well : T (Ids.is-positive l) → (b : Bool) → Noted (s .state) (cond b (with-lasting (s .state) (insert atom-t (s .state .dt .lasting))) (with-level-record (with-lasting (s .state) (insert atom-t (s .state .dt .lasting))) (s .state .dt .level-record ++ (new-entry ∷ [])))) × Entries (cond b (with-lasting (s .state) (insert atom-t (s .state .dt .lasting))) (with-level-record (with-lasting (s .state) (insert atom-t (s .state .dt .lasting))) (s .state .dt .level-record ++ (new-entry ∷ []))) .dt .level-record) (cond b (with-lasting (s .state) (insert atom-t (s .state .dt .lasting))) (with-level-record (with-lasting (s .state) (insert atom-t (s .state .dt .lasting))) (s .state .dt .level-record ++ (new-entry ∷ []))) .level) (Assert l ∷ h)
+  unfolding with-lasting with-level-record with-dt
+  record-well p true = (record { terms = refl; eq = refl; atoms = refl; level = refl; marks = refl }, old-entries)
+  record-well p false = (record { terms = refl; eq = refl; atoms = refl; level = refl; marks = refl }, more-entries p)
+
+  nothing-well : AssertWell s h l atom-t (record { conflict = none; state = s .state })
+  nothing-well = record {
+    noted = record { terms = refl; eq = refl; atoms = refl; level = refl; marks = refl };
+    entries = old-entries;
+    refutes = λ ls e. absurd (none-some ls e);
+  }
+
+  tester-well : T (Ids.is-positive l) → (x : TesterApp) → tester-app (s .state .terms) atom-t ≡ some x → x .app ≡ atom-t → AssertWell s h l atom-t (record { conflict = Records.tester-conflict (s .state) l x; state = Records.record-tester (s .state) atom-t l })
+  unfolding Records.record-tester new-entry
+  tester-well p x q e = record {
+    noted = record-well p (Records.recorded (s .state) atom-t) .0;
+    entries = record-well p (Records.recorded (s .state) atom-t) .1;
+    refutes = λ ls w. (p, tester-refuted (s .state) (I .ready) (λ k u. (k ≡ l) × (u ≡ atom-t)) l atom-t x ls q (refl, refl) w);
+  }
+
+  by-tester : T (Ids.is-positive l) → (o : Option TesterApp) → tester-app (s .state .terms) atom-t ≡ o → AssertWell s h l atom-t (Records.assert-tester (s .state) l o)
+  unfolding Records.assert-tester
+  by-tester p none q = nothing-well
+  by-tester p (some x) q =
+      let e = tester-app-is (s .state .terms) atom-t x q .app in
+      subst⁻¹ (λ (u : ℕ). AssertWell s h l atom-t (record { conflict = Records.tester-conflict (s .state) l x; state = Records.record-tester (s .state) u l })) e (tester-well p x q e)
+
+  by-sign : (b : Bool) → Ids.is-positive l ≡ b → AssertWell s h l atom-t (cond b (Records.assert-tester (s .state) l (tester-app (s .state .terms) atom-t)) (record { conflict = none; state = s .state }))
+  by-sign true e = by-tester (true-T (Ids.is-positive l) e) (tester-app (s .state .terms) atom-t) refl
+  by-sign false e = nothing-well
+
+  assert-well : AssertWell s h l atom-t (Records.assert (s .state) l)
+  unfolding Records.assert atom-t
+  assert-well = by-sign (Ids.is-positive l) refl
+
+  outcome-good : (o : Records.Outcome) → AssertWell s h l atom-t o → Good s (Assert l) (done s (conflict-or-ok (o .conflict)) (o .state)) h
+  unfolding done line-kind
+  outcome-good o W = record {
+    inv = noted-inv s h l (o .state) I (W .noted) (W .entries);
+    kept = kept-terms (s .state .terms) (o .state .terms) (ap (λ (z : Context). z .terms) (sym (W .noted .terms)));
+    spoken = λ q e. never-refused (o .conflict) q e;
+    conflict = λ ls e. holds ls (W .refutes ls (conflict-is (o .conflict) ls e));
+    lemma = λ as′ gs ps e. absurd (never-split (o .conflict) as′ gs ps e);
+    ring = λ e. let w : _≡_ {A = ℕ} 10 13 = ap line-kind e in absurd (omega arith);
+    made = λ f ts n e q. absurd (never-number (o .conflict) n q);
+    made-eq = λ t u n e q. absurd (never-number (o .conflict) n q);
+  }
+    where
+      said : T (Ids.is-positive l) → (k u : ℕ) → (k ≡ l) × (u ≡ atom-t) → HoldsNow (Assert l ∷ h) (Assert k) × IsAtom (Assert l ∷ h) k u × T (Ids.is-positive k)
+      said p k u (e, q) =
+          subst⁻¹ (λ (x : ℕ). HoldsNow (Assert l ∷ h) (Assert x) × IsAtom (Assert l ∷ h) x u × T (Ids.is-positive x)) e
+          (subst⁻¹ (λ (x : ℕ). HoldsNow (Assert l ∷ h) (Assert l) × IsAtom (Assert l ∷ h) l x × T (Ids.is-positive l)) q ((level h, inl (refl, refl)), inr at, p))
+
+      holds : (ls : List EqLeaf) → T (Ids.is-positive l) × Refuted (s .state) (λ k u. (k ≡ l) × (u ≡ atom-t)) ls → AllInForce (Assert l ∷ h) ls × Impossible (o .state .terms) (Assert l ∷ h) ls × (ls ≢ [])
+      holds ls (p, R) =
+          subst⁻¹ (λ (z : Context). AllInForce (Assert l ∷ h) ls × Impossible z (Assert l ∷ h) ls × (ls ≢ [])) (W .noted .terms)
+          (conflict-holds s (Assert l ∷ h) unnoted (λ k u. (k ≡ l) × (u ≡ atom-t)) (said p) ls R)
+
+  pub assert-good : Good s (Assert l) (perform s (Assert l)) h
+  unfolding perform
+  assert-good = outcome-good (Records.assert (s .state) l) assert-well

@@ -1,0 +1,11 @@
+-- Laws of sessions. Forces: lines in force; Invariant: what ties a session to its accepted lines; Truth: merges in a reading;
+-- Rings: the claim's ring is the walk's; Steps: the invariant kept; Accepting and Joins: what each kind of accepted line owes the
+-- claim; Claim: demand 3.
+pub mod Forces
+pub mod Invariant
+pub mod Truth
+pub mod Rings
+pub mod Steps
+pub mod Accepting
+pub mod Joins
+pub mod Claim

@@ -1,0 +1,247 @@
+-- Conflicts: the leaves of a constructor clash, a tester clash and a ring are true together in no reading. Values of two
+-- constructors differ, a tester true of a value names its constructor, and a value is smaller than what is built over it.
+use Prim.Native.Nat.{ℕ, suc, _+_, _≤_, _<_}
+use mathlib.Core.Path.{_≡_, refl, sym, subst, subst⁻¹, ap, _∙_}
+use mathlib.Core.Logic.{_⊎_, inl, inr, _≢_}
+use mathlib.Core.Bool.{Bool, true, false, cond, not}
+use mathlib.Core.List.{List, [], _∷_, cons≢nil}
+use mathlib.Core.Option.{Option, none, some}
+use native.Mathlib.Omega.{arith}
+use lib.Dec.{T, eqb}
+use borrow.Author.Tests.{eqb-true, eqb-false}
+use Rattle.core.specs.Lists.{keep}
+use Rattle.core.specs.Term as Term
+use Rattle.core.specs.Context.{Context, CtorApp, TesterApp, term, ctor-app, tester-app, is-datatype-sort, sort-of}
+use Rattle.core.specs.Reading.{Value, Values, truth, element, tree, nil, cons, Reading, built-by, value}
+use Rattle.core.proofs.Lists.{In, T-and, keep-in}
+use Rattle.theory.specs.Types.{EqLeaf, AssertedLeaf}
+use Rattle.theory.specs.EqEngine.{Merge, explain, firsts}
+use Rattle.theory.proofs.Members.{in-left, in-right, in-either}
+use Rattle.theory.proofs.Explain.{Cites, Justified, Sound, TwoTerms, explain-cites, explain-forces, explain-nonempty, firsts-in, firsts-empty}
+use Rattle.solver.specs.State.{State, AssertedTester, ctor-apps, ctor-of-class, equal}
+use Rattle.solver.specs.Records.{tester-leaves, disagrees, tester-conflict}
+use Rattle.solver.specs.Rules.{clash}
+use Rattle.solver.specs.Ring.{Edge, kids, edge-leaves, acyclicity-conflict}
+use Rattle.solver.proofs.Basics.{none-some, some-is, gather-in, reverse-in, by-test, T-no}
+use Rattle.solver.proofs.Terms.{Formed}
+use Rattle.solver.proofs.Signature.{Signed}
+use Rattle.solver.proofs.Values.{values-of}
+use Rattle.solver.proofs.Apps.{IsCtor, ctor-app-is, IsTester, tester-app-is, app-within, ctor-value, test-value, truth-is, tree-ctor}
+use Rattle.solver.proofs.Walk.{class-ctor, KidOf, Link, Trail, Ringed}
+
+-- what a state must be for its answers to be right
+pub record Ready (s : State) : Type 0 where
+  pub formed : Formed (s .terms)
+  pub signed : Signed (s .terms)
+  pub justified : Justified (s .eq)
+  pub two-terms : (m : Merge) → In m (s .eq) → TwoTerms (m .just)
+
+-- The leaves are those of merges, or literals that were said of tester atoms; whoever takes them for true is refuted; and there is one.
+pub record Refuted (s : State) (Said : ℕ → ℕ → Type 0) (ls : List EqLeaf) : Type 1 where
+  pub cites : (l : EqLeaf) → In l ls → Cites (s .eq) l ⊎ ((k t : ℕ) × Said k t × (l ≡ AssertedLeaf k))
+  pub impossible : (r : Reading (s .terms)) (True : EqLeaf → Type 0) → Sound (value r) True (s .eq) → ((k t : ℕ) → Said k t → True (AssertedLeaf k) → value r t ≡ truth true) → ((l : EqLeaf) → In l ls → True l) → ⊥
+  pub some-leaf : ls ≢ []
+
+-- an entry of the level record
+abbrev pub Recorded : State → ℕ → ℕ → Type 0
+Recorded s k t = (e : AssertedTester) × In e (s .dt .level-record) × (e .lit ≡ k) × (e .atom ≡ t)
+
+pub ctor-in : (s : State) (c : CtorApp) → In c (ctor-apps s) → IsCtor (s .terms) (c .app) c
+unfolding ctor-apps
+ctor-in s c i =
+    let (u, j, p) = gather-in (ctor-app (s .terms)) (s .dt .marks) c i in
+    let k = ctor-app-is (s .terms) u c p in
+    subst⁻¹ (λ (z : ℕ). IsCtor (s .terms) z c) (k .app) k
+
+module _ (s : State) (R : Ready s) where
+  -- leaves of an explanation
+  explained-cites : (Said : ℕ → ℕ → Type 0) (x y : ℕ) (l : EqLeaf) → In l (firsts (explain (s .eq) x y)) → Cites (s .eq) l ⊎ ((k t : ℕ) × Said k t × (l ≡ AssertedLeaf k))
+  explained-cites Said x y l i = inl (explain-cites (s .eq) x y l (firsts-in (explain (s .eq) x y) l .0 i))
+
+  forced : (r : Reading (s .terms)) (True : EqLeaf → Type 0) (x y : ℕ) → Sound (value r) True (s .eq) → T (equal s x y) → ((l : EqLeaf) → In l (explain (s .eq) x y) → True l) → value r x ≡ value r y
+  unfolding equal
+  forced r True x y S t h = explain-forces (value r) True (s .eq) x y (R .justified) S t h
+
+  nonempty : (x y : ℕ) → (x ≡ y → ⊥) → T (equal s x y) → explain (s .eq) x y ≡ [] → ⊥
+  unfolding equal
+  nonempty x y n t e = explain-nonempty (s .eq) x y (R .justified) (R .two-terms) n t e
+
+  -- ---- constructor clash
+
+  same-op : (p q : CtorApp) → IsCtor (s .terms) (p .app) p → IsCtor (s .terms) (q .app) q → p .app ≡ q .app → p .ctor ≡ q .ctor
+  same-op p q P Q e = op-is (p .ctor) (q .ctor) (sym (P .op) ∙ ap (λ (t : ℕ). term (s .terms) t .op) e ∙ Q .op)
+    where
+      op-is : (a b : ℕ) → Term.Uninterpreted a ≡ Term.Uninterpreted b → a ≡ b
+      op-is a b e = cc
+
+  pub clash-refuted : (Said : ℕ → ℕ → Type 0) (p q : CtorApp) → In p (ctor-apps s) → In q (ctor-apps s) → T (clash s (p, q)) → Refuted s Said (firsts (explain (s .eq) (p .app) (q .app)))
+  unfolding clash
+  clash-refuted Said p q i j t = go (T-and (not (eqb (p .ctor) (q .ctor))) (equal s (p .app) (q .app)) t) (ctor-in s p i) (ctor-in s q j)
+    where
+      go : T (not (eqb (p .ctor) (q .ctor))) × T (equal s (p .app) (q .app)) → IsCtor (s .terms) (p .app) p → IsCtor (s .terms) (q .app) q → Refuted s Said (firsts (explain (s .eq) (p .app) (q .app)))
+      go (n, e) P Q = record {
+        cites = explained-cites Said (p .app) (q .app);
+        impossible = λ r True S H h. eqb-false (p .ctor) (q .ctor) (T-no (eqb (p .ctor) (q .ctor)) n)
+            (tree-ctor (p .ctor) (q .ctor) (values-of r (p .fields)) (values-of r (q .fields))
+            (sym (ctor-value r (R .formed) (p .app) (p .ctor) (p .fields) (P .op) (P .args) (P .role))
+            ∙ forced r True (p .app) (q .app) S e (λ l k. h l (firsts-in (explain (s .eq) (p .app) (q .app)) l .1 k))
+            ∙ ctor-value r (R .formed) (q .app) (q .ctor) (q .fields) (Q .op) (Q .args) (Q .role)));
+        some-leaf = λ z. nonempty (p .app) (q .app) (λ w. eqb-false (p .ctor) (q .ctor) (T-no (eqb (p .ctor) (q .ctor)) n) (same-op p q P Q w)) e
+            (firsts-empty (explain (s .eq) (p .app) (q .app)) z);
+      }
+
+  -- ---- tester clash
+
+  -- a tester's term whose value is another constructor's
+  built-apart : {E : Type 0} (v : Value E) (c d : ℕ) (vs : Values E) → v ≡ tree d vs → (d ≡ c → ⊥) → Path (Value E) (truth (built-by c v)) (truth true) → ⊥
+  unfolding built-by
+  built-apart v c d vs e n h =
+      n (sym (eqb-true c d (sym (ap (built-by c) e) ∙ truth-is (built-by c v) true h)))
+
+  disagreement : (Said : ℕ → ℕ → Type 0) (l : ℕ) (x : TesterApp) (o : Option CtorApp) (ls : List EqLeaf) → ctor-of-class s (x .arg) ≡ o → IsTester (s .terms) (x .app) x → Said l (x .app) → disagrees s l x o ≡ some ls → Refuted s Said ls
+  unfolding disagrees tester-leaves
+  disagreement Said l x none ls q X w e = absurd (none-some ls e)
+  disagreement Said l x (some c) ls q X w e = go (eqb (c .ctor) (x .ctor)) refl e
+    where
+      leaves : List EqLeaf
+      leaves = AssertedLeaf l ∷ explain (s .eq) (x .arg) (c .app)
+
+      cited : (k : EqLeaf) → In k leaves → Cites (s .eq) k ⊎ ((j t : ℕ) × Said j t × (k ≡ AssertedLeaf j))
+      cited k (inl z) = inr (l, x .app, w, z)
+      cited k (inr i) = inl (explain-cites (s .eq) (x .arg) (c .app) k i)
+
+      C : IsCtor (s .terms) (c .app) c
+      C = ctor-app-is (s .terms) (c .app) c (class-ctor s (x .arg) c q .1)
+
+      refuted : eqb (c .ctor) (x .ctor) ≡ false → Refuted s Said (firsts leaves)
+      refuted n = record {
+        cites = λ k i. cited k (firsts-in leaves k .0 i);
+        impossible = λ r True S H h. built-apart (value r (x .arg)) (x .ctor) (c .ctor) (values-of r (c .fields))
+            (forced r True (x .arg) (c .app) S (class-ctor s (x .arg) c q .2) (λ k i. h k (firsts-in leaves k .1 (inr i)))
+            ∙ ctor-value r (R .formed) (c .app) (c .ctor) (c .fields) (C .op) (C .args) (C .role))
+            (eqb-false (c .ctor) (x .ctor) n)
+            (sym (test-value r (R .formed) (x .app) (x .tester) (x .ctor) (x .arg) (X .rest) (X .op) (X .args) (X .role))
+            ∙ H l (x .app) w (h (AssertedLeaf l) (firsts-in leaves (AssertedLeaf l) .1 (inl refl))));
+        some-leaf = λ z. cons≢nil (firsts-empty leaves z);
+      }
+
+      go : (b : Bool) → eqb (c .ctor) (x .ctor) ≡ b → cond b none (some (firsts leaves)) ≡ some ls → Refuted s Said ls
+      go true n y = absurd (none-some ls y)
+      go false n y = subst (Refuted s Said) (some-is (firsts leaves) ls y) (refuted n)
+
+  pub tester-refuted : (Said : ℕ → ℕ → Type 0) (l t : ℕ) (x : TesterApp) (ls : List EqLeaf) → tester-app (s .terms) t ≡ some x → Said l t → tester-conflict s l x ≡ some ls → Refuted s Said ls
+  unfolding tester-conflict
+  tester-refuted Said l t x ls q w e =
+      let X = tester-app-is (s .terms) t x q in
+      disagreement Said l x (ctor-of-class s (x .arg)) ls refl (subst⁻¹ (λ (z : ℕ). IsTester (s .terms) z x) (X .app) X) (subst⁻¹ (Said l) (X .app) w) e
+
+-- ---- sizes of values
+
+mutual
+  pub size : {E : Type 0} → Value E → ℕ
+  size (truth b) = 0
+  size (element e) = 0
+  size (tree c vs) = suc (sizes vs)
+
+  pub sizes : {E : Type 0} → Values E → ℕ
+  sizes nil = 0
+  sizes (cons v vs) = size v + sizes vs
+
+module _ {cx : Context} (r : Reading cx) where
+  member-size : (as′ : List ℕ) (a : ℕ) → In a as′ → size (value r a) ≤ sizes (values-of r as′)
+  unfolding size sizes
+  member-size [] a i = absurd i
+  member-size (b ∷ as′) a (inl e) = subst⁻¹ (λ (z : ℕ). size (value r z) ≤ size (value r b) + sizes (values-of r as′)) e (omega arith)
+  member-size (b ∷ as′) a (inr i) = let h = member-size as′ a i in omega arith
+
+-- ---- rings
+
+pub kid-field : (cx : Context) (c : CtorApp) (f : ℕ) → In f (kids cx c) → In f (c .fields) × T (is-datatype-sort cx (sort-of cx f))
+unfolding kids
+kid-field cx c f i =
+    keep-in (λ g. is-datatype-sort cx (sort-of cx g)) (c .fields) f (reverse-in f (keep (λ g. is-datatype-sort cx (sort-of cx g)) (c .fields)) i)
+
+edge-in : (ms : List Merge) (es : List Edge) (e : Edge) (l : EqLeaf) → In e es → In l (explain ms (e .field) (e .app)) → In l (edge-leaves ms es)
+unfolding edge-leaves
+edge-in ms [] e l i j = absurd i
+edge-in ms (d ∷ es) e l (inl q) j =
+    in-left l (explain ms (d .field) (d .app)) (edge-leaves ms es) (subst (λ (z : Edge). In l (explain ms (z .field) (z .app))) q j)
+edge-in ms (d ∷ es) e l (inr i) j = in-right l (explain ms (d .field) (d .app)) (edge-leaves ms es) (edge-in ms es e l i j)
+
+edges-cite : (ms : List Merge) (es : List Edge) (l : EqLeaf) → In l (edge-leaves ms es) → Cites ms l
+unfolding edge-leaves
+edges-cite ms [] l i = absurd i
+edges-cite ms (e ∷ es) l i = go (in-either l (explain ms (e .field) (e .app)) (edge-leaves ms es) i) (edges-cite ms es l)
+  where
+    go : In l (explain ms (e .field) (e .app)) ⊎ In l (edge-leaves ms es) → (In l (edge-leaves ms es) → Cites ms l) → Cites ms l
+    go (inl j) f = explain-cites ms (e .field) (e .app) l j
+    go (inr j) f = f j
+
+in-none : (xs : List EqLeaf) → ((l : EqLeaf) → In l xs → ⊥) → xs ≡ []
+in-none [] f = refl
+in-none (x ∷ xs) f = absurd (f x (inl refl))
+
+module _ (s : State) (R : Ready s) where
+  -- an edge leads to the class of a field
+  abbrev EdgeOf : Edge → Type 0
+  EdgeOf e = (a : ℕ) × Link s a e
+
+  trail-edge : (es : List Edge) (a b : ℕ) (e : Edge) → Trail s a es b → In e es → EdgeOf e
+  trail-edge [] a b e w i = absurd i
+  trail-edge (d ∷ es) a b e (k, w) (inl q) = (a, subst⁻¹ (Link s a) q k)
+  trail-edge (d ∷ es) a b e (k, w) (inr i) = trail-edge es (d .app) b e w i
+
+  ringed-edge : (es : List Edge) → Ringed s es → (e : Edge) → In e es → EdgeOf e
+  ringed-edge es G e i = go (subst (λ (zs : List Edge). In e zs) (G .edges) i)
+    where
+      go : In e (G .closing ∷ G .rest) → EdgeOf e
+      go (inl q) = (G .last, subst⁻¹ (Link s (G .last)) q (G .link))
+      go (inr j) = trail-edge (G .rest) (G .closing .app) (G .last) e (G .trail) j
+
+  edge-equal : (e : Edge) → EdgeOf e → T (equal s (e .field) (e .app))
+  edge-equal e (a, (k, (d, p, q))) = subst (λ (z : ℕ). T (equal s (e .field) z)) q (class-ctor s (e .field) d p .2)
+
+  -- No number falls along each edge of a ring.
+  module _ (m : ℕ → ℕ) (falls : (a f : ℕ) → KidOf s a f → m f < m a) where
+    trail-falls : (es : List Edge) (a b : ℕ) → Trail s a es b → ((e : Edge) → In e es → m (e .field) ≡ m (e .app)) → m b ≤ m a
+    trail-falls [] a b q h = subst (λ (z : ℕ). m z ≤ m a) q (omega arith)
+    trail-falls (e ∷ es) a b ((k, d), w) h =
+        let x = trail-falls es (e .app) b w (λ f i. h f (inr i)) in
+        let y = falls a (e .field) k in
+        let z = h e (inl refl) in
+        omega arith
+
+    ring-falls : (es : List Edge) → Ringed s es → ((e : Edge) → In e es → m (e .field) ≡ m (e .app)) → ⊥
+    ring-falls es G h =
+        let H : (e : Edge) → In e (G .closing ∷ G .rest) → m (e .field) ≡ m (e .app) = λ e i. h e (subst⁻¹ (λ (zs : List Edge). In e zs) (G .edges) i) in
+        let x = trail-falls (G .rest) (G .closing .app) (G .last) (G .trail) (λ e i. H e (inr i)) in
+        let y = falls (G .last) (G .closing .field) (G .link .0) in
+        let z = H (G .closing) (inl refl) in
+        omega arith
+
+  kid-size : (r : Reading (s .terms)) (a f : ℕ) → KidOf s a f → size (value r f) < size (value r a)
+  unfolding size
+  kid-size r a f (c, p, i) =
+      let C = ctor-app-is (s .terms) a c p in
+      subst⁻¹ (λ (v : Value (r .Element)). size (value r f) < size v) (ctor-value r (R .formed) a (c .ctor) (c .fields) (C .op) (C .args) (C .role))
+      (let h = member-size r (c .fields) f (kid-field (s .terms) c f i .0) in omega arith)
+
+  kid-lower : (a f : ℕ) → KidOf s a f → f < a
+  kid-lower a f (c, p, i) =
+      let C = ctor-app-is (s .terms) a c p in
+      R .formed .lower a (app-within (s .terms) a (c .ctor) (C .op)) f (subst⁻¹ (λ (zs : List ℕ). In f zs) (C .args) (kid-field (s .terms) c f i .0))
+
+  pub ring-refuted : (Said : ℕ → ℕ → Type 0) (es : List Edge) → Ringed s es → Refuted s Said (acyclicity-conflict s es)
+  unfolding acyclicity-conflict
+  ring-refuted Said es G = record {
+    cites = λ l i. inl (edges-cite (s .eq) es l (firsts-in (edge-leaves (s .eq) es) l .0 i));
+    impossible = λ r True S H h. ring-falls (λ t. size (value r t)) (kid-size r) es G
+        (λ e i. ap (λ (v : Value (r .Element)). size v) (forced s R r True (e .field) (e .app) S (edge-equal e (ringed-edge es G e i)) (λ l j. h l (firsts-in (edge-leaves (s .eq) es) l .1 (edge-in (s .eq) es e l i j)))));
+    some-leaf = λ z. ring-falls (λ t. t) kid-lower es G (λ e i. alone e i (firsts-empty (edge-leaves (s .eq) es) z));
+  }
+    where
+      alone : (e : Edge) → In e es → edge-leaves (s .eq) es ≡ [] → e .field ≡ e .app
+      alone e i z =
+          by-test (eqb (e .field) (e .app)) (λ q. eqb-true (e .field) (e .app) q)
+          (λ q. absurd (nonempty s R (e .field) (e .app) (eqb-false (e .field) (e .app) q) (edge-equal e (ringed-edge es G e i))
+          (in-none (explain (s .eq) (e .field) (e .app)) (λ l j. subst (λ (xs : List EqLeaf). In l xs) z (edge-in (s .eq) es e l i j)))))
