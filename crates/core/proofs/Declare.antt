@@ -17,7 +17,7 @@ use Rattle.core.specs.Context.{Context, empty-context, with-symbols, dec
 use Rattle.core.specs.Table.{word, words, sorts#, symbols#, terms#, owner-word, result-word, arity-word, params-at, op-word, offset, pool-at, node-of, role-of, sort-at, symbol-at, term-at, context, Sound, sealed-symbol, SymbolRoom, SymbolAdded}
 use Rattle.core.specs.Codes.{Declares, declared-node}
 use Rattle.core.specs.declared.context.Declared as Declared
-use Rattle.core.proofs.Lists.{getD-sets-in, getD-sets-out, map-range-suc, map-range-cong, take-map-range}
+use Rattle.core.proofs.Lists.{and-no, getD-sets-in, getD-sets-out, map-range-suc, map-range-cong, take-map-range}
 use Rattle.core.proofs.Words.{Agree, length-words, words-at, words-agree, sorts-agree, symbols-agree, terms-agree, sorts-length, symbols-length}
 use Rattle.core.proofs.Parts.{SymbolsSound, TermsSound, from-parts, same-symbols, first-terms, same-terms}
 
@@ -132,10 +132,6 @@ truncated t n u z h e =
 declarations-yes : (cx : Context) → length (cx .sorts) ≤ 64 → length (cx .symbols) ≤ 512 → declarations-fit cx ≡ true
 unfolding declarations-fit
 declarations-yes cx h l = ap₂ (λ (a b : Bool). a && b) (le-leb (length (cx .sorts)) 64 h) (le-leb (length (cx .symbols)) 512 l)
-
-and-no : (a : Bool) → (a && false) ≡ false
-and-no true = refl
-and-no false = refl
 
 pub too-many-sorts : (cx : Context) → 64 < length (cx .sorts) → declarations-fit cx ≡ false
 unfolding declarations-fit

@@ -17,7 +17,7 @@ use Rattle.core.specs.Context.{Context, intern, mk-app, places, terms-fi
 use Rattle.core.specs.Table.{terms#, offset, pool-at, op-of, args-at, term-at, context, Sound, FindsApp, Appended}
 use Rattle.core.specs.Codes.{made-answer, made-context, AllBelow, MkApp}
 use Rattle.core.specs.declared.context.Made as Made
-use Rattle.core.proofs.Lists.{map-range-suc}
+use Rattle.core.proofs.Lists.{and-no, map-range-suc}
 use Rattle.core.proofs.Words.{length-words, terms-length}
 
 -- ---- argument places
@@ -70,10 +70,6 @@ fits cx h l = ap₂ (λ (a b : Bool). a && b) (le-leb (length (cx .terms)) 1024 
 too-many : (cx : Context) → 1024 < length (cx .terms) → terms-fit cx ≡ false
 unfolding terms-fit
 too-many cx h = ap (λ (a : Bool). a && leb (places cx) 4096) (lt-leb (length (cx .terms)) 1024 h)
-
-and-no : (a : Bool) → (a && false) ≡ false
-and-no true = refl
-and-no false = refl
 
 too-wide : (cx : Context) → 4096 < places cx → terms-fit cx ≡ false
 unfolding terms-fit

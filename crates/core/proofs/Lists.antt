@@ -15,6 +15,10 @@ use Rattle.core.specs.Lists.{keep, every, any, range, same-list}
 
 -- ---- tests
 
+pub and-no : (a : Bool) → (a && false) ≡ false
+and-no true = refl
+and-no false = refl
+
 pub T-and : (a b : Bool) → T (a && b) → T a × T b
 T-and true b t = (tt, t)
 T-and false b t = absurd t

@@ -3,8 +3,6 @@ use lib.ListN.{length}
 use borrow.Author.Needs.{needs}
 use Rattle.core_main.proofs.folded.Statement.{statement}
 use Rattle.core_main.proofs.folded.Tie as tie
-use Rattle.core_main.proofs.folded.Reads as reads
-use Rattle.core_main.proofs.folded.Lts as lts
 
 abbrev Inv-loop : tie.InvT-loop
 Inv-loop xs all₀ i₀ all i = all < 1000000000
@@ -12,43 +10,33 @@ Inv-loop xs all₀ i₀ all i = all < 1000000000
 abbrev μ-loop : tie.MeasureT-loop
 μ-loop xs all₀ i₀ all i = length xs - i
 
--- src/main.rt:201:5
 loop-holds : tie.Need-loop-holds Inv-loop μ-loop
 loop-holds c = search needs
 
--- src/main.rt:202:16
 mul-all : tie.Need-mul-all Inv-loop μ-loop
 mul-all c = search needs
 
--- src/main.rt:202:29
 mul-all-2 : tie.Need-mul-all-2 Inv-loop μ-loop
 mul-all-2 c = search needs
 
--- src/main.rt:202:29
 shared-slice-read-all : tie.Need-shared-slice-read-all Inv-loop μ-loop
 shared-slice-read-all c = search needs
 
--- src/main.rt:202:28
 cast-all : tie.Need-cast-all Inv-loop μ-loop
 cast-all c = search needs
 
--- src/main.rt:202:16
 add-all : tie.Need-add-all Inv-loop μ-loop
 add-all c = search needs
 
--- src/main.rt:203:9
 add-i : tie.Need-add-i Inv-loop μ-loop
 add-i c = search needs
 
--- src/main.rt:201:5
 loop-less : tie.Need-loop-less Inv-loop μ-loop
 loop-less c = search needs
 
--- src/main.rt:201:5
 loop-again : tie.Need-loop-again Inv-loop μ-loop
 loop-again c = search needs
 
--- src/main.rt:198:1
 returns : tie.Need-returns Inv-loop μ-loop
 returns c = search needs
 

@@ -6,10 +6,6 @@ use Rattle.core.proofs.Symbols.{Selecting, select-first, selector-room,
 use borrow.Author.Needs.{needs}
 use Rattle.core.proofs.context.add_selectors.Statement.{statement}
 use Rattle.core.proofs.context.add_selectors.Tie as tie
-use Rattle.core.proofs.context.add_selectors.Reads as reads
-use Rattle.core.proofs.context.add_selectors.Lts as lts
-use Rattle.core.proofs.context.add_symbol.Reads as add-symbol-reads
-use Rattle.core.proofs.context.wide.Reads as wide-reads
 
 abbrev Inv-loop : tie.InvT-loop
 Inv-loop t₀ c dt fields own i₀ t i = Selecting t₀ c dt fields t i
@@ -17,61 +13,47 @@ Inv-loop t₀ c dt fields own i₀ t i = Selecting t₀ c dt fields t i
 abbrev μ-loop : tie.MeasureT-loop
 μ-loop t₀ c dt fields own i₀ t i = length fields - i
 
--- src/context.rt:344:5
 loop-holds : tie.Need-loop-holds Inv-loop μ-loop
 loop-holds c = select-first _ _ _ _ (c .before .before .pre)
 
--- src/context.rt:345:23
 add-add-symbol : tie.Need-add-add-symbol Inv-loop μ-loop
 add-add-symbol c = let a = c .before .before .before .before .before .pre .room in omega arith
 
--- src/context.rt:345:23
 add-add-symbol-2 : tie.Need-add-add-symbol-2 Inv-loop μ-loop
 add-add-symbol-2 c = let a = c .before .before .before .before .before .pre .room in omega arith
 
--- src/context.rt:345:34
 add-add-symbol-3 : tie.Need-add-add-symbol-3 Inv-loop μ-loop
 add-add-symbol-3 c = let a = c .before .before .before .before .before .pre .room in omega arith
 
--- src/context.rt:345:46
 mul-wide : tie.Need-mul-wide Inv-loop μ-loop
 mul-wide c = search needs
 
--- src/context.rt:345:46
 shared-slice-read-wide : tie.Need-shared-slice-read-wide Inv-loop μ-loop
 shared-slice-read-wide c = search needs
 
--- src/context.rt:345:41
 wide-requires : tie.Need-wide-requires Inv-loop μ-loop
 wide-requires c κs = search needs
 
--- src/context.rt:345:58
 slice-aggregate-add-symbol : tie.Need-slice-aggregate-add-symbol Inv-loop μ-loop
 slice-aggregate-add-symbol c = search needs
 
--- src/context.rt:345:9
 add-symbol-requires : tie.Need-add-symbol-requires Inv-loop μ-loop
 add-symbol-requires c κs = selector-room _ _ _ _ _ _ _ (c .before .before .before .before .before .before .before .before .pre) (c .before .before .before .before .before .loop .inv) (c .before .before .before .before .loop-test .taken) (c .before .wide .ensures)
 
--- src/context.rt:346:9
 add-i : tie.Need-add-i Inv-loop μ-loop
 add-i c = search needs
 
--- src/context.rt:344:5
 loop-less : tie.Need-loop-less Inv-loop μ-loop
 loop-less c = search needs
 
--- src/context.rt:344:5
 loop-again : tie.Need-loop-again Inv-loop μ-loop
 loop-again c =
     let l : length (c .before .before .add-symbol .last .0) ≡ length (c .before .before .before .before .before .before .before .before .loop .t) = search needs in
     select-next _ _ _ _ _ _ _ _ (c .before .before .before .before .before .before .before .before .loop .inv) (c .before .before .before .before .before .before .before .loop-test .taken) (c .before .before .before .before .wide .ensures) l (c .before .before .add-symbol .ensures)
 
--- src/context.rt:338:1
 same-length : tie.Need-same-length Inv-loop μ-loop
 same-length c = c .before .loop .inv .long
 
--- src/context.rt:338:1
 returns : tie.Need-returns Inv-loop μ-loop
 returns c = select-done _ _ _ _ _ _ (c .before .loop .inv) (c .loop-test .left)
 

@@ -2,32 +2,22 @@ use Rattle.core.proofs.Declare.{add-symbol}
 use borrow.Author.Needs.{needs}
 use Rattle.core.proofs.context.add_symbol.Statement.{statement}
 use Rattle.core.proofs.context.add_symbol.Tie as tie
-use Rattle.core.proofs.context.add_symbol.Reads as reads
-use Rattle.core.proofs.context.add_symbol.Lts as lts
-use Rattle.core.proofs.context.push_children.Reads as push-children-reads
-use Rattle.core.proofs.context.seal_symbol.Reads as seal-symbol-reads
 
--- src/context.rt:315:29
 mul-push-children : tie.Need-mul-push-children
 mul-push-children c = search needs
 
--- src/context.rt:315:22
 add-push-children : tie.Need-add-push-children
 add-push-children c = search needs
 
--- src/context.rt:315:5
 push-children-requires : tie.Need-push-children-requires
 push-children-requires c κs = search needs
 
--- src/context.rt:316:5
 seal-symbol-requires : tie.Need-seal-symbol-requires
 seal-symbol-requires c κs = search needs
 
--- src/context.rt:311:1
 same-length : tie.Need-same-length
 same-length c = search needs
 
--- src/context.rt:311:1
 returns : tie.Need-returns
 returns c = add-symbol _ _ _ _ _ _ _ (c .before .before .before .before .before .before .before .before .before .before .pre) (c .before .before .before .before .before .before .push-children .ensures) (c .before .before .seal-symbol .ensures)
 

@@ -8,10 +8,6 @@ use Rattle.core.proofs.Constructors.{GroundedBelow, one-not-grounded, e
 use borrow.Author.Needs.{needs}
 use Rattle.core.proofs.context.all_grounded.Statement.{statement}
 use Rattle.core.proofs.context.all_grounded.Tie as tie
-use Rattle.core.proofs.context.all_grounded.Reads as reads
-use Rattle.core.proofs.context.all_grounded.Lts as lts
-use Rattle.core.proofs.context.grounded.Reads as grounded-reads
-use Rattle.core.proofs.table.get.Reads as get-reads
 
 abbrev Inv-loop : tie.InvT-loop
 Inv-loop t n s₀ s = GroundedBelow t s
@@ -19,46 +15,36 @@ Inv-loop t n s₀ s = GroundedBelow t s
 abbrev μ-loop : tie.MeasureT-loop
 μ-loop t n s₀ s = n - s
 
--- src/context.rt:460:9
 get-requires : tie.Need-get-requires Inv-loop μ-loop
 get-requires c κs = search needs
 
--- src/context.rt:462:5
 loop-holds : tie.Need-loop-holds Inv-loop μ-loop
 loop-holds c = λ k h. absurd (omega arith)
 
--- src/context.rt:463:19
 add-get : tie.Need-add-get Inv-loop μ-loop
 add-get c = search needs
 
--- src/context.rt:463:12
 get-requires-2 : tie.Need-get-requires-2 Inv-loop μ-loop
 get-requires-2 c κs = let z = c .before .before .before .before .pre in let e = c .before .before .get .ensures .0 in let l = z .long in let f = z .sorts-fit in omega arith
 
--- src/context.rt:464:17
 grounded-requires : tie.Need-grounded-requires Inv-loop μ-loop
 grounded-requires c κs = search needs
 
--- src/context.rt:465:17
 returns : tie.Need-returns Inv-loop μ-loop
 returns c = one-not-grounded _ _ _ _ (c .before .before .before .before .before .before .get .ensures .0) (c .before .before .before .before .loop-test .taken) (c .before .before .before .get2 .ensures .0) (c .before .before .if1 .taken) (sym (c .before .grounded .ensures) ∙ not-true _ (c .if2 .taken))
 
--- src/context.rt:468:9
 add-s : tie.Need-add-s Inv-loop μ-loop
 add-s c = search needs
 
--- src/context.rt:462:5
 loop-less : tie.Need-loop-less Inv-loop μ-loop
 loop-less c = search needs
 
--- src/context.rt:462:5
 loop-again : tie.Need-loop-again Inv-loop μ-loop
 loop-again c =
     let e = c .before .before .before .before .get .ensures .0 in
     below-more _ _ (c .before .before .before .loop .inv)
     (⊎-elim (λ w d. sym (w .1 .ensures) ∙ not-false _ (w .2 .left)) (λ w d. other-sort _ _ _ (omega arith) (c .before .get2 .ensures .0) (w .left) d) (c .if1 .came))
 
--- src/context.rt:456:1
 returns-2 : tie.Need-returns-2 Inv-loop μ-loop
 returns-2 c = each-grounded _ _ _ (c .before .before .get .ensures .0) (c .loop-test .left) (c .before .loop .inv)
 

@@ -2,32 +2,22 @@ use Rattle.core.proofs.Append.{append}
 use borrow.Author.Needs.{needs}
 use Rattle.core.proofs.context.append_term.Statement.{statement}
 use Rattle.core.proofs.context.append_term.Tie as tie
-use Rattle.core.proofs.context.append_term.Reads as reads
-use Rattle.core.proofs.context.append_term.Lts as lts
-use Rattle.core.proofs.context.push_children.Reads as push-children-reads
-use Rattle.core.proofs.context.seal_term.Reads as seal-term-reads
 
--- src/context.rt:202:22
 add-push-children : tie.Need-add-push-children
 add-push-children c = search needs
 
--- src/context.rt:202:5
 push-children-requires : tie.Need-push-children-requires
 push-children-requires c κs = search needs
 
--- src/context.rt:203:27
 add-seal-term : tie.Need-add-seal-term
 add-seal-term c = search needs
 
--- src/context.rt:203:5
 seal-term-requires : tie.Need-seal-term-requires
 seal-term-requires c κs = search needs
 
--- src/context.rt:198:1
 same-length : tie.Need-same-length
 same-length c = search needs
 
--- src/context.rt:198:1
 returns : tie.Need-returns
 returns c =
     append _ _ _ _ _ _ _ (c .before .before .before .before .before .before .before .before .before .before .pre)

@@ -1,58 +1,42 @@
-use Rattle.core.proofs.Words.{terms-below}
+use Rattle.core.proofs.Words.{terms-below, stretch}
 use native.Mathlib.Omega.{arith}
-use Rattle.core.proofs.Words.{stretch}
 use borrow.Author.Needs.{needs}
 use Rattle.core.proofs.context.children.Statement.{statement}
 use Rattle.core.proofs.context.children.Tie as tie
-use Rattle.core.proofs.context.children.Reads as reads
-use Rattle.core.proofs.context.children.Lts as lts
-use Rattle.core.proofs.table.get.Reads as get-reads
 
--- src/context.rt:100:13
 cast-i : tie.Need-cast-i
 cast-i c = search needs
 
--- src/context.rt:101:31
 add-get : tie.Need-add-get
 add-get c = search needs
 
--- src/context.rt:101:24
 get-requires : tie.Need-get-requires
 get-requires c κs = search needs
 
--- src/context.rt:101:17
 add-start : tie.Need-add-start
 add-start c = search needs
 
--- src/context.rt:102:29
 add-get-2 : tie.Need-add-get-2
 add-get-2 c = search needs
 
--- src/context.rt:102:22
 get-requires-2 : tie.Need-get-requires-2
 get-requires-2 c κs = search needs
 
--- src/context.rt:102:15
 add-end : tie.Need-add-end
 add-end c = search needs
 
--- src/context.rt:103:5
 mul-result : tie.Need-mul-result
 mul-result c = search needs
 
--- src/context.rt:103:5
 sub-result : tie.Need-sub-result
 sub-result c = let z = c .before .before .before .before .pre in let s = stretch _ _ _ _ (z .0) (terms-below _ _ (z .1)) (c .before .get .ensures .0) (c .get2 .ensures .0) in omega arith
 
--- src/context.rt:103:5
 part-result-start : tie.Need-part-result-start
 part-result-start c = let z = c .before .before .before .before .pre in let s = stretch _ _ _ _ (z .0) (terms-below _ _ (z .1)) (c .before .get .ensures .0) (c .get2 .ensures .0) in omega arith
 
--- src/context.rt:103:5
 part-result-end : tie.Need-part-result-end
 part-result-end c = let z = c .before .before .before .before .pre in let s = stretch _ _ _ _ (z .0) (terms-below _ _ (z .1)) (c .before .get .ensures .0) (c .get2 .ensures .0) in let l = z .0 .long in omega arith
 
--- src/context.rt:96:1
 returns : tie.Need-returns
 returns c = let z = c .before .before .before .before .before .pre in stretch _ _ _ _ (z .0) (terms-below _ _ (z .1)) (c .before .before .get .ensures .0) (c .before .get2 .ensures .0) .is-children
 

@@ -2,28 +2,19 @@ use Rattle.core.proofs.Declare.{cleared}
 use borrow.Author.Needs.{needs}
 use Rattle.core.proofs.context.clear.Statement.{statement}
 use Rattle.core.proofs.context.clear.Tie as tie
-use Rattle.core.proofs.context.clear.Reads as reads
-use Rattle.core.proofs.context.clear.Lts as lts
-use Rattle.core.proofs.context.clear_counts.Reads as clear-counts-reads
-use Rattle.core.proofs.table.put.Reads as put-reads
 
--- src/context.rt:52:5
 clear-counts-requires : tie.Need-clear-counts-requires
 clear-counts-requires c κs = search needs
 
--- src/context.rt:53:5
 put-requires : tie.Need-put-requires
 put-requires c κs = search needs
 
--- src/context.rt:54:5
 put-requires-2 : tie.Need-put-requires-2
 put-requires-2 c κs = search needs
 
--- src/context.rt:48:1
 same-length : tie.Need-same-length
 same-length c = search needs
 
--- src/context.rt:48:1
 returns : tie.Need-returns
 returns c = cleared (c .before .before .before .before .before .before .before .before .before .before .before .before .before .args .t .now) _ _ _ (c .before .before .before .before .before .before .before .before .before .before .before .before .before .pre) (c .before .before .before .before .before .before .before .before .before .before .clear-counts .ensures) (c .before .before .before .before .before .before .put .ensures) (c .before .before .put2 .ensures)
 

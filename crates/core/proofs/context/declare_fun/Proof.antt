@@ -3,28 +3,19 @@ use Rattle.core.proofs.Symbols.{symbol-room, no-function, function-adde
 use borrow.Author.Needs.{needs}
 use Rattle.core.proofs.context.declare_fun.Statement.{statement}
 use Rattle.core.proofs.context.declare_fun.Tie as tie
-use Rattle.core.proofs.context.declare_fun.Reads as reads
-use Rattle.core.proofs.context.declare_fun.Lts as lts
-use Rattle.core.proofs.context.add_symbol.Reads as add-symbol-reads
-use Rattle.core.proofs.table.get.Reads as get-reads
 
--- src/context.rt:328:9
 get-requires : tie.Need-get-requires
 get-requires c κs = search needs
 
--- src/context.rt:330:9
 same-length : tie.Need-same-length
 same-length c = search needs
 
--- src/context.rt:330:9
 returns : tie.Need-returns
 returns c = no-function _ _ _ _ (c .before .before .before .before .before .pre .0) (c .before .get .ensures .0) (c .if1 .taken)
 
--- src/context.rt:332:16
 cast-sort : tie.Need-cast-sort
 cast-sort c = search needs
 
--- src/context.rt:333:5
 add-symbol-requires : tie.Need-add-symbol-requires
 add-symbol-requires c κs =
     let z = c .before .before .before .before .before .before .before .pre in
@@ -33,11 +24,9 @@ add-symbol-requires c κs =
     let f = z .0 .symbols-fit in
     symbol-room _ _ _ _ _ (z .0) e (omega arith) (omega arith) (z .1) (z .2) (z .3)
 
--- src/context.rt:324:1
 same-length-2 : tie.Need-same-length-2
 same-length-2 c = search needs
 
--- src/context.rt:324:1
 returns-2 : tie.Need-returns-2
 returns-2 c = function-added _ _ _ _ _ (c .before .before .add-symbol .ensures)
 

@@ -2,49 +2,34 @@ use Rattle.core.proofs.Declare.{no-more-sorts, sort-declared}
 use borrow.Author.Needs.{needs}
 use Rattle.core.proofs.context.declare_sort.Statement.{statement}
 use Rattle.core.proofs.context.declare_sort.Tie as tie
-use Rattle.core.proofs.context.declare_sort.Reads as reads
-use Rattle.core.proofs.context.declare_sort.Lts as lts
-use Rattle.core.proofs.context.node_code.Reads as node-code-reads
-use Rattle.core.proofs.table.get.Reads as get-reads
-use Rattle.core.proofs.table.put.Reads as put-reads
 
--- src/context.rt:295:9
 get-requires : tie.Need-get-requires
 get-requires c κs = search needs
 
--- src/context.rt:297:9
 same-length : tie.Need-same-length
 same-length c = search needs
 
--- src/context.rt:297:9
 returns : tie.Need-returns
 returns c = no-more-sorts _ _ _ (c .before .before .before .before .pre) (c .before .get .ensures .0) (c .if1 .taken)
 
--- src/context.rt:299:12
 add-put : tie.Need-add-put
 add-put c = search needs
 
--- src/context.rt:299:20
 node-code-requires : tie.Need-node-code-requires
 node-code-requires c κs = search needs
 
--- src/context.rt:299:5
 put-requires : tie.Need-put-requires
 put-requires c κs = search needs
 
--- src/context.rt:300:15
 add-put-2 : tie.Need-add-put-2
 add-put-2 c = search needs
 
--- src/context.rt:300:5
 put-requires-2 : tie.Need-put-requires-2
 put-requires-2 c κs = search needs
 
--- src/context.rt:291:1
 same-length-2 : tie.Need-same-length-2
 same-length-2 c = search needs
 
--- src/context.rt:291:1
 returns-2 : tie.Need-returns-2
 returns-2 c = sort-declared _ _ _ _ _ _ (c .before .before .before .before .before .before .before .before .before .before .before .before .before .pre) (c .before .before .before .before .before .before .before .before .before .before .get .ensures .0) (c .before .before .before .before .before .before .before .before .before .if1 .left) (c .before .before .before .before .before .before .before .node-code .ensures .0) (c .before .before .before .before .before .before .put .ensures) (c .before .before .put2 .ensures)
 

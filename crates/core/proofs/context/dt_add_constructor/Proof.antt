@@ -4,42 +4,28 @@ use Rattle.core.proofs.Symbols.{symbol-room, no-constructor, tester-roo
 use borrow.Author.Needs.{needs}
 use Rattle.core.proofs.context.dt_add_constructor.Statement.{statement}
 use Rattle.core.proofs.context.dt_add_constructor.Tie as tie
-use Rattle.core.proofs.context.dt_add_constructor.Reads as reads
-use Rattle.core.proofs.context.dt_add_constructor.Lts as lts
-use Rattle.core.proofs.context.add_selectors.Reads as add-selectors-reads
-use Rattle.core.proofs.context.add_symbol.Reads as add-symbol-reads
-use Rattle.core.proofs.context.wide.Reads as wide-reads
-use Rattle.core.proofs.table.get.Reads as get-reads
 
--- src/context.rt:361:9
 get-requires : tie.Need-get-requires
 get-requires c κs = search needs
 
--- src/context.rt:362:8
 sub-if1 : tie.Need-sub-if1
 sub-if1 c = search needs
 
--- src/context.rt:362:18
 add-if1 : tie.Need-add-if1
 add-if1 c = search needs
 
--- src/context.rt:363:9
 same-length : tie.Need-same-length
 same-length c = search needs
 
--- src/context.rt:363:9
 returns : tie.Need-returns
 returns c = no-constructor _ _ _ _ (c .before .before .before .before .before .pre .0) (c .before .get .ensures .0) (c .if1 .taken)
 
--- src/context.rt:366:22
 add-add-symbol : tie.Need-add-add-symbol
 add-add-symbol c = search needs
 
--- src/context.rt:366:29
 wide-requires : tie.Need-wide-requires
 wide-requires c κs = search needs
 
--- src/context.rt:366:5
 add-symbol-requires : tie.Need-add-symbol-requires
 add-symbol-requires c κs =
     let z = c .before .before .before .before .before .before .before .pre in
@@ -48,35 +34,28 @@ add-symbol-requires c κs =
     let g = c .before .before .if1 .left in
     symbol-room _ _ _ _ _ (z .0) e (omega arith) (omega arith) (omega arith) (z .2) (z .3)
 
--- src/context.rt:368:19
 add-add-symbol-2 : tie.Need-add-add-symbol-2
 add-add-symbol-2 c = search needs
 
--- src/context.rt:368:26
 add-add-symbol-3 : tie.Need-add-add-symbol-3
 add-add-symbol-3 c = search needs
 
--- src/context.rt:368:36
 slice-aggregate-add-symbol : tie.Need-slice-aggregate-add-symbol
 slice-aggregate-add-symbol c = search needs
 
--- src/context.rt:368:5
 add-symbol-requires-2 : tie.Need-add-symbol-requires-2
 add-symbol-requires-2 c κs =
     let z = c .before .before .before .before .before .before .before .before .before .before .before .before .pre in
     tester-room _ _ _ _ _ _ (z .0) (sorts-below _ _ (z .1)) (c .before .before .before .before .before .before .before .before .get .ensures .0) (c .before .before .before .before .before .before .before .if1 .left) (c .before .before .before .before .add-symbol .ensures)
 
--- src/context.rt:369:5
 add-selectors-requires : tie.Need-add-selectors-requires
 add-selectors-requires c κs =
     let z = c .before .before .before .before .before .before .before .before .before .before .before .before .before .before .before .before .pre in
     selectors-room _ _ _ _ _ _ (z .0) (sorts-below _ _ (z .1)) (c .before .before .before .before .before .before .before .before .before .before .before .before .get .ensures .0) (c .before .before .before .before .before .before .before .before .before .before .before .if1 .left) (c .before .before .before .before .before .before .before .before .add-symbol .ensures) _ (λ j l. sorts-below _ _ (z .3 j l)) (c .before .before .before .add-symbol2 .ensures)
 
--- src/context.rt:357:1
 same-length-2 : tie.Need-same-length-2
 same-length-2 c = search needs
 
--- src/context.rt:357:1
 returns-2 : tie.Need-returns-2
 returns-2 c = constructor-added _ _ _ _ _ _ _ _ (c .before .before .before .before .before .before .before .before .before .before .before .before .before .before .before .get .ensures .0) (c .before .before .before .before .before .before .before .before .before .before .before .before .wide .ensures) (c .before .before .before .before .before .before .before .before .before .before .before .add-symbol .ensures) (c .before .before .before .before .before .before .add-symbol2 .ensures) (c .before .before .add-selectors .ensures)
 

@@ -2,14 +2,10 @@ use Rattle.core.specs.Context.{dt-tester}
 use borrow.Author.Needs.{needs}
 use Rattle.core.proofs.context.dt_tester.Statement.{statement}
 use Rattle.core.proofs.context.dt_tester.Tie as tie
-use Rattle.core.proofs.context.dt_tester.Reads as reads
-use Rattle.core.proofs.context.dt_tester.Lts as lts
 
--- src/context.rt:407:14
 add-t2 : tie.Need-add-t2
 add-t2 c = search needs
 
--- src/context.rt:403:1
 returns : tie.Need-returns
 unfolding dt-tester
 returns c = search needs

@@ -1,15 +1,11 @@
 use mathlib.Core.Path.{sym, _∙_}
-use Prim.Native.Nat.{ℕ, _+_, _-_, _≤_, _<_}
+use Prim.Native.Nat.{_-_, _≤_}
 use native.Mathlib.Omega.{arith}
 use borrow.Author.Count.{below-more}
 use Rattle.core.proofs.Apps.{NoneBelow, app-found, app-missing}
 use borrow.Author.Needs.{needs}
 use Rattle.core.proofs.context.find_app.Statement.{statement}
 use Rattle.core.proofs.context.find_app.Tie as tie
-use Rattle.core.proofs.context.find_app.Reads as reads
-use Rattle.core.proofs.context.find_app.Lts as lts
-use Rattle.core.proofs.context.is_app.Reads as is-app-reads
-use Rattle.core.proofs.table.get.Reads as get-reads
 
 abbrev Inv-loop : tie.InvT-loop
 Inv-loop t code args n i₀ i = (i ≤ n) × NoneBelow t code args i
@@ -17,35 +13,27 @@ Inv-loop t code args n i₀ i = (i ≤ n) × NoneBelow t code args i
 abbrev μ-loop : tie.MeasureT-loop
 μ-loop t code args n i₀ i = n - i
 
--- src/context.rt:156:9
 get-requires : tie.Need-get-requires Inv-loop μ-loop
 get-requires c κs = search needs
 
--- src/context.rt:158:5
 loop-holds : tie.Need-loop-holds Inv-loop μ-loop
 loop-holds c = (search needs, λ k h. absurd (omega arith))
 
--- src/context.rt:159:12
 is-app-requires : tie.Need-is-app-requires Inv-loop μ-loop
 is-app-requires c κs = (c .before .before .before .before .before .pre, search needs)
 
--- src/context.rt:160:13
 returns : tie.Need-returns Inv-loop μ-loop
 returns c = app-found _ _ _ _ _ (c .before .before .before .before .get .ensures .0) (c .before .before .loop-test .taken) (c .before .before .before .loop .inv .1) (sym (c .if1 .taken) ∙ c .before .is-app .ensures)
 
--- src/context.rt:162:9
 add-i : tie.Need-add-i Inv-loop μ-loop
 add-i c = search needs
 
--- src/context.rt:158:5
 loop-less : tie.Need-loop-less Inv-loop μ-loop
 loop-less c = search needs
 
--- src/context.rt:158:5
 loop-again : tie.Need-loop-again Inv-loop μ-loop
 loop-again c = (search needs, below-more _ _ (c .before .before .before .loop .inv .1) (sym (c .before .is-app .ensures) ∙ c .if1 .left))
 
--- src/context.rt:152:1
 returns-2 : tie.Need-returns-2 Inv-loop μ-loop
 returns-2 c = app-missing _ _ _ _ _ (c .before .before .get .ensures .0) (c .before .loop .inv .0) (c .loop-test .left) (c .before .loop .inv .1)
 

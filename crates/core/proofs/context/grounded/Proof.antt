@@ -8,11 +8,6 @@ use native.Mathlib.Omega.{arith}
 use Rattle.core.proofs.Constructors.{UngroundedBelow, grounded-by, not-grounded}
 use Rattle.core.proofs.context.grounded.Statement.{statement}
 use Rattle.core.proofs.context.grounded.Tie as tie
-use Rattle.core.proofs.context.grounded.Reads as reads
-use Rattle.core.proofs.context.grounded.Lts as lts
-use Rattle.core.proofs.context.builds.Reads as builds-reads
-use Rattle.core.proofs.context.has_plain_fields.Reads as has-plain-fields-reads
-use Rattle.core.proofs.table.get.Reads as get-reads
 
 abbrev Inv-loop : tie.InvT-loop
 Inv-loop t dt n s₀ s = UngroundedBelow t dt s
@@ -20,41 +15,32 @@ Inv-loop t dt n s₀ s = UngroundedBelow t dt s
 abbrev μ-loop : tie.MeasureT-loop
 μ-loop t dt n s₀ s = n - s
 
--- src/context.rt:442:9
 get-requires : tie.Need-get-requires Inv-loop μ-loop
 get-requires c κs = search needs
 
--- src/context.rt:444:5
 loop-holds : tie.Need-loop-holds Inv-loop μ-loop
 loop-holds c = λ k h. absurd (omega arith)
 
--- src/context.rt:445:12
 builds-requires : tie.Need-builds-requires Inv-loop μ-loop
 builds-requires c κs = (c .before .before .before .before .pre, let e = c .before .before .get .ensures .0 in omega arith)
 
--- src/context.rt:446:16
 has-plain-fields-requires : tie.Need-has-plain-fields-requires Inv-loop μ-loop
 has-plain-fields-requires c κs = (c .before .before .before .before .before .before .pre, let e = c .before .before .before .before .get .ensures .0 in omega arith)
 
--- src/context.rt:447:17
 returns : tie.Need-returns Inv-loop μ-loop
 returns c = grounded-by _ _ _ _ (c .before .before .before .before .before .before .get .ensures .0) (c .before .before .before .before .loop-test .taken) (sym (c .before .before .if1 .taken) ∙ c .before .before .before .builds .ensures) (sym (c .if2 .taken) ∙ c .before .has-plain-fields .ensures)
 
--- src/context.rt:450:9
 add-s : tie.Need-add-s Inv-loop μ-loop
 add-s c = search needs
 
--- src/context.rt:444:5
 loop-less : tie.Need-loop-less Inv-loop μ-loop
 loop-less c = search needs
 
--- src/context.rt:444:5
 loop-again : tie.Need-loop-again Inv-loop μ-loop
 loop-again c =
     below-more _ _ (c .before .before .before .loop .inv)
     (⊎-elim (λ w b. sym (w .1 .ensures) ∙ w .2 .left) (λ w b. absurd (true≢false (sym b ∙ sym (c .before .builds .ensures) ∙ w .left))) (c .if1 .came))
 
--- src/context.rt:438:1
 returns-2 : tie.Need-returns-2 Inv-loop μ-loop
 returns-2 c = not-grounded _ _ _ _ (c .before .before .get .ensures .0) (c .loop-test .left) (c .before .loop .inv)
 

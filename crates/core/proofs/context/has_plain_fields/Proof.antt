@@ -5,9 +5,6 @@ use Rattle.core.proofs.Constructors.{PlainBelow, field-is-datatype, fie
 use borrow.Author.Needs.{needs}
 use Rattle.core.proofs.context.has_plain_fields.Statement.{statement}
 use Rattle.core.proofs.context.has_plain_fields.Tie as tie
-use Rattle.core.proofs.context.has_plain_fields.Reads as reads
-use Rattle.core.proofs.context.has_plain_fields.Lts as lts
-use Rattle.core.proofs.table.get.Reads as get-reads
 
 abbrev Inv-loop : tie.InvT-loop
 Inv-loop t s n at i₀ i = PlainBelow t s i
@@ -15,61 +12,47 @@ Inv-loop t s n at i₀ i = PlainBelow t s i
 abbrev μ-loop : tie.MeasureT-loop
 μ-loop t s n at i₀ i = n - i
 
--- src/context.rt:425:20
 add-get : tie.Need-add-get Inv-loop μ-loop
 add-get c = search needs
 
--- src/context.rt:425:9
 get-requires : tie.Need-get-requires Inv-loop μ-loop
 get-requires c κs = search needs
 
--- src/context.rt:426:21
 mul-at : tie.Need-mul-at Inv-loop μ-loop
 mul-at c = search needs
 
--- src/context.rt:426:14
 add-at : tie.Need-add-at Inv-loop μ-loop
 add-at c = search needs
 
--- src/context.rt:428:5
 loop-holds : tie.Need-loop-holds Inv-loop μ-loop
 loop-holds c = λ k h. absurd (omega arith)
 
--- src/context.rt:429:31
 add-get-2 : tie.Need-add-get-2 Inv-loop μ-loop
 add-get-2 c = search needs
 
--- src/context.rt:429:24
 get-requires-2 : tie.Need-get-requires-2 Inv-loop μ-loop
 get-requires-2 c κs = let z = c .before .before .before .before .pre in let e = c .before .before .get .ensures .0 in let m = z .0 .arity _ (z .1) in let l = z .0 .long in let f = z .0 .symbols-fit in omega arith
 
--- src/context.rt:429:19
 add-get-3 : tie.Need-add-get-3 Inv-loop μ-loop
 add-get-3 c = search needs
 
--- src/context.rt:429:12
 get-requires-3 : tie.Need-get-requires-3 Inv-loop μ-loop
 get-requires-3 c κs = let z = c .before .before .before .before .before .pre in let e = c .before .before .before .get .ensures .0 in let q = c .get2 .ensures .0 in let m = z .0 .param _ (z .1) (c .before .before .loop .i) (omega arith) in let l = z .0 .long in let f = z .0 .sorts-fit in omega arith
 
--- src/context.rt:430:13
 returns : tie.Need-returns Inv-loop μ-loop
 returns c = let z = c .before .before .before .before .before .before .before .pre in field-is-datatype _ _ _ _ _ _ (z .0) (z .1) (c .before .before .before .before .before .get .ensures .0) (c .before .before .before .loop-test .taken) (c .before .before .get2 .ensures .0) (c .before .get3 .ensures .0) (c .if1 .taken)
 
--- src/context.rt:432:9
 add-i : tie.Need-add-i Inv-loop μ-loop
 add-i c = search needs
 
--- src/context.rt:428:5
 loop-less : tie.Need-loop-less Inv-loop μ-loop
 loop-less c = search needs
 
--- src/context.rt:428:5
 loop-again : tie.Need-loop-again Inv-loop μ-loop
 loop-again c =
     let z = c .before .before .before .before .before .before .before .pre in
     below-more _ _ (c .before .before .before .before .loop .inv) (field-is-plain _ _ _ _ _ _ (z .0) (z .1) (c .before .before .before .before .before .get .ensures .0) (c .before .before .before .loop-test .taken) (c .before .before .get2 .ensures .0) (c .before .get3 .ensures .0) (c .if1 .left))
 
--- src/context.rt:421:1
 returns-2 : tie.Need-returns-2 Inv-loop μ-loop
 returns-2 c = let z = c .before .before .before .before .pre in fields-are-plain _ _ _ _ (z .1) (c .before .before .get .ensures .0) (c .loop-test .left) (c .before .loop .inv)
 

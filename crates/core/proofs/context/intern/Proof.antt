@@ -4,61 +4,43 @@ use Rattle.core.proofs.Intern.{made-old, no-more-terms, no-more-places,
 use borrow.Author.Needs.{needs}
 use Rattle.core.proofs.context.intern.Statement.{statement}
 use Rattle.core.proofs.context.intern.Tie as tie
-use Rattle.core.proofs.context.intern.Reads as reads
-use Rattle.core.proofs.context.intern.Lts as lts
-use Rattle.core.proofs.context.append_term.Reads as append-term-reads
-use Rattle.core.proofs.context.find_app.Reads as find-app-reads
-use Rattle.core.proofs.table.get.Reads as get-reads
 
--- src/context.rt:213:9
 get-requires : tie.Need-get-requires
 get-requires c κs = search needs
 
--- src/context.rt:214:9
 find-app-requires : tie.Need-find-app-requires
 find-app-requires c κs = search needs
 
--- src/context.rt:216:32
 cast-t12 : tie.Need-cast-t12
 cast-t12 c = search needs
 
--- src/context.rt:216:9
 same-length : tie.Need-same-length
 same-length c = search needs
 
--- src/context.rt:216:9
 returns : tie.Need-returns
 returns c = made-old _ _ _ (c .before .before .before .before .before .before .before .pre .0) _ _ (c .before .before .before .get .ensures .0) (c .before .find-app .ensures) (c .if1 .taken)
 
--- src/context.rt:219:9
 same-length-2 : tie.Need-same-length-2
 same-length-2 c = search needs
 
--- src/context.rt:219:9
 returns-2 : tie.Need-returns-2
 returns-2 c = no-more-terms _ _ _ (c .before .before .before .before .before .before .before .before .pre .0) _ _ (c .before .before .before .before .get .ensures .0) (c .before .before .find-app .ensures) (c .before .if1 .left) (c .if2 .taken)
 
--- src/context.rt:221:24
 add-get : tie.Need-add-get
 add-get c = search needs
 
--- src/context.rt:221:9
 get-requires-2 : tie.Need-get-requires-2
 get-requires-2 c κs = search needs
 
--- src/context.rt:222:8
 sub-if3 : tie.Need-sub-if3
 sub-if3 c = start-fits _ _ _ (c .before .before .before .before .before .before .before .before .before .before .pre .0) (c .before .before .before .before .before .before .get .ensures .0) (c .get2 .ensures .0)
 
--- src/context.rt:223:9
 same-length-3 : tie.Need-same-length-3
 same-length-3 c = search needs
 
--- src/context.rt:223:9
 returns-3 : tie.Need-returns-3
 returns-3 c = no-more-places _ _ _ (c .before .before .before .before .before .before .before .before .before .before .before .pre .0) _ _ _ (c .before .before .before .before .before .before .before .get .ensures .0) (c .before .before .before .before .before .find-app .ensures) (c .before .before .before .before .if1 .left) (c .before .get2 .ensures .0) (c .if3 .taken)
 
--- src/context.rt:225:5
 append-term-requires : tie.Need-append-term-requires
 append-term-requires c κs =
     let z = c .before .before .before .before .before .before .before .before .before .before .before .before .pre in
@@ -77,15 +59,12 @@ append-term-requires c κs =
       terms = λ j l. rw e (z .2 j l);
     }
 
--- src/context.rt:226:21
 cast-t21 : tie.Need-cast-t21
 cast-t21 c = search needs
 
--- src/context.rt:209:1
 same-length-4 : tie.Need-same-length-4
 same-length-4 c = search needs
 
--- src/context.rt:209:1
 returns-4 : tie.Need-returns-4
 returns-4 c =
     let z = c .before .before .before .before .before .before .before .before .before .before .before .before .before .before .before .pre .0 in

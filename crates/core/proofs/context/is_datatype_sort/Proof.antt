@@ -1,25 +1,17 @@
-use Rattle.core.proofs.Words.{sorts-below}
-use Rattle.core.proofs.Words.{datatype-word}
+use Rattle.core.proofs.Words.{sorts-below, datatype-word}
 use borrow.Author.Needs.{needs}
 use Rattle.core.proofs.context.is_datatype_sort.Statement.{statement}
 use Rattle.core.proofs.context.is_datatype_sort.Tie as tie
-use Rattle.core.proofs.context.is_datatype_sort.Reads as reads
-use Rattle.core.proofs.context.is_datatype_sort.Lts as lts
-use Rattle.core.proofs.table.get.Reads as get-reads
 
--- src/context.rt:46:13
 cast-i : tie.Need-cast-i
 cast-i c = search needs
 
--- src/context.rt:47:12
 add-get : tie.Need-add-get
 add-get c = search needs
 
--- src/context.rt:47:5
 get-requires : tie.Need-get-requires
 get-requires c κs = search needs
 
--- src/context.rt:42:1
 returns : tie.Need-returns
 returns c = datatype-word _ _ _ (sorts-below _ _ (c .before .before .before .pre .1)) (c .get .ensures .0)
 

@@ -3,25 +3,18 @@ use Rattle.core.proofs.Intern.{eq-code, two-below}
 use borrow.Author.Needs.{needs}
 use Rattle.core.proofs.context.mk_eq.Statement.{statement}
 use Rattle.core.proofs.context.mk_eq.Tie as tie
-use Rattle.core.proofs.context.mk_eq.Reads as reads
-use Rattle.core.proofs.context.mk_eq.Lts as lts
-use Rattle.core.proofs.context.intern.Reads as intern-reads
 
--- src/context.rt:242:18
 slice-aggregate-intern : tie.Need-slice-aggregate-intern
 slice-aggregate-intern c = search needs
 
--- src/context.rt:242:5
 intern-requires : tie.Need-intern-requires
 intern-requires c κs =
     let z = c .before .before .before .pre in
     (z .0, search needs, two-below _ _ _ (terms-below _ _ (z .1)) (terms-below _ _ (z .2)))
 
--- src/context.rt:237:1
 same-length : tie.Need-same-length
 same-length c = search needs
 
--- src/context.rt:237:1
 returns : tie.Need-returns
 returns c = eq-code _ _ _ _ (c .before .before .intern .ensures)
 

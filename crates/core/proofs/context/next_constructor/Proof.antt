@@ -5,11 +5,6 @@ use Rattle.core.proofs.Constructors.{Seeking, seek-first, seek-next, se
 use borrow.Author.Needs.{needs}
 use Rattle.core.proofs.context.next_constructor.Statement.{statement}
 use Rattle.core.proofs.context.next_constructor.Tie as tie
-use Rattle.core.proofs.context.next_constructor.Reads as reads
-use Rattle.core.proofs.context.next_constructor.Lts as lts
-use Rattle.core.proofs.context.builds.Reads as builds-reads
-use Rattle.core.proofs.context.wide.Reads as wide-reads
-use Rattle.core.proofs.table.get.Reads as get-reads
 
 abbrev Inv-loop : tie.InvT-loop
 Inv-loop t from n sort s₀ s = (s ≤ n) × Seeking t sort from s
@@ -17,41 +12,32 @@ Inv-loop t from n sort s₀ s = (s ≤ n) × Seeking t sort from s
 abbrev μ-loop : tie.MeasureT-loop
 μ-loop t from n sort s₀ s = n - s
 
--- src/context.rt:391:9
 get-requires : tie.Need-get-requires Inv-loop μ-loop
 get-requires c κs = search needs
 
--- src/context.rt:392:9
 wide-requires : tie.Need-wide-requires Inv-loop μ-loop
 wide-requires c κs = search needs
 
--- src/context.rt:394:5
 loop-holds : tie.Need-loop-holds Inv-loop μ-loop
 loop-holds c = let z = c .before .before .before .pre in let e = c .before .get .ensures .0 in (omega arith, seek-first _ _ _)
 
--- src/context.rt:395:12
 builds-requires : tie.Need-builds-requires Inv-loop μ-loop
 builds-requires c κs = let z = c .before .before .before .before .before .pre in let e = c .before .before .before .get .ensures .0 in (z .0, omega arith)
 
--- src/context.rt:396:13
 returns : tie.Need-returns Inv-loop μ-loop
 returns c =
     let e = c .before .before .before .before .wide .ensures in
     rw (← e) (seek-found _ _ _ _ _ (c .before .before .before .before .before .get .ensures .0) (c .before .before .before .loop .inv .1) (c .before .before .loop-test .taken) (sym (c .if1 .taken) ∙ c .before .builds .ensures))
 
--- src/context.rt:398:9
 add-s : tie.Need-add-s Inv-loop μ-loop
 add-s c = search needs
 
--- src/context.rt:394:5
 loop-less : tie.Need-loop-less Inv-loop μ-loop
 loop-less c = search needs
 
--- src/context.rt:394:5
 loop-again : tie.Need-loop-again Inv-loop μ-loop
 loop-again c = (omega arith, seek-next _ _ _ _ (c .before .before .before .loop .inv .1) (sym (c .before .builds .ensures) ∙ c .if1 .left))
 
--- src/context.rt:387:1
 returns-2 : tie.Need-returns-2 Inv-loop μ-loop
 returns-2 c =
     let e = c .before .before .wide .ensures in

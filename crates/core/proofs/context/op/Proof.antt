@@ -1,39 +1,28 @@
-use Rattle.core.proofs.Words.{terms-below}
+use Rattle.core.proofs.Words.{terms-below, op-is}
 use Rattle.core.proofs.Codes.{op-below}
-use mathlib.Core.Path.{sym, ap, _∙_}
-use Rattle.core.proofs.Words.{op-is}
+use mathlib.Core.Path.{ap, _∙_}
 use Rattle.core.specs.Table.{op-of, context}
 use lib.ListN.{length}
 use native.Mathlib.Omega.{arith}
 use borrow.Author.Needs.{needs}
 use Rattle.core.proofs.context.op.Statement.{statement}
 use Rattle.core.proofs.context.op.Tie as tie
-use Rattle.core.proofs.context.op.Reads as reads
-use Rattle.core.proofs.context.op.Lts as lts
-use Rattle.core.proofs.table.get.Reads as get-reads
-use Rattle.core.proofs.term.op_from.Reads as op-from-reads
 
--- src/context.rt:91:13
 cast-i : tie.Need-cast-i
 cast-i c = search needs
 
--- src/context.rt:92:20
 add-get : tie.Need-add-get
 add-get c = search needs
 
--- src/context.rt:92:13
 get-requires : tie.Need-get-requires
 get-requires c κs = search needs
 
--- src/context.rt:92:13
 cast-op-from : tie.Need-cast-op-from
 cast-op-from c = search needs
 
--- src/context.rt:92:5
 op-from-requires : tie.Need-op-from-requires
 op-from-requires c κs = search needs
 
--- src/context.rt:87:1
 returns : tie.Need-returns
 returns c =
     let z = c .before .before .before .before .pre in

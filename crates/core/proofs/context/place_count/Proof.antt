@@ -2,23 +2,16 @@ use Rattle.core.proofs.Constructors.{place-word}
 use borrow.Author.Needs.{needs}
 use Rattle.core.proofs.context.place_count.Statement.{statement}
 use Rattle.core.proofs.context.place_count.Tie as tie
-use Rattle.core.proofs.context.place_count.Reads as reads
-use Rattle.core.proofs.context.place_count.Lts as lts
-use Rattle.core.proofs.table.get.Reads as get-reads
 
--- src/context.rt:478:9
 get-requires : tie.Need-get-requires
 get-requires c κs = search needs
 
--- src/context.rt:479:12
 add-get : tie.Need-add-get
 add-get c = search needs
 
--- src/context.rt:479:5
 get-requires-2 : tie.Need-get-requires-2
 get-requires-2 c κs = search needs
 
--- src/context.rt:474:1
 returns : tie.Need-returns
 returns c = place-word _ _ _ (c .before .before .before .pre) (c .before .get .ensures .0) (c .get2 .ensures .0)
 

@@ -1,30 +1,21 @@
 use native.Mathlib.Omega.{arith}
-use Rattle.core.proofs.Words.{symbols-below}
-use Rattle.core.proofs.Words.{result-is}
+use Rattle.core.proofs.Words.{symbols-below, result-is}
 use borrow.Author.Needs.{needs}
 use Rattle.core.proofs.context.result_sort.Statement.{statement}
 use Rattle.core.proofs.context.result_sort.Tie as tie
-use Rattle.core.proofs.context.result_sort.Reads as reads
-use Rattle.core.proofs.context.result_sort.Lts as lts
-use Rattle.core.proofs.table.get.Reads as get-reads
 
--- src/context.rt:54:13
 cast-i : tie.Need-cast-i
 cast-i c = search needs
 
--- src/context.rt:55:19
 add-get : tie.Need-add-get
 add-get c = search needs
 
--- src/context.rt:55:12
 get-requires : tie.Need-get-requires
 get-requires c κs = search needs
 
--- src/context.rt:55:12
 cast-t6 : tie.Need-cast-t6
 cast-t6 c = search needs
 
--- src/context.rt:50:1
 returns : tie.Need-returns
 returns c =
     let z = c .before .before .before .pre in

@@ -1,15 +1,13 @@
 use borrow.Author.Count.{below-more}
 use Rattle.core.proofs.Words.{args-same, args-differ}
 use Prim.Native.Nat.{ℕ, _+_, _-_, _≤_, _<_}
-use mathlib.Core.Path.{_≡_, sym, _∙_}
+use mathlib.Core.Path.{_≡_, sym}
 use native.Mathlib.Omega.{arith}
 use lib.ListN.{length, getD}
 use Rattle.core.specs.Table.{word}
 use borrow.Author.Needs.{needs}
 use Rattle.core.proofs.context.same_args.Statement.{statement}
 use Rattle.core.proofs.context.same_args.Tie as tie
-use Rattle.core.proofs.context.same_args.Reads as reads
-use Rattle.core.proofs.context.same_args.Lts as lts
 
 abbrev Inv-loop : tie.InvT-loop
 Inv-loop t at args i₀ i = (i ≤ length args) × ((k : ℕ) → k < i → getD args k 0 ≡ word t (at + k))
@@ -17,50 +15,39 @@ Inv-loop t at args i₀ i = (i ≤ length args) × ((k : ℕ) → k < i → getD
 abbrev μ-loop : tie.MeasureT-loop
 μ-loop t at args i₀ i = length args - i
 
--- src/context.rt:126:5
 loop-holds : tie.Need-loop-holds Inv-loop μ-loop
 loop-holds c = (search needs, λ k h. absurd (omega arith))
 
--- src/context.rt:127:14
 add-if1 : tie.Need-add-if1 Inv-loop μ-loop
 add-if1 c = search needs
 
--- src/context.rt:127:12
 mul-if1 : tie.Need-mul-if1 Inv-loop μ-loop
 mul-if1 c = search needs
 
--- src/context.rt:127:12
 shared-slice-read-if1 : tie.Need-shared-slice-read-if1 Inv-loop μ-loop
 shared-slice-read-if1 c = search needs
 
--- src/context.rt:127:25
 mul-if1-2 : tie.Need-mul-if1-2 Inv-loop μ-loop
 mul-if1-2 c = search needs
 
--- src/context.rt:127:25
 shared-slice-read-if1-2 : tie.Need-shared-slice-read-if1-2 Inv-loop μ-loop
 shared-slice-read-if1-2 c = search needs
 
--- src/context.rt:128:13
 returns : tie.Need-returns Inv-loop μ-loop
 returns c = sym (args-differ _ _ _ (c .before .before .before .before .loop .i) (search needs) (c .if1 .taken))
 
--- src/context.rt:130:9
 add-i : tie.Need-add-i Inv-loop μ-loop
 add-i c = search needs
 
--- src/context.rt:126:5
 loop-less : tie.Need-loop-less Inv-loop μ-loop
 loop-less c = search needs
 
--- src/context.rt:126:5
 loop-again : tie.Need-loop-again Inv-loop μ-loop
 loop-again c = (
   search needs,
   below-more _ _ (c .before .before .before .before .loop .inv .1) (sym (c .if1 .left)),
 )
 
--- src/context.rt:121:1
 returns-2 : tie.Need-returns-2 Inv-loop μ-loop
 returns-2 c = sym (args-same _ _ _ (λ k l. c .before .loop .inv .1 k (omega arith)))
 

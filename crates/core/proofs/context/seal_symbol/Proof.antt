@@ -3,47 +3,34 @@ use Rattle.core.specs.Table.{sealed-symbol}
 use borrow.Author.Needs.{needs}
 use Rattle.core.proofs.context.seal_symbol.Statement.{statement}
 use Rattle.core.proofs.context.seal_symbol.Tie as tie
-use Rattle.core.proofs.context.seal_symbol.Reads as reads
-use Rattle.core.proofs.context.seal_symbol.Lts as lts
-use Rattle.core.proofs.table.put.Reads as put-reads
 
--- src/context.rt:304:12
 add-put : tie.Need-add-put
 add-put c = search needs
 
--- src/context.rt:304:5
 put-requires : tie.Need-put-requires
 put-requires c κs = search needs
 
--- src/context.rt:305:12
 add-put-2 : tie.Need-add-put-2
 add-put-2 c = search needs
 
--- src/context.rt:305:5
 put-requires-2 : tie.Need-put-requires-2
 put-requires-2 c κs = search needs
 
--- src/context.rt:306:12
 add-put-3 : tie.Need-add-put-3
 add-put-3 c = search needs
 
--- src/context.rt:306:5
 put-requires-3 : tie.Need-put-requires-3
 put-requires-3 c κs = search needs
 
--- src/context.rt:307:15
 add-put-4 : tie.Need-add-put-4
 add-put-4 c = search needs
 
--- src/context.rt:307:5
 put-requires-4 : tie.Need-put-requires-4
 put-requires-4 c κs = search needs
 
--- src/context.rt:300:1
 same-length : tie.Need-same-length
 same-length c = search needs
 
--- src/context.rt:300:1
 returns : tie.Need-returns
 unfolding sealed-symbol
 returns c =

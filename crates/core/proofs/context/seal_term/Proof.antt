@@ -3,39 +3,28 @@ use Rattle.core.proofs.Lists.{set-after}
 use borrow.Author.Needs.{needs}
 use Rattle.core.proofs.context.seal_term.Statement.{statement}
 use Rattle.core.proofs.context.seal_term.Tie as tie
-use Rattle.core.proofs.context.seal_term.Reads as reads
-use Rattle.core.proofs.context.seal_term.Lts as lts
-use Rattle.core.proofs.table.put.Reads as put-reads
 
--- src/context.rt:192:12
 add-put : tie.Need-add-put
 add-put c = search needs
 
--- src/context.rt:192:5
 put-requires : tie.Need-put-requires
 put-requires c κs = search needs
 
--- src/context.rt:193:12
 add-put-2 : tie.Need-add-put-2
 add-put-2 c = search needs
 
--- src/context.rt:193:5
 put-requires-2 : tie.Need-put-requires-2
 put-requires-2 c κs = search needs
 
--- src/context.rt:194:15
 add-put-3 : tie.Need-add-put-3
 add-put-3 c = search needs
 
--- src/context.rt:194:5
 put-requires-3 : tie.Need-put-requires-3
 put-requires-3 c κs = search needs
 
--- src/context.rt:188:1
 same-length : tie.Need-same-length
 same-length c = search needs
 
--- src/context.rt:188:1
 returns : tie.Need-returns
 unfolding sealed
 returns c =

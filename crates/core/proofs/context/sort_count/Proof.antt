@@ -1,17 +1,12 @@
-use mathlib.Core.Path.{sym, ap, _∙_}
+use mathlib.Core.Path.{sym, _∙_}
 use Rattle.core.proofs.Words.{sorts-length}
 use borrow.Author.Needs.{needs}
 use Rattle.core.proofs.context.sort_count.Statement.{statement}
 use Rattle.core.proofs.context.sort_count.Tie as tie
-use Rattle.core.proofs.context.sort_count.Reads as reads
-use Rattle.core.proofs.context.sort_count.Lts as lts
-use Rattle.core.proofs.table.get.Reads as get-reads
 
--- src/context.rt:23:5
 get-requires : tie.Need-get-requires
 get-requires c κs = search needs
 
--- src/context.rt:19:1
 returns : tie.Need-returns
 returns c = (c .get .ensures .0 ∙ sym (sorts-length _), rw (c .get .ensures .0) (c .before .before .pre .sorts-fit))
 

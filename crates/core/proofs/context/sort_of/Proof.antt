@@ -3,32 +3,22 @@ use Rattle.core.proofs.Codes.{symbol-below, eq-sort, symbol-sort}
 use borrow.Author.Needs.{needs}
 use Rattle.core.proofs.context.sort_of.Statement.{statement}
 use Rattle.core.proofs.context.sort_of.Tie as tie
-use Rattle.core.proofs.context.sort_of.Reads as reads
-use Rattle.core.proofs.context.sort_of.Lts as lts
-use Rattle.core.proofs.context.op.Reads as op-reads
-use Rattle.core.proofs.context.result_sort.Reads as result-sort-reads
 
--- src/context.rt:110:11
 op-requires : tie.Need-op-requires
 op-requires c κs = search needs
 
--- src/context.rt:111:19
 enum-told : tie.Need-enum-told
 enum-told c = search needs
 
--- src/context.rt:112:27
 enum-known-f : tie.Need-enum-known-f
 enum-known-f c = search needs
 
--- src/context.rt:112:33
 result-sort-requires : tie.Need-result-sort-requires
 result-sort-requires c κs = (c .before .before .before .before .before .pre .0, symbol-below _ _ _ _ (c .before .before .before .op .ensures) (c .before .f .given .1))
 
--- src/context.rt:106:1
 returns : tie.Need-returns
 returns c = (eq-sort _ _ _ (c .before .before .op .ensures) (c .enum-told .given .1), let z = c .before .before .before .before .pre .0 in omega arith)
 
--- src/context.rt:106:1
 returns-2 : tie.Need-returns-2
 returns-2 c = (symbol-sort _ _ _ _ _ (c .before .before .before .before .op .ensures) (c .before .before .f .given .1) (c .result-sort .ensures .0), c .result-sort .ensures .1)
 

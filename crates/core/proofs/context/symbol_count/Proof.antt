@@ -1,17 +1,12 @@
-use mathlib.Core.Path.{sym, ap, _∙_}
+use mathlib.Core.Path.{sym, _∙_}
 use Rattle.core.proofs.Words.{symbols-length}
 use borrow.Author.Needs.{needs}
 use Rattle.core.proofs.context.symbol_count.Statement.{statement}
 use Rattle.core.proofs.context.symbol_count.Tie as tie
-use Rattle.core.proofs.context.symbol_count.Reads as reads
-use Rattle.core.proofs.context.symbol_count.Lts as lts
-use Rattle.core.proofs.table.get.Reads as get-reads
 
--- src/context.rt:30:5
 get-requires : tie.Need-get-requires
 get-requires c κs = search needs
 
--- src/context.rt:26:1
 returns : tie.Need-returns
 returns c = (c .get .ensures .0 ∙ sym (symbols-length _), rw (c .get .ensures .0) (c .before .before .pre .symbols-fit))
 

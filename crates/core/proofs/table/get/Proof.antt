@@ -3,22 +3,16 @@ use native.Mathlib.Omega.{arith}
 use borrow.Author.Needs.{needs}
 use Rattle.core.proofs.table.get.Statement.{statement}
 use Rattle.core.proofs.table.get.Tie as tie
-use Rattle.core.proofs.table.get.Reads as reads
-use Rattle.core.proofs.table.get.Lts as lts
 
--- src/table.rt:11:5
 mul-result : tie.Need-mul-result
 mul-result c = search needs
 
--- src/table.rt:11:5
 shared-slice-read-result : tie.Need-shared-slice-read-result
 shared-slice-read-result c = search needs
 
--- src/table.rt:11:5
 cast-result : tie.Need-cast-result
 cast-result c = omega (arith, c .shared-slice-known .given (c .before .args .i))
 
--- src/table.rt:7:1
 returns : tie.Need-returns
 returns c = (refl, omega (arith, c .shared-slice-known .given (c .before .args .i)))
 

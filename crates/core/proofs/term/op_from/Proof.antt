@@ -4,19 +4,14 @@ use Rattle.core.proofs.Codes.{op-of-zero, op-of-pred}
 use borrow.Author.Needs.{needs}
 use Rattle.core.proofs.term.op_from.Statement.{statement}
 use Rattle.core.proofs.term.op_from.Tie as tie
-use Rattle.core.proofs.term.op_from.Reads as reads
-use Rattle.core.proofs.term.op_from.Lts as lts
 
--- src/term.rt:27:36
 sub-t4 : tie.Need-sub-t4
 sub-t4 c = search needs
 
--- src/term.rt:21:1
 returns : tie.Need-returns
 unfolding opIs OpBelow
 returns c = (op-of-zero _ (c .if1 .taken), tt)
 
--- src/term.rt:21:1
 returns-2 : tie.Need-returns-2
 unfolding opIs OpBelow
 returns-2 c = (op-of-pred _ (c .if1 .left), omega arith)

@@ -4,41 +4,31 @@ use Rattle.core.proofs.Codes.{role-of-zero, role-of-ctor, role-of-teste
 use borrow.Author.Needs.{needs}
 use Rattle.core.proofs.term.role_from.Statement.{statement}
 use Rattle.core.proofs.term.role_from.Tie as tie
-use Rattle.core.proofs.term.role_from.Reads as reads
-use Rattle.core.proofs.term.role_from.Lts as lts
 
--- src/term.rt:37:9
 returns : tie.Need-returns
 unfolding roleIs RoleBelow
 returns c = (role-of-zero _ _ (c .if1 .taken), tt)
 
--- src/term.rt:39:16
 sub-ctor : tie.Need-sub-ctor
 sub-ctor c = search needs
 
--- src/term.rt:41:9
 returns-2 : tie.Need-returns-2
 unfolding roleIs RoleBelow
 returns-2 c = (role-of-ctor _ _ (c .before .if1 .left) (c .if2 .taken), tt)
 
--- src/term.rt:43:8
 sub-if3 : tie.Need-sub-if3
 sub-if3 c = search needs
 
--- src/term.rt:44:9
 returns-3 : tie.Need-returns-3
 unfolding roleIs RoleBelow
 returns-3 c = (role-of-tester _ _ (c .before .before .if1 .left) (c .if3 .taken), omega arith)
 
--- src/term.rt:46:38
 sub-t5 : tie.Need-sub-t5
 sub-t5 c = search needs
 
--- src/term.rt:46:38
 sub-t8 : tie.Need-sub-t8
 sub-t8 c = search needs
 
--- src/term.rt:32:1
 returns-4 : tie.Need-returns-4
 unfolding roleIs RoleBelow
 returns-4 c = (role-of-selector _ _ (c .before .before .if1 .left) (omega arith) (c .before .if2 .left) (c .if3 .left), omega arith)

@@ -5,9 +5,6 @@ use Rattle.theory.proofs.Registers.{Emptying, empty-first, empty-next, 
 use borrow.Author.Needs.{needs}
 use Rattle.theory.proofs.atom.clear.Statement.{statement}
 use Rattle.theory.proofs.atom.clear.Tie as tie
-use Rattle.theory.proofs.atom.clear.Reads as reads
-use Rattle.theory.proofs.atom.clear.Lts as lts
-use Rattle.core.proofs.table.put.Reads as put-reads
 
 abbrev Inv-loop : tie.InvT-loop
 Inv-loop t₀ k₀ t k = Emptying t₀ t k
@@ -15,49 +12,38 @@ Inv-loop t₀ k₀ t k = Emptying t₀ t k
 abbrev μ-loop : tie.MeasureT-loop
 μ-loop t₀ k₀ t k = 1024 - k
 
--- src/atom.rt:64:5
 put-requires : tie.Need-put-requires Inv-loop μ-loop
 put-requires c κs = search needs
 
--- src/atom.rt:66:5
 loop-holds : tie.Need-loop-holds Inv-loop μ-loop
 loop-holds c = empty-first (c .before .before .before .before .before .args .t .now) _ (c .before .before .before .before .before .pre) (c .before .before .put .ensures)
 
--- src/atom.rt:67:16
 add-put : tie.Need-add-put Inv-loop μ-loop
 add-put c = search needs
 
--- src/atom.rt:67:9
 put-requires-2 : tie.Need-put-requires-2 Inv-loop μ-loop
 put-requires-2 c κs = search needs
 
--- src/atom.rt:68:16
 add-put-2 : tie.Need-add-put-2 Inv-loop μ-loop
 add-put-2 c = search needs
 
--- src/atom.rt:68:9
 put-requires-3 : tie.Need-put-requires-3 Inv-loop μ-loop
 put-requires-3 c κs = search needs
 
--- src/atom.rt:69:9
 add-k : tie.Need-add-k Inv-loop μ-loop
 add-k c = search needs
 
--- src/atom.rt:66:5
 loop-less : tie.Need-loop-less Inv-loop μ-loop
 loop-less c = search needs
 
--- src/atom.rt:66:5
 loop-again : tie.Need-loop-again Inv-loop μ-loop
 loop-again c = empty-next _ _ _ _ _ (c .before .before .before .before .before .before .before .before .before .loop .inv) (c .before .before .before .before .before .before .before .before .loop-test .taken) (c .before .before .before .before .before .before .put2 .ensures) (c .before .before .put3 .ensures)
 
--- src/atom.rt:60:1
 same-length : tie.Need-same-length Inv-loop μ-loop
 same-length c =
     let l : length (c .before .before .before .before .put .last .0) ≡ length (c .before .before .before .before .before .before .before .args .t .now) = search needs in
     c .before .loop .inv .long ∙ l
 
--- src/atom.rt:60:1
 returns : tie.Need-returns Inv-loop μ-loop
 returns c = empty-done _ _ _ (c .before .loop .inv) (c .loop-test .left)
 

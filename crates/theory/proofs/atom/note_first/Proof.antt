@@ -2,44 +2,31 @@ use Rattle.theory.proofs.Registering.{noted-new, noted-old}
 use borrow.Author.Needs.{needs}
 use Rattle.theory.proofs.atom.note_first.Statement.{statement}
 use Rattle.theory.proofs.atom.note_first.Tie as tie
-use Rattle.theory.proofs.atom.note_first.Reads as reads
-use Rattle.theory.proofs.atom.note_first.Lts as lts
-use Rattle.core.proofs.table.get.Reads as get-reads
-use Rattle.core.proofs.table.put.Reads as put-reads
 
--- src/atom.rt:63:15
 add-get : tie.Need-add-get
 add-get c = search needs
 
--- src/atom.rt:63:8
 get-requires : tie.Need-get-requires
 get-requires c κs = search needs
 
--- src/atom.rt:64:16
 add-put : tie.Need-add-put
 add-put c = search needs
 
--- src/atom.rt:64:26
 add-put-2 : tie.Need-add-put-2
 add-put-2 c = search needs
 
--- src/atom.rt:64:9
 put-requires : tie.Need-put-requires
 put-requires c κs = search needs
 
--- src/atom.rt:59:1
 same-length : tie.Need-same-length
 same-length c = search needs
 
--- src/atom.rt:59:1
 returns : tie.Need-returns
 returns c = noted-new _ _ _ _ _ (c .before .before .before .before .before .get .ensures .0) (c .before .before .before .before .if1 .taken) (c .before .before .put .ensures)
 
--- src/atom.rt:59:1
 same-length-2 : tie.Need-same-length-2
 same-length-2 c = search needs
 
--- src/atom.rt:59:1
 returns-2 : tie.Need-returns-2
 returns-2 c = noted-old _ _ _ _ (c .before .get .ensures .0) (c .if1 .left)
 

@@ -3,36 +3,26 @@ use Rattle.theory.proofs.Registering.{no-var, one-var}
 use borrow.Author.Needs.{needs}
 use Rattle.theory.proofs.atom.var_of_atom.Statement.{statement}
 use Rattle.theory.proofs.atom.var_of_atom.Tie as tie
-use Rattle.theory.proofs.atom.var_of_atom.Reads as reads
-use Rattle.theory.proofs.atom.var_of_atom.Lts as lts
-use Rattle.core.proofs.table.get.Reads as get-reads
 
--- src/atom.rt:45:13
 cast-i : tie.Need-cast-i
 cast-i c = search needs
 
--- src/atom.rt:46:20
 add-get : tie.Need-add-get
 add-get c = search needs
 
--- src/atom.rt:46:9
 get-requires : tie.Need-get-requires
 get-requires c κs = search needs
 
--- src/atom.rt:50:27
 sub-t8 : tie.Need-sub-t8
 sub-t8 c = search needs
 
--- src/atom.rt:50:26
 cast-t9 : tie.Need-cast-t9
 cast-t9 c = search needs
 
--- src/atom.rt:41:1
 returns : tie.Need-returns
 unfolding firstVarIs
 returns c = let z = c .before .before .before .before .pre in no-var _ _ _ (z .0) (z .1) (c .before .get .ensures .0) (c .if1 .taken)
 
--- src/atom.rt:41:1
 returns-2 : tie.Need-returns-2
 unfolding firstVarIs
 returns-2 c = let z = c .before .before .before .before .pre in one-var _ _ _ (z .0) (z .1) (c .before .get .ensures .0) (c .if1 .left)

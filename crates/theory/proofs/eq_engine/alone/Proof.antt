@@ -2,39 +2,28 @@ use Rattle.core.proofs.Lists.{set-after}
 use borrow.Author.Needs.{needs}
 use Rattle.theory.proofs.eq_engine.alone.Statement.{statement}
 use Rattle.theory.proofs.eq_engine.alone.Tie as tie
-use Rattle.theory.proofs.eq_engine.alone.Reads as reads
-use Rattle.theory.proofs.eq_engine.alone.Lts as lts
-use Rattle.core.proofs.table.put.Reads as put-reads
 
--- src/eq_engine.rt:40:12
 add-put : tie.Need-add-put
 add-put c = search needs
 
--- src/eq_engine.rt:40:5
 put-requires : tie.Need-put-requires
 put-requires c κs = search needs
 
--- src/eq_engine.rt:41:12
 add-put-2 : tie.Need-add-put-2
 add-put-2 c = search needs
 
--- src/eq_engine.rt:41:5
 put-requires-2 : tie.Need-put-requires-2
 put-requires-2 c κs = search needs
 
--- src/eq_engine.rt:42:12
 add-put-3 : tie.Need-add-put-3
 add-put-3 c = search needs
 
--- src/eq_engine.rt:42:5
 put-requires-3 : tie.Need-put-requires-3
 put-requires-3 c κs = search needs
 
--- src/eq_engine.rt:36:1
 same-length : tie.Need-same-length
 same-length c = search needs
 
--- src/eq_engine.rt:36:1
 returns : tie.Need-returns
 returns c = set-after _ _ _ _ _ (c .before .before .put3 .ensures) (set-after _ _ _ _ _ (c .before .before .before .before .before .before .put2 .ensures) (c .before .before .before .before .before .before .before .before .before .before .put .ensures))
 

@@ -1,15 +1,10 @@
 use mathlib.Core.Path.{_≡_, _∙_}
 use lib.ListN.{length}
 use Prim.Native.Nat.{_-_}
-use native.Mathlib.Omega.{arith}
 use Rattle.theory.proofs.Clearing.{Clearing, clear-first, clear-next, clear-done}
 use borrow.Author.Needs.{needs}
 use Rattle.theory.proofs.eq_engine.clear.Statement.{statement}
 use Rattle.theory.proofs.eq_engine.clear.Tie as tie
-use Rattle.theory.proofs.eq_engine.clear.Reads as reads
-use Rattle.theory.proofs.eq_engine.clear.Lts as lts
-use Rattle.core.proofs.table.put.Reads as put-reads
-use Rattle.theory.proofs.eq_engine.alone.Reads as alone-reads
 
 abbrev Inv-loop : tie.InvT-loop
 Inv-loop t₀ n₀ t n = Clearing t₀ t n
@@ -17,41 +12,32 @@ Inv-loop t₀ n₀ t n = Clearing t₀ t n
 abbrev μ-loop : tie.MeasureT-loop
 μ-loop t₀ n₀ t n = 1024 - n
 
--- src/eq_engine.rt:50:5
 put-requires : tie.Need-put-requires Inv-loop μ-loop
 put-requires c κs = search needs
 
--- src/eq_engine.rt:51:5
 put-requires-2 : tie.Need-put-requires-2 Inv-loop μ-loop
 put-requires-2 c κs = search needs
 
--- src/eq_engine.rt:53:5
 loop-holds : tie.Need-loop-holds Inv-loop μ-loop
 loop-holds c = clear-first (c .before .before .before .before .before .before .before .before .before .args .t .now) _ _ (c .before .before .before .before .before .before .before .before .before .pre) (c .before .before .before .before .before .before .put .ensures) (c .before .before .put2 .ensures)
 
--- src/eq_engine.rt:54:9
 alone-requires : tie.Need-alone-requires Inv-loop μ-loop
 alone-requires c κs = (c .before .before .loop .inv .fits, search needs)
 
--- src/eq_engine.rt:55:9
 add-n : tie.Need-add-n Inv-loop μ-loop
 add-n c = search needs
 
--- src/eq_engine.rt:53:5
 loop-less : tie.Need-loop-less Inv-loop μ-loop
 loop-less c = search needs
 
--- src/eq_engine.rt:53:5
 loop-again : tie.Need-loop-again Inv-loop μ-loop
 loop-again c = clear-next _ _ _ _ (c .before .before .before .before .before .loop .inv) (c .before .before .before .before .loop-test .taken) (c .before .before .alone .ensures)
 
--- src/eq_engine.rt:46:1
 same-length : tie.Need-same-length Inv-loop μ-loop
 same-length c =
     let l : length (c .before .before .before .before .put2 .last .0) ≡ length (c .before .before .before .before .before .before .before .before .before .before .before .args .t .now) = search needs in
     c .before .loop .inv .long ∙ l
 
--- src/eq_engine.rt:46:1
 returns : tie.Need-returns Inv-loop μ-loop
 returns c = clear-done _ _ _ (c .before .loop .inv) (c .loop-test .left)
 

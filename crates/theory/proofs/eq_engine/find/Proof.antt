@@ -5,9 +5,6 @@ use Rattle.theory.proofs.Nodes.{Climb, climb-first, climb-within, climb
 use borrow.Author.Needs.{needs}
 use Rattle.theory.proofs.eq_engine.find.Statement.{statement}
 use Rattle.theory.proofs.eq_engine.find.Tie as tie
-use Rattle.theory.proofs.eq_engine.find.Reads as reads
-use Rattle.theory.proofs.eq_engine.find.Lts as lts
-use Rattle.core.proofs.table.get.Reads as get-reads
 
 abbrev Inv-loop : tie.InvT-loop
 Inv-loop t node n₀ up₀ n up = Climb t node n up
@@ -15,23 +12,18 @@ Inv-loop t node n₀ up₀ n up = Climb t node n up
 abbrev μ-loop : tie.MeasureT-loop
 μ-loop t node n₀ up₀ n up = depth (merges t) n
 
--- src/eq_engine.rt:18:25
 add-get : tie.Need-add-get Inv-loop μ-loop
 add-get c = search needs
 
--- src/eq_engine.rt:18:9
 get-requires : tie.Need-get-requires Inv-loop μ-loop
 get-requires c κs = search needs
 
--- src/eq_engine.rt:19:5
 loop-holds : tie.Need-loop-holds Inv-loop μ-loop
 loop-holds c = let z = c .before .before .pre in climb-first _ _ _ (z .0) (z .1) (c .get .ensures .0)
 
--- src/eq_engine.rt:21:21
 add-get-2 : tie.Need-add-get-2 Inv-loop μ-loop
 add-get-2 c = let w = climb-within _ _ _ _ (c .before .before .before .before .pre .0) (c .before .loop .inv) in omega arith
 
--- src/eq_engine.rt:21:9
 get-requires-2 : tie.Need-get-requires-2 Inv-loop μ-loop
 get-requires-2 c κs =
     let z = c .before .before .before .before .pre .0 in
@@ -39,15 +31,12 @@ get-requires-2 c κs =
     let l = z .long in
     omega arith
 
--- src/eq_engine.rt:19:5
 loop-less : tie.Need-loop-less Inv-loop μ-loop
 loop-less c = climb-less _ _ _ _ (c .before .before .before .before .before .pre .0) (c .before .before .loop .inv) (c .before .loop-test .taken)
 
--- src/eq_engine.rt:19:5
 loop-again : tie.Need-loop-again Inv-loop μ-loop
 loop-again c = climb-next _ _ _ _ _ (c .before .before .before .before .before .pre .0) (c .before .before .loop .inv) (c .before .loop-test .taken) (c .get2 .ensures .0)
 
--- src/eq_engine.rt:13:1
 returns : tie.Need-returns Inv-loop μ-loop
 returns c = climb-done _ _ _ _ (c .before .before .before .before .pre .0) (c .before .loop .inv) (c .loop-test .left)
 

@@ -2,22 +2,16 @@ use borrow.Author.Tests.{eq-eqb, ne-eqb}
 use borrow.Author.Needs.{needs}
 use Rattle.core.proofs.ids.Lit.negate.Statement.{statement}
 use Rattle.core.proofs.ids.Lit.negate.Tie as tie
-use Rattle.core.proofs.ids.Lit.negate.Reads as reads
-use Rattle.core.proofs.ids.Lit.negate.Lts as lts
 
--- src/ids.rt:42:17
 add-t5 : tie.Need-add-t5
 add-t5 c = search needs
 
--- src/ids.rt:44:17
 sub-t6 : tie.Need-sub-t6
 sub-t6 c = search needs
 
--- src/ids.rt:38:5
 returns : tie.Need-returns
 returns c = simp (eq-eqb _ _ (c .before .if1 .taken))
 
--- src/ids.rt:38:5
 returns-2 : tie.Need-returns-2
 returns-2 c = simp (ne-eqb _ _ (c .before .if1 .left))
 
