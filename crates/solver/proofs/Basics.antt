@@ -30,10 +30,6 @@ some-is x y e = Option·some-injective x y e
 
 -- ---- tests
 
-pub T-false : (b : Bool) → (T b → ⊥) → b ≡ false
-T-false true f = absurd (f tt)
-T-false false f = refl
-
 pub false-T : (b : Bool) → b ≡ false → T b → ⊥
 false-T b e t = subst T e t
 

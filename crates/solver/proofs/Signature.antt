@@ -39,12 +39,6 @@ pub record Signed (cx : Context) : Type 0 where
 
 -- ---- roles are told apart
 
-is-tester : Role → Bool
-is-tester Constructor = false
-is-tester (Tester c) = true
-is-tester (Selector c i) = false
-is-tester Function = false
-
 pub constructor-function : Constructor ≡ Function → ⊥
 unfolding is-function
 constructor-function e = subst⁻¹ (λ (x : Role). T (is-function x)) e tt
