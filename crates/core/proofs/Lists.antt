@@ -11,6 +11,7 @@ use lib.Dec.{T, eqb}
 use borrow.Author.Tests.{eq-eqb, ne-eqb}
 use lib.ListN.{length, getD, take, drop, set, length-set, drop-of-length-le}
 use lib.Seq.{sets, getD-set-same, getD-set-other, drop-cons}
+pub use Rattle.core.specs.Lists.{In}
 use Rattle.core.specs.Lists.{keep, every, any, range, same-list}
 
 -- ---- tests
@@ -40,11 +41,6 @@ cond-and true r t = (tt, t)
 cond-and false r t = absurd t
 
 module _ {A : Type 0} where
-  -- x stands in a list
-  abbrev pub In : A → List A → Type 0
-  In x [] = ⊥
-  In x (y ∷ ys) = (x ≡ y) ⊎ In x ys
-
   pub every-in : (p : A → Bool) (xs : List A) (x : A) → T (every p xs) → In x xs → T (p x)
   unfolding every
   every-in p [] x t i = absurd i

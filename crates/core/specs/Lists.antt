@@ -1,11 +1,23 @@
 -- The few functions on lists and sets of numbers that the definitions share.
 use Prim.Native.Nat.{ℕ, zero, suc, _+_}
+use mathlib.Core.Path.{_≡_}
+use mathlib.Core.Logic.{_⊎_}
 use mathlib.Core.Bool.{Bool, true, false, cond, _&&_, _||_}
 use mathlib.Core.List.{List, [], _∷_, map}
 use mathlib.Core.Option.{Option, none, some}
 use lib.Dec.{eqb, ltb}
 
 module _ {A : Type 0} where
+  -- x stands in a list
+  abbrev pub In : A → List A → Type 0
+  In x [] = ⊥
+  In x (y ∷ ys) = (x ≡ y) ⊎ In x ys
+
+  -- no element stands twice
+  abbrev pub Apart : List A → Type 0
+  Apart [] = Unit {0}
+  Apart (x ∷ xs) = (In x xs → ⊥) × Apart xs
+
   -- the elements that pass a test, in order
   unfoldable pub keep : (A → Bool) → List A → List A
   keep p [] = []
@@ -59,6 +71,12 @@ unfoldable pub total : List ℕ → ℕ
 total [] = 0
 total (x ∷ xs) = x + total xs
 
+-- the first of one list with the first of the other, and so on
+unfoldable pub zip : List ℕ → List ℕ → List (ℕ × ℕ)
+zip [] ys = []
+zip (x ∷ xs) [] = []
+zip (x ∷ xs) (y ∷ ys) = (x, y) ∷ zip xs ys
+
 unfoldable pub same-list : List ℕ → List ℕ → Bool
 same-list [] [] = true
 same-list [] (y ∷ ys) = false
@@ -74,5 +92,5 @@ insert x [] = x ∷ []
 insert x (y ∷ ys) = let r = insert x ys in cond (ltb x y) (x ∷ y ∷ ys) (cond (eqb x y) (y ∷ ys) (y ∷ r))
 
 unfoldable pub lists-definitions : Unit {0}
-unfolding keep every any first place-from beside pairs cons-option gather range total same-list mem insert
+unfolding keep every any first place-from beside pairs cons-option gather range total zip same-list mem insert
 lists-definitions = tt

@@ -9,7 +9,7 @@ use native.Mathlib.Omega.{arith}
 use lib.Dec.{T, eqb, leb, eqb→eq, eqb-refl}
 use borrow.Author.Tests.{leb-true, le-leb}
 use lib.ListN.{length}
-use Rattle.core.specs.Lists.{first}
+use Rattle.core.specs.Lists.{first, zip}
 use Rattle.core.specs.Ids as Ids
 use Rattle.core.specs.Term.{Term}
 use Rattle.core.specs.Context.{Context, term, children, all-grounded}
@@ -27,7 +27,7 @@ use Rattle.solver.proofs.Terms.{Extends, extends-length, extends-term}
 use Rattle.solver.proofs.Clash.{Ready}
 use Rattle.solver.proofs.Collection.{Beneath}
 use Rattle.session.specs.Line.{Command, Register, Equate, Cong, Iface, Assert, Pop}
-use Rattle.session.specs.Session.{Session, zip}
+use Rattle.session.specs.Session.{Session}
 use Rattle.session.specs.History.{History, signature, level, InForce, Accepted, IsAtom, IsEquation, Sides, Chain, EqualNow}
 use Rattle.session.proofs.Forces.{kind, force-on, force-pop, force-other, pop-back, accepted-other}
 

@@ -9,7 +9,7 @@ use native.Mathlib.Omega.{arith}
 use lib.Dec.{T, eqb, eqb→eq}
 use borrow.Author.Tests.{eq-eqb, ne-eqb, eqb-true, eqb-false}
 use lib.ListN.{length, length-map}
-use Rattle.core.specs.Lists.{first}
+use Rattle.core.specs.Lists.{first, zip}
 use Rattle.core.specs.Ids as Ids
 use Rattle.core.specs.Term as Term
 use Rattle.core.specs.Term.{Term, Op, Eq}
@@ -29,7 +29,7 @@ use Rattle.solver.proofs.Apps.{equation-is, truth-is}
 use Rattle.solver.proofs.Clash.{Refuted}
 use Rattle.solver.proofs.Moves.{SomeLit, SomeTrue, SplitHolds}
 use Rattle.session.specs.Line.{Register, Assert}
-use Rattle.session.specs.Session.{Session, zip}
+use Rattle.session.specs.Session.{Session}
 use Rattle.session.specs.History.{History, HoldsNow, LeafInForce, Accepted, IsAtom, IsEquation, LitTrue, LeafTrue, AllTrue, SomeLitTrue, SomeAtomTrue, LemmaTrue}
 use Rattle.session.specs.Claim.{AllInForce, Impossible, Valid}
 use Rattle.session.proofs.Invariant.{atom-one, MergeFrom, Inv}

@@ -6,7 +6,7 @@ use mathlib.Core.List as List
 use mathlib.Core.Option.{Option, none, some}
 use lib.Dec.{eqb, leb, ltb}
 use lib.ListN.{length}
-use Rattle.core.specs.Lists.{every, same-list}
+use Rattle.core.specs.Lists.{every, zip, same-list}
 use Rattle.core.specs.Ids as Ids
 use Rattle.core.specs.Term.{Op, Eq, Uninterpreted, same-op}
 use Rattle.core.specs.Context.{Context, Made, declare-sort, dt-add-constructor, declare-fun, is-datatype-sort, symbol, all-grounded, term, children, sort-of, mk-app, mk-eq, terms-fit, declarations-fit}
@@ -48,11 +48,6 @@ unfoldable pub atom-of : Session → ℕ → ℕ
 atom-of s l = Atom.atom (s .state .atoms) (Ids.var l)
 
 -- the argument pairs of two applications, in order
-unfoldable pub zip : List ℕ → List ℕ → List (ℕ × ℕ)
-zip [] ys = []
-zip (x ∷ xs) [] = []
-zip (x ∷ xs) (y ∷ ys) = (x, y) ∷ zip xs ys
-
 unfoldable pub argument-pairs : Session → ℕ → ℕ → List (ℕ × ℕ)
 argument-pairs s t u = zip (children (s .state .terms) t) (children (s .state .terms) u)
 
@@ -214,5 +209,5 @@ unfoldable pub step : Session → List ℕ → Performed
 step s line = answer-read s (read-line line)
 
 unfoldable pub session-definitions : Unit {0}
-unfolding empty-session sort-exists symbol-exists term-exists var-exists atom-of zip argument-pairs before-close after-close exist agree one-sort unregistered equation congruent inhabited questions first-no done numbered merged merge-sides conflict-or-ok pop-to perform fits refused if-fits asked answer-read step
+unfolding empty-session sort-exists symbol-exists term-exists var-exists atom-of argument-pairs before-close after-close exist agree one-sort unregistered equation congruent inhabited questions first-no done numbered merged merge-sides conflict-or-ok pop-to perform fits refused if-fits asked answer-read step
 session-definitions = tt

@@ -9,6 +9,7 @@ use lib.Dec.{T, leb, eqb→eq}
 use borrow.Author.Tests.{eq-eqb, ne-eqb, eqb-true, eqb-false, leb-false, lt-leb}
 use Rattle.core.proofs.Lists.{In}
 use Rattle.theory.specs.Types.{EqJust}
+pub use Rattle.theory.specs.Table.{BothSides}
 use Rattle.theory.specs.EqEngine.{Merge, Classes, singletons, under, union, classes, find, are-equal, merge, pop-merges}
 
 -- ---- one class
@@ -55,10 +56,6 @@ pub same-alone : (x y : ℕ) → Same [] x y → x ≡ y
 same-alone x y e = sym (find-alone x) ∙ e ∙ find-alone y
 
 -- ---- one more merge
-
--- the sides of a merge, in one order or the other
-abbrev pub BothSides : Merge → ℕ → ℕ → Type 0
-BothSides m x y = ((x ≡ m .a) × (y ≡ m .b)) ⊎ ((x ≡ m .b) × (y ≡ m .a))
 
 -- the side whose class went under, and the other
 pub record Union (m : Merge) (ms : List Merge) : Type 0 where

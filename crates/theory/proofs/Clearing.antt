@@ -7,9 +7,10 @@ use native.Mathlib.Omega.{arith}
 use borrow.Author.Count.{below-more}
 use lib.ListN.{length, set, length-set}
 use lib.Seq.{getD-set-same, getD-set-other}
+use Rattle.core.specs.Lists.{In}
 use Rattle.core.specs.Table.{word}
 use Rattle.theory.specs.EqEngine.{Merge, singletons, classes, way}
-use Rattle.theory.specs.Table.{merges#, level-word, parent-word, size-word, fparent-word, merges-below, merges, parent, FirstEdge, Joins, Sound}
+use Rattle.theory.specs.Table.{merges#, level-word, parent-word, size-word, fparent-word, merges-below, merges, parent, FirstEdge, Justified, Sound}
 
 abbrev Alone : List ℕ → ℕ → Type 0
 Alone t x = (parent-word t x ≡ x) × (size-word t x ≡ 1) × (fparent-word t x ≡ x)
@@ -99,15 +100,14 @@ clear-done t₀ t n c h =
       record {
         long = c .fits;
         fewer = omega arith;
-        joins = subst Joins (sym m) tt;
+        justified = subst Justified (sym m) tt;
         nodes = λ i g. absurd (omega arith);
+        pair-nodes = λ k i p j. absurd (subst (λ (ms : List Merge). In k ms) m i);
         low = λ i g. absurd (omega arith);
         froot = λ i g. absurd (omega arith);
         levels-fit = omega arith;
         levels = λ i g. absurd (omega arith);
-        levels-rise = λ i g. absurd (omega arith);
-        first-pairs = λ g. absurd (omega arith);
-        next-pairs = λ i g. absurd (omega arith);
+        starts = λ i g. absurd (omega arith);
         pairs-fit = λ i g. absurd (omega arith);
         parents = λ x g. c .alone x (omega arith) .0 ∙ sym (ap (λ (ms : List Merge). parent ms x) m);
         sizes = λ x g. c .alone x (omega arith) .1 ∙ sym (ap (λ (ms : List Merge). classes ms .size x) m);

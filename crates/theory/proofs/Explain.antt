@@ -12,29 +12,13 @@ use Rattle.core.specs.Lists.{any}
 use Rattle.core.proofs.Lists.{In, any-in, T-and, T-both}
 use Rattle.theory.specs.Types.{EqJust, Asserted, Congruence, Interface, EqLeaf, AssertedLeaf, InterfaceLeaf, same-leaf}
 use Rattle.theory.specs.EqEngine.{Merge, Step, find, are-equal, merge, pop-merges, pairs-of, path, Explained, same-pair, visit, cite, expand-edge, explain-rec, explain, firsts-after, firsts}
+pub use Rattle.theory.specs.Table.{Justified}
+pub use Rattle.theory.specs.Answer.{Labels, Cites}
 use Rattle.theory.proofs.Members.{T-or, T-left, in-left, in-right, in-either, in-any, Apart, apart-length}
 use Rattle.theory.proofs.Classes.{Same, same?, same-alone, same-kept, same-suffix, equal-same, Suffix, suffix-self, suffix-tail, in-suffix, pop-suffix}
 use Rattle.theory.proofs.Forest.{Leads, Along, path-over, Joins, PathOf, path-of, path-age}
 
 -- ---- labels
-
--- the leaf of a label; a congruence has none
-abbrev pub Labels : EqJust → EqLeaf → Type 0
-Labels (Asserted l) k = k ≡ AssertedLeaf l
-Labels (Congruence ps) k = ⊥
-Labels (Interface h g) k = k ≡ InterfaceLeaf h g
-
--- a leaf that labels a merge of ms
-abbrev pub Cites : List Merge → EqLeaf → Type 0
-Cites ms l = (m : Merge) × In m ms × Labels (m .just) l
-
--- each merge joined two classes, and the pairs of its label were equal then
-abbrev pub Justified : List Merge → Type 0
-Justified [] = Unit {0}
-Justified (m ∷ ms) =
-    (are-equal ms (m .a) (m .b) ≡ false)
-    × ((p : ℕ × ℕ) → In p (pairs-of (m .just)) → T (are-equal ms (p .0) (p .1)))
-    × Justified ms
 
 pub justified-joins : (ms : List Merge) → Justified ms → Joins ms
 justified-joins [] j = tt

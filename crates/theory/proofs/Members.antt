@@ -7,6 +7,7 @@ use mathlib.Core.List.{List, [], _∷_, _++_}
 use native.Mathlib.Omega.{arith}
 use lib.Dec.{T}
 use lib.ListN.{length}
+pub use Rattle.core.specs.Lists.{Apart}
 use Rattle.core.specs.Lists.{any}
 use Rattle.core.proofs.Lists.{In}
 
@@ -59,11 +60,6 @@ module _ {A : Type 0} where
   in-any p [] x i t = absurd i
   in-any p (y ∷ ys) x (inl e) t = in-any-here (p y) (any p ys) (subst (λ (z : A). T (p z)) e t)
   in-any p (y ∷ ys) x (inr i) t = in-any-later (p y) (any p ys) (in-any p ys x i t)
-
-  -- no element stands twice
-  abbrev pub Apart : List A → Type 0
-  Apart [] = Unit {0}
-  Apart (x ∷ xs) = (In x xs → ⊥) × Apart xs
 
   -- a list without one of its elements
   record Without (x : A) (ys : List A) : Type 0 where

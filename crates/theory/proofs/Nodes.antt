@@ -13,6 +13,7 @@ use Rattle.core.proofs.Lists.{In}
 use Rattle.theory.specs.EqEngine.{Merge, find, are-equal}
 use Rattle.theory.specs.Table.{merges#, parent-word, a-word, b-word, merge-at, merges-below, merges, low-root, high-root, parent, Joins, Sound}
 use Rattle.theory.proofs.Sizes.{Within, find-within}
+use Rattle.theory.proofs.Explain.{justified-joins}
 use Rattle.theory.proofs.UnionFind.{Up, up, depth, parent-within}
 
 -- ---- the log
@@ -31,6 +32,10 @@ merges-within t z m k =
     let w = z .nodes i h in
     (subst (λ (x : Merge). x .a < 1024) (sym e) (w .0), subst (λ (x : Merge). x .b < 1024) (sym e) (w .1))
 
+-- each merge joined two classes
+pub sound-joins : (t : List ℕ) → Sound t → Joins (merges t)
+sound-joins t z = justified-joins (merges t) (z .justified)
+
 -- ---- up to the root
 
 -- n lies on the way from node to its root, and p is its parent
@@ -47,7 +52,7 @@ climb-within t node n p z c = subst (λ (x : ℕ). x < 1024) (sym (c .at)) (pare
 
 -- what a step up brings
 stepped : (t : List ℕ) (node n p : ℕ) → Sound t → Climb t node n p → (p ≡ n → ⊥) → (find (merges t) p ≡ find (merges t) n) × (depth (merges t) p < depth (merges t) n)
-stepped t node n p z c d = go (up (merges t) (z .joins) n)
+stepped t node n p z c d = go (up (merges t) (sound-joins t z) n)
   where
     go : Up (merges t) n → (find (merges t) p ≡ find (merges t) n) × (depth (merges t) p < depth (merges t) n)
     go (inl (q, f)) = absurd (d (c .at ∙ q))
@@ -62,7 +67,7 @@ pub climb-less : (t : List ℕ) (node n p : ℕ) → Sound t → Climb t node n 
 climb-less t node n p z c d = stepped t node n p z c d .1
 
 pub climb-done : (t : List ℕ) (node n p : ℕ) → Sound t → Climb t node n p → p ≡ n → (n ≡ find (merges t) node) × (n < 1024)
-climb-done t node n p z c e = (go (up (merges t) (z .joins) n), c .within)
+climb-done t node n p z c e = (go (up (merges t) (sound-joins t z) n), c .within)
   where
     go : Up (merges t) n → n ≡ find (merges t) node
     go (inl (q, f)) = sym f ∙ c .same

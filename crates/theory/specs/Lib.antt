@@ -4,4 +4,5 @@ pub mod EqEngine
 pub mod Atom
 pub mod Examples
 pub mod Table
+pub mod Answer
 pub mod Registry

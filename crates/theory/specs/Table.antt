@@ -4,12 +4,13 @@ use Prim.Native.Nat.{ℕ, zero, suc, _+_, _-_, _*_, _/_, _%_, _≤_, _<_}
 use mathlib.Core.Path.{_≡_}
 use mathlib.Core.Bool.{Bool, false, cond}
 use mathlib.Core.List.{List, [], _∷_, map}
-use lib.Dec.{eqb, leb}
+use mathlib.Core.Logic.{_⊎_}
+use lib.Dec.{T, eqb, leb}
 use lib.ListN.{length}
-use Rattle.core.specs.Lists.{range}
+use Rattle.core.specs.Lists.{In, range}
 use Rattle.core.specs.Table.{word}
 use Rattle.theory.specs.Types.{EqJust, Asserted, Congruence, Interface}
-use Rattle.theory.specs.EqEngine.{Merge, classes, find, are-equal, Step, way}
+use Rattle.theory.specs.EqEngine.{Merge, classes, find, are-equal, pairs-of, pairs-in-force, Step, way}
 
 -- ---- the layout, within 16,384 words
 
@@ -119,10 +120,18 @@ abbrev pub end : ℕ → List Step → ℕ
 end x [] = x
 end x (s ∷ w) = end (s .up) w
 
--- the words of a node are the first edge of its way: where it leads, and the merge that has its label; a root is its own parent
+-- two terms are the sides of a merge, in one order or the other
+abbrev pub BothSides : Merge → ℕ → ℕ → Type 0
+BothSides m x y = ((x ≡ m .a) × (y ≡ m .b)) ⊎ ((x ≡ m .b) × (y ≡ m .a))
+
+-- the words of a node are the first edge of its way: where it leads, and the merge that made it; a root is its own parent
 abbrev pub FirstEdge : List ℕ → ℕ → List Step → Type 0
 FirstEdge t x [] = fparent-word t x ≡ x
-FirstEdge t x (s ∷ w) = (fparent-word t x ≡ s .up) × (fedge-word t x < merges# t) × (just-at t (fedge-word t x) ≡ s .just)
+FirstEdge t x (s ∷ w) =
+    (fparent-word t x ≡ s .up)
+    × (fedge-word t x < merges# t)
+    × (just-at t (fedge-word t x) ≡ s .just)
+    × BothSides (merge-at t (fedge-word t x)) x (s .up)
 
 -- ---- when a table is sound
 
@@ -131,22 +140,29 @@ abbrev pub Joins : List Merge → Type 0
 Joins [] = Unit {0}
 Joins (m ∷ ms) = (are-equal ms (m .a) (m .b) ≡ false) × Joins ms
 
+-- each merge joined two classes, and the pairs of its label were equal then
+abbrev pub Justified : List Merge → Type 0
+Justified [] = Unit {0}
+Justified (m ∷ ms) =
+    (are-equal ms (m .a) (m .b) ≡ false)
+    × ((p : ℕ × ℕ) → In p (pairs-of (m .just)) → T (are-equal ms (p .0) (p .1)))
+    × Justified ms
+
 -- Each region is what the log of merges says.
 pub record Sound (t : List ℕ) : Type 0 where
   pub long : 16384 ≤ length t
   -- the log
   pub fewer : merges# t < 1024
-  pub joins : Joins (merges t)
+  pub justified : Justified (merges t)
   pub nodes : (i : ℕ) → i < merges# t → (a-word t i < 1024) × (b-word t i < 1024)
+  pub pair-nodes : (m : Merge) → In m (merges t) → (p : ℕ × ℕ) → In p (pairs-of (m .just)) → (p .0 < 1024) × (p .1 < 1024)
   pub low : (i : ℕ) → i < merges# t → low-word t i ≡ low-root (merges-below t i) (merge-at t i)
   pub froot : (i : ℕ) → i < merges# t → froot-word t i ≡ end (a-word t i) (way (merges-below t i) (a-word t i))
-  -- levels rise along the log, up to the level of now
+  -- no merge is of a higher level than now
   pub levels-fit : level-word t ≤ 64
   pub levels : (i : ℕ) → i < merges# t → kind-word t i / 262144 ≤ level-word t
-  pub levels-rise : (i : ℕ) → suc i < merges# t → kind-word t i / 262144 ≤ kind-word t (suc i) / 262144
-  -- the pairs of a merge follow those of the merge before it
-  pub first-pairs : 0 < merges# t → value-start t 0 ≡ 0
-  pub next-pairs : (i : ℕ) → suc i < merges# t → value-start t (suc i) ≡ after-word t i
+  -- the pairs of a merge follow those of the merges before it
+  pub starts : (i : ℕ) → i < merges# t → value-start t i ≡ pairs-in-force (merges-below t i)
   pub pairs-fit : (i : ℕ) → i < merges# t → (value-start t i ≤ after-word t i) × (after-word t i ≤ 2048)
   -- classes and forest
   pub parents : (x : ℕ) → x < 1024 → parent-word t x ≡ parent (merges t) x
