@@ -107,6 +107,7 @@ clear-done t₀ t n c h =
         froot = λ i g. absurd (omega arith);
         levels-fit = omega arith;
         levels = λ i g. absurd (omega arith);
+        levels-rise = λ i g. absurd (omega arith);
         starts = λ i g. absurd (omega arith);
         pairs-fit = λ i g. absurd (omega arith);
         parents = λ x g. c .alone x (omega arith) .0 ∙ sym (ap (λ (ms : List Merge). parent ms x) m);

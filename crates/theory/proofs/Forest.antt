@@ -14,15 +14,12 @@ use borrow.Author.Tests.{eq-eqb, ne-eqb}
 use Rattle.core.specs.Lists.{first, mem}
 use Rattle.core.proofs.Lists.{In, any-in}
 pub use Rattle.theory.specs.Table.{Joins, end}
+pub use Rattle.theory.specs.Steps.{On}
 use Rattle.theory.specs.EqEngine.{Merge, Step, classes, find, are-equal, before, turned, nodes, common, rehung, way, path}
 use Rattle.theory.proofs.Members.{in-either, in-any, Apart}
 use Rattle.theory.proofs.Classes.{Same, same-alone, same?, BothSides, turned-sides, unequal, Across, same-split, same-kept, same-sides, Suffix, same-suffix}
 
 -- ---- steps
-
--- n is a node of the steps w from x
-abbrev pub On : ℕ → ℕ → List Step → Type 0
-On n x w = In n (x ∷ map (λ (s : Step). s .up) w)
 
 -- the steps w lead from x to z
 abbrev pub Leads : ℕ → List Step → ℕ → Type 0

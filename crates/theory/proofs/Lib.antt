@@ -8,6 +8,11 @@ pub mod Explain
 pub mod Visits
 pub mod UnionFind
 pub mod Nodes
+pub mod Puts
+pub mod Log
+pub mod Pairs
+pub mod Trees
+pub mod Shorter
 pub mod Clearing
 pub mod Registering
 pub mod Registers

@@ -5,4 +5,5 @@ pub mod Atom
 pub mod Examples
 pub mod Table
 pub mod Answer
+pub mod Steps
 pub mod Registry

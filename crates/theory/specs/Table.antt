@@ -158,9 +158,10 @@ pub record Sound (t : List ℕ) : Type 0 where
   pub pair-nodes : (m : Merge) → In m (merges t) → (p : ℕ × ℕ) → In p (pairs-of (m .just)) → (p .0 < 1024) × (p .1 < 1024)
   pub low : (i : ℕ) → i < merges# t → low-word t i ≡ low-root (merges-below t i) (merge-at t i)
   pub froot : (i : ℕ) → i < merges# t → froot-word t i ≡ end (a-word t i) (way (merges-below t i) (a-word t i))
-  -- no merge is of a higher level than now
+  -- levels rise along the log, up to the level of now
   pub levels-fit : level-word t ≤ 64
   pub levels : (i : ℕ) → i < merges# t → kind-word t i / 262144 ≤ level-word t
+  pub levels-rise : (i : ℕ) → suc i < merges# t → kind-word t i / 262144 ≤ kind-word t (suc i) / 262144
   -- the pairs of a merge follow those of the merges before it
   pub starts : (i : ℕ) → i < merges# t → value-start t i ≡ pairs-in-force (merges-below t i)
   pub pairs-fit : (i : ℕ) → i < merges# t → (value-start t i ≤ after-word t i) × (after-word t i ≤ 2048)

@@ -4,10 +4,11 @@ use core::table::get;
 use core::table::put;
 ghost use mathlib.Core.Path.{_≡_};
 ghost use mathlib.Core.List.{[]};
-ghost use Prim.Native.Nat.{_+_, _<_, _≤_};
+ghost use Prim.Native.Nat.{suc, _+_, _<_, _≤_};
 ghost use lib.ListN.{length, set};
-ghost use Rattle.theory.specs.EqEngine.{find, are-equal};
-ghost use Rattle.theory.specs.Table.{merges, level-word, Sound};
+ghost use Rattle.theory.specs.EqEngine.{find, are-equal, before, way, pairs-in-force};
+ghost use Rattle.theory.specs.Table.{merges, level-word, end, Sound};
+ghost use Rattle.theory.specs.Steps.{On, Rerooted};
 
 // Class representative: up the parents to the root.
 fn find(t: &[u32], node: usize) -> usize
@@ -54,4 +55,60 @@ pub fn clear(t: &mut [u32])
         alone(t, n);
         n += 1;
     }
+}
+
+pub fn push(t: &mut [u32])
+    requires { ⌜ Sound (now t) × (level-word (now t) < 64) ⌝ }
+    ensures { λ _. ⌜ Sound (now (t .exit)) × (merges (now (t .exit)) ≡ merges (now (t .entry))) × (level-word (now (t .exit)) ≡ suc (level-word (now (t .entry)))) ⌝ }
+{
+    let n = get(t, 1);
+    put(t, 1, n + 1);
+}
+
+// ---- the proof forest
+
+// Forest root of a node, distinct from the class representative.
+fn forest_root(t: &[u32], node: usize) -> usize
+    requires { ⌜ Sound (now t) × (node < 1024) ⌝ }
+    ensures { λ r. ⌜ (r ≡ end node (way (merges (now (t .entry))) node)) × (r < 1024) ⌝ }
+{
+    let mut n = node;
+    let mut up = get(t, 2112 + n);
+    while up != n {
+        n = up;
+        up = get(t, 2112 + n);
+    }
+    n
+}
+
+// Turns the way from a node up to top, a node above it: the node becomes a root.
+fn reroot_forest(t: &mut [u32], node: usize, top: usize)
+    requires { ⌜ Sound (now t) × (node < 1024) × On top node (way (merges (now t)) node) ⌝ }
+    ensures { λ _. ⌜ Rerooted (now (t .entry)) (now (t .exit)) node (before top (way (merges (now (t .entry))) node)) ⌝ }
+{
+    let mut prev = node;
+    let mut edge = get(t, 3136 + node);
+    let mut cur = get(t, 2112 + node);
+    while prev != top {
+        let next = get(t, 2112 + cur);
+        let next_edge = get(t, 3136 + cur);
+        put(t, 2112 + cur, prev);
+        put(t, 3136 + cur, edge);
+        prev = cur;
+        edge = next_edge;
+        cur = next;
+    }
+    put(t, 2112 + node, node);
+}
+
+// How many argument pairs are in force: the newest merge says it.
+pub fn pairs_in_force(t: &[u32]) -> usize
+    requires { ⌜ Sound (now t) ⌝ }
+    ensures { λ r. ⌜ (r ≡ pairs-in-force (merges (now (t .entry)))) × (r ≤ 2048) ⌝ }
+{
+    let n = get(t, 0);
+    if n == 0 {
+        return 0;
+    }
+    get(t, 10303 + n)
 }

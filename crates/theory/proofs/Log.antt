@@ -1,0 +1,104 @@
+-- The log of merges: tables that agree on its first merges give the same list of merges, and how many there are.
+use Prim.Native.Nat.{ℕ, zero, suc, _+_, _-_, _*_, _/_, _%_, _≤_, _<_}
+use mathlib.Core.Path.{_≡_, refl, sym, subst, ap, ap₂, _∙_}
+use mathlib.Core.Logic.{inl, inr}
+use mathlib.Core.List.{List, [], _∷_, map}
+use native.Mathlib.Omega.{arith}
+use lib.ListN.{length}
+use Rattle.core.specs.Lists.{In, range}
+use Rattle.core.specs.Table.{word}
+use Rattle.core.proofs.Lists.{map-range-cong, length-map-range}
+use Rattle.theory.specs.Types.{EqJust, Asserted, Congruence, Interface}
+use Rattle.theory.specs.EqEngine.{Merge, pairs-of, pairs-in-force}
+use Rattle.theory.specs.Table.{merges#, level-word, a-word, b-word, kind-word, value-word, low-word, froot-word, after-word, left-word, right-word, just-of, just-at, merge-at, start-of, value-start, merges-below, merges, Sound}
+use Rattle.theory.specs.Steps.{SameEntry, SamePairs, SameLog}
+
+just-kind : (t u : List ℕ) (i k : ℕ) → SameEntry t u i → SamePairs t u (after-word t i) → just-of u i k ≡ just-of t i k
+unfolding just-of
+just-kind t u i zero s p = ap Asserted (s .value)
+just-kind t u i (suc zero) s p =
+    ap Congruence (
+    ap₂ (λ (v e : ℕ). map (λ j. (left-word u j, right-word u j)) (range v (e - v))) (s .value) (s .after)
+    ∙ map-range-cong (λ j. (left-word u j, right-word u j)) (λ j. (left-word t j, right-word t j)) (value-word t i) (after-word t i - value-word t i)
+    (λ j l h. let q = p j (omega arith) in ap₂ (λ (x y : ℕ). (x, y)) (q .0) (q .1)))
+just-kind t u i (suc (suc k)) s p = ap₂ (λ (w v : ℕ). Interface (w % 65536) v) (s .kind) (s .value)
+
+pub just-same : (t u : List ℕ) (i : ℕ) → SameEntry t u i → SamePairs t u (after-word t i) → just-at u i ≡ just-at t i
+unfolding just-at
+just-same t u i s p = ap (λ (w : ℕ). just-of u i (w / 65536 % 4)) (s .kind) ∙ just-kind t u i (kind-word t i / 65536 % 4) s p
+
+pub merge-same : (t u : List ℕ) (i : ℕ) → SameEntry t u i → SamePairs t u (after-word t i) → merge-at u i ≡ merge-at t i
+unfolding merge-at
+merge-same t u i s p =
+    let a = s .a in
+    let b = s .b in
+    let j = just-same t u i s p in
+    let k = ap (λ (w : ℕ). w / 262144) (s .kind) in
+    λ n. record { a = a n; b = b n; just = j n; level = k n }
+
+start-kind : (t u : List ℕ) (i k : ℕ) → SameEntry t u i → start-of u i k ≡ start-of t i k
+unfolding start-of
+start-kind t u i zero s = s .after
+start-kind t u i (suc zero) s = s .value
+start-kind t u i (suc (suc k)) s = s .after
+
+pub start-same : (t u : List ℕ) (i : ℕ) → SameEntry t u i → value-start u i ≡ value-start t i
+unfolding value-start
+start-same t u i s = ap (λ (w : ℕ). start-of u i (w / 65536 % 4)) (s .kind) ∙ start-kind t u i (kind-word t i / 65536 % 4) s
+
+pub log-shorter : (t u : List ℕ) (n m : ℕ) → m ≤ n → SameLog t u n → SameLog t u m
+log-shorter t u n m l s = record { entries = λ i h. s .entries i (omega arith); pairs = λ i h. s .pairs i (omega arith) }
+
+pub below-same : (t u : List ℕ) (n : ℕ) → SameLog t u n → merges-below u n ≡ merges-below t n
+unfolding merges-below
+below-same t u zero s = refl
+below-same t u (suc n) s =
+    ap₂ (λ (m : Merge) (ms : List Merge). m ∷ ms) (merge-same t u n (s .entries n (omega arith)) (s .pairs n (omega arith)))
+    (below-same t u n (log-shorter t u (suc n) n (omega arith) s))
+
+-- agreement is passed on
+entry-then : (t u v : List ℕ) (i : ℕ) → SameEntry t u i → SameEntry u v i → SameEntry t v i
+entry-then t u v i p q = record {
+  a = q .a ∙ p .a;
+  b = q .b ∙ p .b;
+  kind = q .kind ∙ p .kind;
+  value = q .value ∙ p .value;
+  low = q .low ∙ p .low;
+  froot = q .froot ∙ p .froot;
+  after = q .after ∙ p .after;
+}
+
+pub log-then : (t u v : List ℕ) (n : ℕ) → SameLog t u n → SameLog u v n → SameLog t v n
+log-then t u v n p q = record {
+  entries = λ i h. entry-then t u v i (p .entries i h) (q .entries i h);
+  pairs = λ i h j l.
+    let f = p .pairs i h j l in
+    let g = q .pairs i h j (subst (λ (k : ℕ). j < k) (sym (p .entries i h .after)) l) in
+    (g .0 ∙ f .0, g .1 ∙ f .1);
+}
+
+-- words from the log on that agree
+pub log-words : (t u : List ℕ) (n : ℕ) → ((k : ℕ) → 4160 ≤ k → word u k ≡ word t k) → SameLog t u n
+log-words t u n f = record {
+  entries = λ i h. record {
+    a = f (4160 + i) (omega arith);
+    b = f (5184 + i) (omega arith);
+    kind = f (6208 + i) (omega arith);
+    value = f (7232 + i) (omega arith);
+    low = f (8256 + i) (omega arith);
+    froot = f (9280 + i) (omega arith);
+    after = f (10304 + i) (omega arith);
+  };
+  pairs = λ i h j l. (f (11328 + j) (omega arith), f (13376 + j) (omega arith));
+}
+
+-- ---- counts
+
+pub below-length : (t : List ℕ) (n : ℕ) → length (merges-below t n) ≡ n
+unfolding merges-below
+below-length t zero = refl
+below-length t (suc n) = ap suc (below-length t n)
+
+pub merges-length : (t : List ℕ) → length (merges t) ≡ merges# t
+unfolding merges
+merges-length t = below-length t (merges# t)

@@ -1,0 +1,49 @@
+-- The argument pairs in force: the newest merge says how many there are.
+use Prim.Native.Nat.{ℕ, zero, suc, _+_, _-_, _/_, _%_, _≤_, _<_}
+use mathlib.Core.Path.{_≡_, refl, sym, subst, ap, _∙_}
+use mathlib.Core.List.{List, [], _∷_, map}
+use native.Mathlib.Omega.{arith}
+use native.Mathlib.Decide.{decLe}
+use lib.ListN.{length}
+use Rattle.core.specs.Lists.{total}
+use Rattle.core.specs.Table.{word}
+use Rattle.core.proofs.Lists.{length-map-range}
+use Rattle.theory.specs.EqEngine.{Merge, pairs-of, pairs-in-force}
+use Rattle.theory.specs.Table.{merges#, kind-word, value-word, after-word, left-word, right-word, just-of, just-at, merge-at, start-of, value-start, merges-below, merges, Sound}
+
+pub pairs-more : (m : Merge) (ms : List Merge) → pairs-in-force (m ∷ ms) ≡ length (pairs-of (m .just)) + pairs-in-force ms
+unfolding pairs-in-force total
+pairs-more m ms = refl
+
+label-length : (t : List ℕ) (i k : ℕ) → start-of t i k ≤ after-word t i → length (pairs-of (just-of t i k)) + start-of t i k ≡ after-word t i
+unfolding just-of start-of pairs-of
+label-length t i zero h = omega arith
+label-length t i (suc zero) h = let e = length-map-range {A = ℕ × ℕ} (λ j. (left-word t j, right-word t j)) (value-word t i) (after-word t i - value-word t i) in omega arith
+label-length t i (suc (suc k)) h = omega arith
+
+pub after-is : (t : List ℕ) (i : ℕ) → Sound t → i < merges# t → after-word t i ≡ pairs-in-force (merges-below t (suc i))
+unfolding merges-below merge-at just-at value-start
+after-is t i z h =
+    let s = z .starts i h in
+    let e = label-length t i (kind-word t i / 65536 % 4) (z .pairs-fit i h .0) in
+    let p = pairs-more (merge-at t i) (merges-below t i) in
+    omega arith
+
+pub pairs-none : (t : List ℕ) (n : ℕ) → n ≡ word t 0 → n ≡ 0 → (0 ≡ pairs-in-force (merges t)) × (0 ≤ 2048)
+unfolding merges merges-below pairs-in-force total
+pairs-none t n e f = (sym (ap (λ (k : ℕ). pairs-in-force (merges-below t k)) (sym e ∙ f)), omega arith)
+
+pub pairs-newest : (t : List ℕ) (n r : ℕ) → Sound t → n ≡ word t 0 → (n ≡ 0 → ⊥) → r ≡ word t (10303 + n) → (r ≡ pairs-in-force (merges t)) × (r ≤ 2048)
+unfolding merges
+pairs-newest t n r z e h f = go n refl
+  where
+    go : (k : ℕ) → n ≡ k → (r ≡ pairs-in-force (merges-below t (word t 0))) × (r ≤ 2048)
+    go zero q = absurd (h q)
+    go (suc i) q =
+        let l : i < merges# t = omega arith in
+        let p : 10303 + n ≡ 10304 + i = omega arith in
+        let g : r ≡ after-word t i = f ∙ ap (word t) p in
+        let b = z .pairs-fit i l .1 in (
+          g ∙ after-is t i z l ∙ ap (λ (k : ℕ). pairs-in-force (merges-below t k)) (sym q ∙ e),
+          omega arith,
+        )
