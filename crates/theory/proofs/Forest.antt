@@ -365,7 +365,7 @@ unfolding way find
 way-out m ms x h =
     ap (λ (b : Bool). cond b (rehung x (way ms x) m (way ms (m .a)) (way ms (m .b))) (way ms x)) (ne-eqb (find ms x) (find ms (m .a)) h)
 
-end-on : (w : List Step) (x : ℕ) → On (end x w) x w
+pub end-on : (w : List Step) (x : ℕ) → On (end x w) x w
 end-on [] x = inl refl
 end-on (s ∷ w) x = inr (end-on w (s .up))
 

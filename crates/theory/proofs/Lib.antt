@@ -13,6 +13,7 @@ pub mod Log
 pub mod Pairs
 pub mod Trees
 pub mod Shorter
+pub mod Merging
 pub mod Clearing
 pub mod Registering
 pub mod Registers

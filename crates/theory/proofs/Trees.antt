@@ -40,6 +40,10 @@ sides-within : (m : Merge) (x y : ℕ) → (m .a < 1024) × (m .b < 1024) → Bo
 sides-within m x y h (inl (p, q)) = omega arith
 sides-within m x y h (inr (p, q)) = omega arith
 
+-- a way goes over nodes
+pub way-within : (t : List ℕ) (x : ℕ) (s : Step) → Sound t → In s (way (merges t) x) → (s .node < 1024) × (s .up < 1024)
+way-within t x s z i = let (m, j, (q, b)) = way-over (merges t) x s i in sides-within m (s .node) (s .up) (merges-within t z m j) b
+
 -- the sides of merge i are nodes
 node-words : (t : List ℕ) (i : ℕ) → Sound t → i < merges# t → (merge-at t i .a < 1024) × (merge-at t i .b < 1024)
 unfolding merge-at
@@ -119,7 +123,7 @@ rise-done t node n p z c e = (go (here t n z (c .within)), c .within)
 
 -- ---- a way turned
 
-in-ups : (s : Step) (w : List Step) → In s w → In (s .up) (map (λ (r : Step). r .up) w)
+pub in-ups : (s : Step) (w : List Step) → In s w → In (s .up) (map (λ (r : Step). r .up) w)
 in-ups s [] i = absurd i
 in-ups s (r ∷ w) (inl e) = inl (ap (λ (q : Step). q .up) e)
 in-ups s (r ∷ w) (inr i) = inr (in-ups s w i)
@@ -211,9 +215,7 @@ module _ (t₀ t : List ℕ) (node top prev edge cur : ℕ) (z : Sound t₀) (c 
   -- what was reached is a node
   done-within : (r : Step) → In r (c .done) → r .up < 1024
   unfolding W F
-  done-within r i =
-      let (m, j, (q, b)) = way-over (merges t₀) node r (subst (λ (w : List Step). In r w) (sym (c .whole)) (in-left r (c .done) (way (merges t₀) prev) i)) in
-      sides-within m (r .node) (r .up) (merges-within t₀ z m j) b .1
+  done-within r i = way-within t₀ node r z (subst (λ (w : List Step). In r w) (sym (c .whole)) (in-left r (c .done) (way (merges t₀) prev) i)) .1
 
   -- what stands above prev has not been reached
   fresh : (x : ℕ) → In x (map (λ (s : Step). s .up) (way (merges t₀) prev)) → In x (map (λ (s : Step). s .up) (c .done)) → ⊥

@@ -46,3 +46,69 @@ pub record Rerooted (t u : List ℕ) (n : ℕ) (w : List Step) : Type 0 where
   pub root : fparent-word u n ≡ n
   pub turned : (s : Step) → In s w → (fparent-word u (s .up) ≡ s .node) × (fedge-word u (s .up) ≡ fedge-word t (s .node))
   pub others : (x : ℕ) → x < 1024 → (On x n w → ⊥) → (fparent-word u x ≡ fparent-word t x) × (fedge-word u x ≡ fedge-word t x)
+
+-- the tree of a is turned and hangs from a under b, by merge i
+pub record Spliced (t u : List ℕ) (a b i : ℕ) : Type 0 where
+  pub long : length u ≡ length t
+  pub before : (k : ℕ) → k < 2112 → word u k ≡ word t k
+  pub behind : (k : ℕ) → 4160 ≤ k → (k ≡ 9280 + i → ⊥) → word u k ≡ word t k
+  pub old-root : froot-word u i ≡ end a (way (merges t) a)
+  pub edge : (fparent-word u a ≡ b) × (fedge-word u a ≡ i)
+  pub turned : (s : Step) → In s (way (merges t) a) → (fparent-word u (s .up) ≡ s .node) × (fedge-word u (s .up) ≡ fedge-word t (s .node))
+  pub others : (x : ℕ) → x < 1024 → (On x a (way (merges t) a) → ⊥) → (fparent-word u x ≡ fparent-word t x) × (fedge-word u x ≡ fedge-word t x)
+
+-- ---- classes
+
+-- the class of root low is under the root high, by merge i
+pub record United (t u : List ℕ) (low high i : ℕ) : Type 0 where
+  pub long : length u ≡ length t
+  pub before : (k : ℕ) → k < 64 → word u k ≡ word t k
+  pub behind : (k : ℕ) → 2112 ≤ k → (k ≡ 8256 + i → ⊥) → word u k ≡ word t k
+  pub parents : (x : ℕ) → x < 1024 → parent-word u x ≡ cond (eqb x low) high (parent-word t x)
+  pub sizes : (x : ℕ) → x < 1024 → size-word u x ≡ cond (eqb x high) (size-word t low + size-word t high) (size-word t x)
+  pub old-low : low-word u i ≡ low
+
+-- of two roots, the one that goes under: the smaller class, on a tie the second
+unfoldable pub lower : List ℕ → ℕ → ℕ → ℕ
+lower t ra rb = cond (leb (size-word t rb) (size-word t ra)) rb ra
+
+unfoldable pub higher : List ℕ → ℕ → ℕ → ℕ
+higher t ra rb = cond (leb (size-word t rb) (size-word t ra)) ra rb
+
+-- ---- a new entry of the log
+
+-- the label, by its kind (0 a literal, 1 a congruence, 2 an interface leaf), its theory, its value and the pairs in force after it
+unfoldable pub label : List ℕ → ℕ → ℕ → ℕ → ℕ → EqJust
+label t zero h v e = Asserted v
+label t (suc zero) h v e = Congruence (map (λ j. (left-word t j, right-word t j)) (range v (e - v)))
+label t (suc (suc k)) h v e = Interface h v
+
+-- where its pairs begin
+unfoldable pub begins : ℕ → ℕ → ℕ → ℕ
+begins zero v e = e
+begins (suc zero) v e = v
+begins (suc (suc k)) v e = e
+
+-- entry i is written but for its roots; those before it stay
+pub record Logged (t u : List ℕ) (i a b w v e : ℕ) : Type 0 where
+  pub long : length u ≡ length t
+  pub before : (k : ℕ) → k < 4160 → word u k ≡ word t k
+  pub older : SameLog t u i
+  pub pairs : (k : ℕ) → 11328 ≤ k → word u k ≡ word t k
+  pub sides : (a-word u i ≡ a) × (b-word u i ≡ b)
+  pub kind : kind-word u i ≡ w
+  pub value : value-word u i ≡ v
+  pub after : after-word u i ≡ e
+  pub roots : (low-word u i ≡ low-word t i) × (froot-word u i ≡ froot-word t i)
+
+-- a and b are in two classes, and a label of these words may join them
+pub record Joinable (t : List ℕ) (a b kind h v e : ℕ) : Type 0 where
+  pub nodes : (a < 1024) × (b < 1024)
+  pub two : are-equal (merges t) a b ≡ false
+  pub known : kind < 3
+  pub theory : h < 65536
+  pub value : v < 4294967296
+  pub start : begins kind v e ≡ pairs-in-force (merges t)
+  pub ordered : begins kind v e ≤ e
+  pub fit : e ≤ 2048
+  pub pairs : (p : ℕ × ℕ) → In p (pairs-of (label t kind h v e)) → T (are-equal (merges t) (p .0) (p .1)) × (p .0 < 1024) × (p .1 < 1024)

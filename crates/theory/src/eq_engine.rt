@@ -3,12 +3,12 @@ use core::ids::TermId;
 use core::table::get;
 use core::table::put;
 ghost use mathlib.Core.Path.{_≡_};
-ghost use mathlib.Core.List.{[]};
+ghost use mathlib.Core.List.{[], _∷_};
 ghost use Prim.Native.Nat.{suc, _+_, _<_, _≤_};
 ghost use lib.ListN.{length, set};
 ghost use Rattle.theory.specs.EqEngine.{find, are-equal, before, way, pairs-in-force};
-ghost use Rattle.theory.specs.Table.{merges, level-word, end, Sound};
-ghost use Rattle.theory.specs.Steps.{On, Rerooted};
+ghost use Rattle.theory.specs.Table.{size-word, merges, level-word, end, Sound};
+ghost use Rattle.theory.specs.Steps.{On, Rerooted, Spliced, United, lower, higher, label, Logged, Joinable};
 
 // Class representative: up the parents to the root.
 fn find(t: &[u32], node: usize) -> usize
@@ -111,4 +111,68 @@ pub fn pairs_in_force(t: &[u32]) -> usize
         return 0;
     }
     get(t, 10303 + n)
+}
+
+// ---- merging
+
+// One new forest edge joins the two terms: the tree of a is turned to hang from a under b.
+fn splice(t: &mut [u32], a: usize, b: usize, i: usize)
+    requires { ⌜ Sound (now t) × (a < 1024) × (b < 1024) × (i < 1024) ⌝ }
+    ensures { λ _. ⌜ Spliced (now (t .entry)) (now (t .exit)) a b i ⌝ }
+{
+    let r = forest_root(t, a);
+    reroot_forest(t, a, r);
+    put(t, 2112 + a, b);
+    put(t, 3136 + a, i);
+    put(t, 9280 + i, r);
+}
+
+// The class of root low goes under the root high.
+fn put_under(t: &mut [u32], low: usize, high: usize, i: usize)
+    requires { ⌜ (16384 ≤ length (now t)) × (low < 1024) × (high < 1024) × (i < 1024) × (size-word (now t) low + size-word (now t) high < 4294967296) ⌝ }
+    ensures { λ _. ⌜ United (now (t .entry)) (now (t .exit)) low high i ⌝ }
+{
+    let n = get(t, 1088 + low) + get(t, 1088 + high);
+    put(t, 64 + low, high);
+    put(t, 1088 + high, n);
+    put(t, 8256 + i, low);
+}
+
+// The smaller class goes under the larger; on a tie the first side's root stays.
+fn union(t: &mut [u32], ra: usize, rb: usize, i: usize)
+    requires { ⌜ (16384 ≤ length (now t)) × (ra < 1024) × (rb < 1024) × (i < 1024) × (size-word (now t) ra + size-word (now t) rb < 4294967296) ⌝ }
+    ensures { λ _. ⌜ United (now (t .entry)) (now (t .exit)) (lower (now (t .entry)) ra rb) (higher (now (t .entry)) ra rb) i ⌝ }
+{
+    if get(t, 1088 + rb) <= get(t, 1088 + ra) {
+        put_under(t, rb, ra, i);
+    } else {
+        put_under(t, ra, rb, i);
+    }
+}
+
+// The words of a merge in the log, but for its roots.
+fn log(t: &mut [u32], i: usize, a: usize, b: usize, kind: usize, value: usize, after: usize)
+    requires { ⌜ (16384 ≤ length (now t)) × (i < 1024) × (a < 1024) × (b < 1024) × (kind < 4294967296) × (value < 4294967296) × (after ≤ 2048) ⌝ }
+    ensures { λ _. ⌜ Logged (now (t .entry)) (now (t .exit)) i a b kind value after ⌝ }
+{
+    put(t, 4160 + i, a);
+    put(t, 5184 + i, b);
+    put(t, 6208 + i, kind);
+    put(t, 7232 + i, value);
+    put(t, 10304 + i, after);
+}
+
+// Joins two classes under a label of the level of now.
+fn join(t: &mut [u32], a: usize, b: usize, kind: usize, theory: usize, value: usize, after: usize)
+    requires { ⌜ Sound (now t) × Joinable (now t) a b kind theory value after ⌝ }
+    ensures { λ _. ⌜ Sound (now (t .exit)) × (merges (now (t .exit)) ≡ record { a = a; b = b; just = label (now (t .entry)) kind theory value after; level = level-word (now (t .entry)) } ∷ merges (now (t .entry))) × (level-word (now (t .exit)) ≡ level-word (now (t .entry))) ⌝ }
+{
+    let i = get(t, 0);
+    let level = get(t, 1);
+    let ra = find(t, a);
+    let rb = find(t, b);
+    splice(t, a, b, i);
+    union(t, ra, rb, i);
+    log(t, i, a, b, 262144 * level + 65536 * kind + theory, value, after);
+    put(t, 0, i + 1);
 }
