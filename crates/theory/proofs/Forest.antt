@@ -273,10 +273,10 @@ module _ (W : ℕ → List Step) (F : Forest W) where
       ∙ sym (append-assoc (before v (W a)) (s ∷ []) (W (s .up))))
 
   -- the node just below x on the way of a
-  abbrev Below : ℕ → ℕ → Type 0
+  abbrev pub Below : ℕ → ℕ → Type 0
   Below x a = (v : ℕ) × (s : Step) × (w : List Step) × Above W v a × (W v ≡ s ∷ w) × (s .up ≡ x)
 
-  below : (x a : ℕ) → Above W x a → (a ≡ x → ⊥) → Below x a
+  pub below : (x a : ℕ) → Above W x a → (a ≡ x → ⊥) → Below x a
   below x a i h =
       climb (λ a. (a ≡ x → ⊥) → Below x a) x (λ k. absurd (k refl))
       (λ a s w p k j f g. next a s w p f (ℕ-discrete (s .up) x))

@@ -12,8 +12,12 @@ pub mod Puts
 pub mod Log
 pub mod Pairs
 pub mod Trees
+pub mod KindWords
 pub mod Shorter
 pub mod Merging
+pub mod Growing
+pub mod Joining
+pub mod Copying
 pub mod Clearing
 pub mod Registering
 pub mod Registers

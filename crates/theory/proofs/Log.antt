@@ -92,6 +92,21 @@ log-words t u n f = record {
   pairs = λ i h j l. (f (11328 + j) (omega arith), f (13376 + j) (omega arith));
 }
 
+-- words from the log on that agree but for the n-th of one region
+pub log-but : (t u : List ℕ) (base n : ℕ) → base % 1024 ≡ 64 → base ≤ 10304 → n < 1024 → ((k : ℕ) → 4160 ≤ k → (k ≡ base + n → ⊥) → word u k ≡ word t k) → SameLog t u n
+log-but t u base n b l m f = record {
+  entries = λ i h. record {
+    a = f (4160 + i) (omega arith) (λ q. absurd (omega arith));
+    b = f (5184 + i) (omega arith) (λ q. absurd (omega arith));
+    kind = f (6208 + i) (omega arith) (λ q. absurd (omega arith));
+    value = f (7232 + i) (omega arith) (λ q. absurd (omega arith));
+    low = f (8256 + i) (omega arith) (λ q. absurd (omega arith));
+    froot = f (9280 + i) (omega arith) (λ q. absurd (omega arith));
+    after = f (10304 + i) (omega arith) (λ q. absurd (omega arith));
+  };
+  pairs = λ i h j g. (f (11328 + j) (omega arith) (λ q. absurd (omega arith)), f (13376 + j) (omega arith) (λ q. absurd (omega arith)));
+}
+
 -- ---- counts
 
 pub below-length : (t : List ℕ) (n : ℕ) → length (merges-below t n) ≡ n

@@ -31,8 +31,8 @@ below-suffix t (suc m) zero h = absurd (omega arith)
 below-suffix t m (suc n) h = below-step t m n (decLe m n) h (λ l. below-suffix t m n l)
 
 -- the first edge of a node, by its words and an entry of the log that was there
-pub edge-words : (t u : List ℕ) (n x e : ℕ) (s : Step) (w : List Step) → SameLog t u n → merges# u ≡ n → e < n → fparent-word u x ≡ s .up → fedge-word u x ≡ e → just-at t e ≡ s .just → BothSides (merge-at t e) x (s .up) → FirstEdge u x (s ∷ w)
-edge-words t u n x e s w g c h p q j b =
+pub edge-words : (t u : List ℕ) (n x e : ℕ) (s : Step) (w : List Step) → SameLog t u n → e < n → e < merges# u → fparent-word u x ≡ s .up → fedge-word u x ≡ e → just-at t e ≡ s .just → BothSides (merge-at t e) x (s .up) → FirstEdge u x (s ∷ w)
+edge-words t u n x e s w g h l p q j b =
     let je = just-same t u e (g .entries e h) (g .pairs e h) in
     let me = merge-same t u e (g .entries e h) (g .pairs e h) in (
       p,
@@ -42,9 +42,9 @@ edge-words t u n x e s w g c h p q j b =
     )
 
 -- a first edge stays where its words and the log do
-pub edge-kept : (t u : List ℕ) (x : ℕ) (w : List Step) → SameLog t u (merges# t) → merges# u ≡ merges# t → fparent-word u x ≡ fparent-word t x → fedge-word u x ≡ fedge-word t x → FirstEdge t x w → FirstEdge u x w
+pub edge-kept : (t u : List ℕ) (x : ℕ) (w : List Step) → SameLog t u (merges# t) → merges# t ≤ merges# u → fparent-word u x ≡ fparent-word t x → fedge-word u x ≡ fedge-word t x → FirstEdge t x w → FirstEdge u x w
 edge-kept t u x [] g c p q e = p ∙ e
-edge-kept t u x (s ∷ w) g c p q (f, l, j, b) = edge-words t u (merges# t) x (fedge-word t x) s w g c l (p ∙ f) q j b
+edge-kept t u x (s ∷ w) g c p q (f, l, j, b) = edge-words t u (merges# t) x (fedge-word t x) s w g l (omega arith) (p ∙ f) q j b
 
 -- what the first n merges of t ask of u
 pub record Shortened (t u : List ℕ) (n : ℕ) : Type 0 where
@@ -127,7 +127,7 @@ module _ (t u : List ℕ) (z : Sound t) (l : length u ≡ length t) (k : (i : �
     levels = g;
     parents = λ x h. k (64 + x) (λ e. absurd (omega arith)) ∙ z .parents x h;
     sizes = λ x h. k (1088 + x) (λ e. absurd (omega arith)) ∙ z .sizes x h;
-    forest = λ x h. edge-kept t u x (way (merges t) x) same-log (k 0 (λ e. absurd (omega arith))) (k (2112 + x) (λ e. absurd (omega arith))) (k (3136 + x) (λ e. absurd (omega arith))) (z .forest x h);
+    forest = λ x h. edge-kept t u x (way (merges t) x) same-log (let c = k 0 (λ e. absurd (omega arith)) in omega arith) (k (2112 + x) (λ e. absurd (omega arith))) (k (3136 + x) (λ e. absurd (omega arith))) (z .forest x h);
   }
 
   pub level-changed : level-word u ≤ 64 → ((i : ℕ) → i < merges# t → kind-word t i / 262144 ≤ level-word u) → Sound u × (merges u ≡ merges t)

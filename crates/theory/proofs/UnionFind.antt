@@ -34,6 +34,10 @@ pub find-more : (m : Merge) (ms : List Merge) (x : ℕ) → find (m ∷ ms) x �
 unfolding find under
 find-more m ms x = ap (λ (c : Classes). c .find x) (chosen m ms .is-under)
 
+pub size-more : (m : Merge) (ms : List Merge) (r : ℕ) → classes (m ∷ ms) .size r ≡ cond (eqb r (high-root ms m)) (classes ms .size (low-root ms m) + classes ms .size (high-root ms m)) (classes ms .size r)
+unfolding under
+size-more m ms r = ap (λ (c : Classes). c .size r) (chosen m ms .is-under)
+
 -- both are roots, and two different ones where the merge joined two classes
 low-rooted : (m : Merge) (ms : List Merge) → find ms (low-root ms m) ≡ low-root ms m
 low-rooted m ms = go (chosen m ms .rooted)
@@ -149,16 +153,24 @@ up (m ∷ ms) (j, js) x = go (ℕ-discrete x (low-root ms m)) (up ms js x)
     go (no n) (inl (p, f)) = up-root m ms j js x n p f
     go (no n) (inr (p, f, d)) = up-node m ms j js x n p f d
 
+-- the roots of a merge of nodes are nodes
+module _ (n : ℕ) (m : Merge) (ms : List Merge) (w : Within n ms) (h : (m .a < n) × (m .b < n)) where
+  root-within : (x y : ℕ) → ((x ≡ find ms (m .a)) × (y ≡ find ms (m .b))) ⊎ ((x ≡ find ms (m .b)) × (y ≡ find ms (m .a))) → (x < n) × (y < n)
+  root-within x y (inl (p, q)) = let a = find-within n ms w (m .a) (h .0) in let b = find-within n ms w (m .b) (h .1) in (omega arith, omega arith)
+  root-within x y (inr (p, q)) = let a = find-within n ms w (m .a) (h .0) in let b = find-within n ms w (m .b) (h .1) in (omega arith, omega arith)
+
+  pub low-within : low-root ms m < n
+  low-within = root-within (low-root ms m) (high-root ms m) (chosen m ms .rooted) .0
+
+  pub high-within : high-root ms m < n
+  high-within = root-within (low-root ms m) (high-root ms m) (chosen m ms .rooted) .1
+
 -- a node's parent is a node
 pub parent-within : (n : ℕ) (ms : List Merge) → Within n ms → (x : ℕ) → x < n → parent ms x < n
 unfolding parent
 parent-within n [] w x h = h
 parent-within n (m ∷ ms) w x h = go (eqb x (low-root ms m)) (parent-within n ms (λ k i. w k (inr i)) x h)
   where
-    high : ((low-root ms m ≡ find ms (m .a)) × (high-root ms m ≡ find ms (m .b))) ⊎ ((low-root ms m ≡ find ms (m .b)) × (high-root ms m ≡ find ms (m .a))) → high-root ms m < n
-    high (inl (p, q)) = subst (λ (y : ℕ). y < n) (sym q) (find-within n ms (λ k i. w k (inr i)) (m .b) (w m (inl refl) .1))
-    high (inr (p, q)) = subst (λ (y : ℕ). y < n) (sym q) (find-within n ms (λ k i. w k (inr i)) (m .a) (w m (inl refl) .0))
-
     go : (b : Bool) → parent ms x < n → cond b (high-root ms m) (parent ms x) < n
-    go true l = high (chosen m ms .rooted)
+    go true l = high-within n m ms (λ k i. w k (inr i)) (w m (inl refl))
     go false l = l

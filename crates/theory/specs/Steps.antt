@@ -1,15 +1,17 @@
 -- What the engine's private functions do to its table: for the contracts between them. A caller of the crate needs none of it.
 use Prim.Native.Nat.{ℕ, zero, suc, _+_, _-_, _≤_, _<_}
 use mathlib.Core.Path.{_≡_}
-use mathlib.Core.Bool.{false, cond}
-use mathlib.Core.List.{List, _∷_, map}
-use lib.Dec.{T, eqb, leb}
+use mathlib.Core.Bool.{Bool, false, cond}
+use mathlib.Core.List.{List, [], _∷_, map}
+use lib.Dec.{eqb, leb, ltb}
 use lib.ListN.{length}
 use Rattle.core.specs.Lists.{In, range}
 use Rattle.core.specs.Table.{word}
 use Rattle.theory.specs.Types.{EqJust, Asserted, Congruence, Interface}
-use Rattle.theory.specs.EqEngine.{are-equal, pairs-of, pairs-in-force, Step, way}
-use Rattle.theory.specs.Table.{parent-word, size-word, fparent-word, fedge-word, a-word, b-word, kind-word, value-word, low-word, froot-word, after-word, left-word, right-word, merges, end}
+use Rattle.theory.specs.declared.types.EqJust as Given
+use Rattle.theory.specs.declared.eq_engine.LabelWords as LabelWords
+use Rattle.theory.specs.EqEngine.{Merge, are-equal, pairs-of, pairs-in-force, Step, way}
+use Rattle.theory.specs.Table.{parent-word, size-word, fparent-word, fedge-word, a-word, b-word, kind-word, value-word, low-word, froot-word, after-word, left-word, right-word, merges, end, EqualPairs}
 
 -- ---- the log
 
@@ -111,4 +113,33 @@ pub record Joinable (t : List ℕ) (a b kind h v e : ℕ) : Type 0 where
   pub start : begins kind v e ≡ pairs-in-force (merges t)
   pub ordered : begins kind v e ≤ e
   pub fit : e ≤ 2048
-  pub pairs : (p : ℕ × ℕ) → In p (pairs-of (label t kind h v e)) → T (are-equal (merges t) (p .0) (p .1)) × (p .0 < 1024) × (p .1 < 1024)
+  pub pairs : EqualPairs (merges t) (pairs-of (label t kind h v e))
+
+-- the words of a label without pairs
+unfoldable pub HoldsLabel : Given.EqJust → LabelWords.LabelWords → Type 0
+HoldsLabel (Given.the-variants.Asserted l) w = (w .kind ≡ 0) × (w .theory ≡ 0) × (w .value ≡ l .0) × (w .value < 4294967296)
+HoldsLabel (Given.the-variants.Interface j) w = (w .kind ≡ 2) × (w .theory ≡ j .theory) × (w .value ≡ j .tag) × (w .theory < 65536) × (w .value < 4294967296)
+
+-- ---- argument pairs
+
+-- the numbers of two lists are pairs from start on, and all else is as before
+pub record Copied (t u : List ℕ) (start : ℕ) (xs ys : List ℕ) : Type 0 where
+  pub long : length u ≡ length t
+  pub before : (k : ℕ) → k < 11328 → word u k ≡ word t k
+  pub older : SamePairs t u start
+  pub new : (j : ℕ) → j < length xs → (left-word u (start + j) ≡ word xs j) × (right-word u (start + j) ≡ word ys j)
+
+-- ---- a merge undone
+
+-- the class of root low, which was under high, is its own again
+pub record Separated (t u : List ℕ) (low high : ℕ) : Type 0 where
+  pub long : length u ≡ length t
+  pub before : (k : ℕ) → k < 64 → word u k ≡ word t k
+  pub behind : (k : ℕ) → 2112 ≤ k → word u k ≡ word t k
+  pub parents : (x : ℕ) → x < 1024 → parent-word u x ≡ cond (eqb x low) low (parent-word t x)
+  pub sizes : (x : ℕ) → x < 1024 → size-word u x ≡ cond (eqb x high) (size-word t high - size-word t low) (size-word t x)
+
+-- is the newest merge of a level above k?
+unfoldable pub newest-above : ℕ → List Merge → Bool
+newest-above k [] = false
+newest-above k (m ∷ ms) = ltb k (m .level)

@@ -10,6 +10,7 @@ use lib.ListN.{length}
 use Rattle.core.specs.Lists.{In, range}
 use Rattle.core.specs.Table.{word}
 use Rattle.theory.specs.Types.{EqJust, Asserted, Congruence, Interface}
+use Rattle.theory.specs.declared.types.EqJust as Given
 use Rattle.theory.specs.EqEngine.{Merge, classes, find, are-equal, pairs-of, pairs-in-force, Step, way}
 
 -- ---- the layout, within 16,384 words
@@ -148,6 +149,10 @@ Justified (m ∷ ms) =
     × ((p : ℕ × ℕ) → In p (pairs-of (m .just)) → T (are-equal ms (p .0) (p .1)))
     × Justified ms
 
+-- pairs of nodes that are equal in a list of merges
+abbrev pub EqualPairs : List Merge → List (ℕ × ℕ) → Type 0
+EqualPairs ms ps = (p : ℕ × ℕ) → In p ps → T (are-equal ms (p .0) (p .1)) × (p .0 < 1024) × (p .1 < 1024)
+
 -- Each region is what the log of merges says.
 pub record Sound (t : List ℕ) : Type 0 where
   pub long : 16384 ≤ length t
@@ -169,3 +174,9 @@ pub record Sound (t : List ℕ) : Type 0 where
   pub parents : (x : ℕ) → x < 1024 → parent-word t x ≡ parent (merges t) x
   pub sizes : (x : ℕ) → x < 1024 → size-word t x ≡ classes (merges t) .size x
   pub forest : (x : ℕ) → x < 1024 → FirstEdge t x (way (merges t) x)
+
+-- ---- the code's label in the definition
+
+unfoldable pub justIs : Given.EqJust → EqJust
+justIs (Given.the-variants.Asserted l) = Asserted (l .0)
+justIs (Given.the-variants.Interface j) = Interface (j .theory) (j .tag)

@@ -2,13 +2,18 @@
 use core::ids::TermId;
 use core::table::get;
 use core::table::put;
+use crate::types::EqJust;
 ghost use mathlib.Core.Path.{_≡_};
 ghost use mathlib.Core.List.{[], _∷_};
 ghost use Prim.Native.Nat.{suc, _+_, _<_, _≤_};
 ghost use lib.ListN.{length, set};
-ghost use Rattle.theory.specs.EqEngine.{find, are-equal, before, way, pairs-in-force};
-ghost use Rattle.theory.specs.Table.{size-word, merges, level-word, end, Sound};
-ghost use Rattle.theory.specs.Steps.{On, Rerooted, Spliced, United, lower, higher, label, Logged, Joinable};
+ghost use mathlib.Core.Bool.{false, cond};
+ghost use lib.Dec.{leb};
+ghost use Rattle.core.specs.Lists.{zip};
+ghost use Rattle.theory.specs.Types.{Congruence};
+ghost use Rattle.theory.specs.EqEngine.{find, are-equal, merge, pop-merges, before, way, pairs-in-force};
+ghost use Rattle.theory.specs.Table.{merges#, parent-word, size-word, merges-below, merges, level-word, end, justIs, EqualPairs, Sound};
+ghost use Rattle.theory.specs.Steps.{On, Rerooted, Spliced, United, lower, higher, label, Logged, Joinable, HoldsLabel, Copied, Separated, newest-above};
 
 // Class representative: up the parents to the root.
 fn find(t: &[u32], node: usize) -> usize
@@ -175,4 +180,125 @@ fn join(t: &mut [u32], a: usize, b: usize, kind: usize, theory: usize, value: us
     union(t, ra, rb, i);
     log(t, i, a, b, 262144 * level + 65536 * kind + theory, value, after);
     put(t, 0, i + 1);
+}
+
+// A label without pairs, as the log holds it.
+struct LabelWords {
+    kind: usize,
+    theory: usize,
+    value: usize,
+}
+
+fn label_words(j: EqJust) -> LabelWords
+    ensures { λ r. ⌜ HoldsLabel j r ⌝ }
+{
+    match j {
+        EqJust::Asserted(l) => LabelWords { kind: 0, theory: 0, value: l.0 as usize },
+        EqJust::Interface(k) => LabelWords { kind: 2, theory: k.theory as usize, value: k.tag as usize },
+    }
+}
+
+// Merging within one class does nothing.
+pub fn merge(t: &mut [u32], a: TermId, b: TermId, j: EqJust)
+    requires { ⌜ Sound (now t) × (a .0 < 1024) × (b .0 < 1024) ⌝ }
+    ensures { λ _. ⌜ Sound (now (t .exit)) × (merges (now (t .exit)) ≡ merge (merges (now (t .entry))) (level-word (now (t .entry))) (a .0) (b .0) (justIs j)) × (level-word (now (t .exit)) ≡ level-word (now (t .entry))) ⌝ }
+{
+    if are_equal(t, a, b) {
+        return;
+    }
+    let x = a.0 as usize;
+    let y = b.0 as usize;
+    let n = pairs_in_force(t);
+    let w = label_words(j);
+    let kind = w.kind;
+    let theory = w.theory;
+    let value = w.value;
+    join(t, x, y, kind, theory, value, n);
+}
+
+// The numbers of two lists become argument pairs from start on.
+fn copy_pairs(t: &mut [u32], start: usize, xs: &[u32], ys: &[u32])
+    requires { ⌜ (16384 ≤ length (now t)) × (length (now xs) ≡ length (now ys)) × (start + length (now xs) ≤ 2048) ⌝ }
+    ensures { λ _. ⌜ Copied (now (t .entry)) (now (t .exit)) start (now (xs .entry)) (now (ys .entry)) ⌝ }
+{
+    let mut i = 0;
+    while i < xs.len() {
+        put(t, 11328 + start + i, get(xs, i));
+        put(t, 13376 + start + i, get(ys, i));
+        i += 1;
+    }
+}
+
+// Like `merge`, but the label is all argument pairs of the two applications, in order. Within one class no pairs are taken.
+pub fn merge_congruence(t: &mut [u32], a: TermId, b: TermId, xs: &[u32], ys: &[u32])
+    requires { ⌜ Sound (now t) × (a .0 < 1024) × (b .0 < 1024) × (length (now xs) ≡ length (now ys)) × (pairs-in-force (merges (now t)) + length (now xs) ≤ 2048) × EqualPairs (merges (now t)) (zip (now xs) (now ys)) ⌝ }
+    ensures { λ _. ⌜ Sound (now (t .exit)) × (merges (now (t .exit)) ≡ merge (merges (now (t .entry))) (level-word (now (t .entry))) (a .0) (b .0) (Congruence (zip (now (xs .entry)) (now (ys .entry))))) × (level-word (now (t .exit)) ≡ level-word (now (t .entry))) ⌝ }
+{
+    if are_equal(t, a, b) {
+        return;
+    }
+    let x = a.0 as usize;
+    let y = b.0 as usize;
+    let start = pairs_in_force(t);
+    copy_pairs(t, start, xs, ys);
+    join(t, x, y, 1, 0, start, start + xs.len());
+}
+
+// ---- undoing
+
+// The class of root low, which was under another, is its own again.
+fn separate(t: &mut [u32], low: usize)
+    requires { ⌜ (16384 ≤ length (now t)) × (low < 1024) × (parent-word (now t) low < 1024) × (size-word (now t) low ≤ size-word (now t) (parent-word (now t) low)) ⌝ }
+    ensures { λ _. ⌜ Separated (now (t .entry)) (now (t .exit)) low (parent-word (now (t .entry)) low) ⌝ }
+{
+    let high = get(t, 64 + low);
+    let n = get(t, 1088 + high) - get(t, 1088 + low);
+    put(t, 1088 + high, n);
+    put(t, 64 + low, low);
+}
+
+// The newest merge is taken back: the way from the old root of the first side's tree is turned again.
+fn undo(t: &mut [u32])
+    requires { ⌜ Sound (now t) × (0 < merges# (now t)) ⌝ }
+    ensures { λ _. ⌜ Sound (now (t .exit)) × (suc (merges# (now (t .exit))) ≡ merges# (now (t .entry))) × (merges (now (t .exit)) ≡ merges-below (now (t .entry)) (merges# (now (t .exit)))) × (level-word (now (t .exit)) ≡ level-word (now (t .entry))) ⌝ }
+{
+    let i = get(t, 0) - 1;
+    let a = get(t, 4160 + i);
+    let low = get(t, 8256 + i);
+    let r = get(t, 9280 + i);
+    reroot_forest(t, r, a);
+    separate(t, low);
+    put(t, 0, i);
+}
+
+fn newest_above(t: &[u32], level: usize) -> bool
+    requires { ⌜ Sound (now t) ⌝ }
+    ensures { λ r. ⌜ r ≡ newest-above level (merges (now (t .entry))) ⌝ }
+{
+    let n = get(t, 0);
+    if n == 0 {
+        return false;
+    }
+    level < get(t, 6207 + n) / 262144
+}
+
+fn undo_above(t: &mut [u32], level: usize)
+    requires { ⌜ Sound (now t) ⌝ }
+    ensures { λ _. ⌜ Sound (now (t .exit)) × (merges (now (t .exit)) ≡ pop-merges level (merges (now (t .entry)))) × (newest-above level (merges (now (t .exit))) ≡ false) × (level-word (now (t .exit)) ≡ level-word (now (t .entry))) ⌝ }
+{
+    while newest_above(t, level) {
+        undo(t);
+    }
+}
+
+// Back to a level: classes, sizes, forest and pairs as they were. At or above the level of now nothing changes.
+pub fn pop(t: &mut [u32], level: usize)
+    requires { ⌜ Sound (now t) ⌝ }
+    ensures { λ _. ⌜ Sound (now (t .exit)) × (merges (now (t .exit)) ≡ pop-merges level (merges (now (t .entry)))) × (level-word (now (t .exit)) ≡ cond (leb (level-word (now (t .entry))) level) (level-word (now (t .entry))) level) × (level-word (now (t .entry)) ≤ level → now (t .exit) ≡ now (t .entry)) ⌝ }
+{
+    if get(t, 1) <= level {
+        return;
+    }
+    undo_above(t, level);
+    put(t, 1, level);
 }

@@ -1,74 +1,53 @@
+use native.Mathlib.Omega.{arith}
+use Rattle.theory.proofs.Growing.{joined-at, sizes-fit}
 use borrow.Author.Needs.{needs}
 use Rattle.theory.proofs.eq_engine.join.Statement.{statement}
 use Rattle.theory.proofs.eq_engine.join.Tie as tie
-use Rattle.theory.proofs.eq_engine.join.Reads as reads
-use Rattle.theory.proofs.eq_engine.join.Lts as lts
-use Rattle.core.proofs.table.get.Reads as get-reads
-use Rattle.core.proofs.table.put.Reads as put-reads
-use Rattle.theory.proofs.eq_engine.find.Reads as find-reads
-use Rattle.theory.proofs.eq_engine.log.Reads as log-reads
-use Rattle.theory.proofs.eq_engine.splice.Reads as splice-reads
-use Rattle.theory.proofs.eq_engine.union.Reads as union-reads
 
--- src/eq_engine.rt:170:9
 get-requires : tie.Need-get-requires
 get-requires c κs = search needs
 
--- src/eq_engine.rt:171:9
 get-requires-2 : tie.Need-get-requires-2
 get-requires-2 c κs = search needs
 
--- src/eq_engine.rt:172:9
 find-requires : tie.Need-find-requires
 find-requires c κs = search needs
 
--- src/eq_engine.rt:173:9
 find-requires-2 : tie.Need-find-requires-2
 find-requires-2 c κs = search needs
 
--- src/eq_engine.rt:174:5
 splice-requires : tie.Need-splice-requires
 splice-requires c κs = search needs
 
--- src/eq_engine.rt:175:5
 union-requires : tie.Need-union-requires
-union-requires c κs = ?
+union-requires c κs = let z = c .before .before .before .before .before .before .before .before .before .before .before .before .before .before .pre .0 in let f = z .fewer in let i = c .before .before .before .before .before .before .before .before .before .before .before .get .ensures .0 in let l = z .long in let s = c .before .before .before .splice .kept .0 in (omega arith, c .before .before .before .before .before .before .before .find .ensures .1, c .before .before .before .before .before .find2 .ensures .1, omega arith, sizes-fit _ _ _ _ _ _ _ z (c .before .before .before .splice .ensures) (c .before .before .before .before .before .before .before .find .ensures .1) (c .before .before .before .before .before .find2 .ensures .1))
 
--- src/eq_engine.rt:176:21
 mul-log : tie.Need-mul-log
 mul-log c = search needs
 
--- src/eq_engine.rt:176:38
 mul-log-2 : tie.Need-mul-log-2
 mul-log-2 c = search needs
 
--- src/eq_engine.rt:176:21
 add-log : tie.Need-add-log
 add-log c = search needs
 
--- src/eq_engine.rt:176:21
 add-log-2 : tie.Need-add-log-2
 add-log-2 c = search needs
 
--- src/eq_engine.rt:176:5
 log-requires : tie.Need-log-requires
 log-requires c κs = search needs
 
--- src/eq_engine.rt:177:15
 add-put : tie.Need-add-put
 add-put c = search needs
 
--- src/eq_engine.rt:177:5
 put-requires : tie.Need-put-requires
 put-requires c κs = search needs
 
--- src/eq_engine.rt:166:1
 same-length : tie.Need-same-length
 same-length c = search needs
 
--- src/eq_engine.rt:166:1
 returns : tie.Need-returns
-returns c = ?
+returns c = let p = c .before .before .before .before .before .before .before .before .before .before .before .before .before .before .before .before .before .before .before .before .before .before .before .before .before .pre in joined-at _ _ _ _ _ _ _ _ _ _ _ _ _ _ _ (p .0) (p .1) (c .before .before .before .before .before .before .before .before .before .before .before .before .before .before .before .before .before .before .before .before .before .before .get .ensures .0) (c .before .before .before .before .before .before .before .before .before .before .before .before .before .before .before .before .before .before .before .before .get2 .ensures .0) (c .before .before .before .before .before .before .before .before .before .before .before .before .before .before .before .before .before .before .find .ensures .0) (c .before .before .before .before .before .before .before .before .before .before .before .before .before .before .before .before .find2 .ensures .0) (c .before .before .before .before .before .before .before .before .before .before .before .before .before .before .splice .ensures) (c .before .before .before .before .before .before .before .before .before .before .union .ensures) (c .before .before .before .before .before .before .log .ensures) (c .before .before .put .ensures)
 
 pub join-spec : {M : Type 1} → statement M
 join-spec =

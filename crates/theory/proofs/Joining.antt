@@ -1,0 +1,197 @@
+-- Two classes joined under a given label, or one class left as it is.
+use Prim.Native.Nat.{ℕ, zero, suc, _+_, _-_, _≤_, _<_}
+use mathlib.Core.Path.{_≡_, refl, sym, subst, ap, ap₂, _∙_}
+use mathlib.Core.Logic.{inl, inr}
+use mathlib.Core.Bool.{Bool, true, false, cond}
+use mathlib.Core.List.{List, [], _∷_, map}
+use native.Mathlib.Omega.{arith}
+use native.Mathlib.Nat.{add-zero}
+use native.Mathlib.Decide.{decLe}
+use lib.ListN.{length}
+use Rattle.core.specs.Lists.{In, range, zip}
+use Rattle.core.specs.Table.{word}
+use Rattle.theory.specs.Types.{EqJust, Asserted, Congruence, Interface}
+use Rattle.theory.specs.declared.types.EqJust as Given
+use Rattle.theory.specs.declared.eq_engine.LabelWords as LabelWords
+use Rattle.theory.specs.EqEngine.{Merge, are-equal, merge, pairs-of, pairs-in-force, Step, way}
+use Rattle.theory.specs.Table.{merges#, level-word, after-word, left-word, right-word, merge-at, merges-below, merges, justIs, EqualPairs, Sound}
+use Rattle.theory.specs.Steps.{SameLog, SamePairs, label, begins, Joinable, HoldsLabel, Copied}
+use Rattle.theory.proofs.Pairs.{after-is, pairs-more}
+use Rattle.theory.proofs.Shorter.{below-suffix, edge-kept, Shortened, shorter-sound, shorter-merges}
+
+-- ---- the list
+
+-- what a merge asks of the table after it
+abbrev pub Merged : List ℕ → List ℕ → ℕ → ℕ → EqJust → Type 0
+Merged t u a b j = Sound u × (merges u ≡ merge (merges t) (level-word t) a b j) × (level-word u ≡ level-word t)
+
+merge-one : (ms : List Merge) (l a b : ℕ) (j : EqJust) → are-equal ms a b ≡ true → merge ms l a b j ≡ ms
+unfolding merge
+merge-one ms l a b j e = ap (λ (d : Bool). cond d ms (record { a = a; b = b; just = j; level = l } ∷ ms)) e
+
+merge-two : (ms : List Merge) (l a b : ℕ) (j : EqJust) → are-equal ms a b ≡ false → merge ms l a b j ≡ record { a = a; b = b; just = j; level = l } ∷ ms
+unfolding merge
+merge-two ms l a b j e = ap (λ (d : Bool). cond d ms (record { a = a; b = b; just = j; level = l } ∷ ms)) e
+
+-- within one class nothing changes
+pub merged-one : (t : List ℕ) (a b : ℕ) (j : EqJust) → Sound t → are-equal (merges t) a b ≡ true → Merged t t a b j
+merged-one t a b j z e = (z, sym (merge-one (merges t) (level-word t) a b j e), refl)
+
+-- what a join ensures, as a merge
+merged-two : (t u : List ℕ) (a b : ℕ) (i j : EqJust) → are-equal (merges t) a b ≡ false → i ≡ j → Sound u × (merges u ≡ record { a = a; b = b; just = i; level = level-word t } ∷ merges t) × (level-word u ≡ level-word t) → Merged t u a b j
+merged-two t u a b i j e q (z, m, l) =
+    (z, m ∙ ap (λ (k : EqJust). record { a = a; b = b; just = k; level = level-word t } ∷ merges t) q ∙ sym (merge-two (merges t) (level-word t) a b j e), l)
+
+-- ---- a label without pairs
+
+module _ (t : List ℕ) (n : ℕ) where
+  -- what the words of such a label are
+  record Plain (j : Given.EqJust) (kind h v : ℕ) : Type 0 where
+    known : kind < 3
+    theory : h < 65536
+    value : v < 4294967296
+    start : begins kind v n ≡ n
+    none : pairs-of (label t kind h v n) ≡ []
+    is : label t kind h v n ≡ justIs j
+
+  plain : (j : Given.EqJust) (w : LabelWords.LabelWords) → HoldsLabel j w → Plain j (w .kind) (w .theory) (w .value)
+  unfolding HoldsLabel label begins pairs-of justIs
+  plain (Given.the-variants.Asserted l) w (p, q, r, b) = record {
+    known = omega arith;
+    theory = omega arith;
+    value = b;
+    start = ap (λ (k : ℕ). begins k (w .value) n) p;
+    none = ap (λ (k : ℕ). pairs-of (label t k (w .theory) (w .value) n)) p;
+    is = ap (λ (k : ℕ). label t k (w .theory) (w .value) n) p ∙ ap Asserted r;
+  }
+  plain (Given.the-variants.Interface k) w (p, q, r, d, b) = record {
+    known = omega arith;
+    theory = d;
+    value = b;
+    start = ap (λ (i : ℕ). begins i (w .value) n) p;
+    none = ap (λ (i : ℕ). pairs-of (label t i (w .theory) (w .value) n)) p;
+    is = ap (λ (i : ℕ). label t i (w .theory) (w .value) n) p ∙ ap₂ Interface q r;
+  }
+
+pub joinable-label : (t : List ℕ) (a b n : ℕ) (j : Given.EqJust) (w : LabelWords.LabelWords) → a < 1024 → b < 1024 → are-equal (merges t) a b ≡ false → n ≡ pairs-in-force (merges t) → n ≤ 2048 → HoldsLabel j w → Joinable t a b (w .kind) (w .theory) (w .value) n
+joinable-label t a b n j w na nb two p top h =
+    let c = plain t n j w h in
+    let s = c .start in
+    record {
+      nodes = (na, nb);
+      two = two;
+      known = c .known;
+      theory = c .theory;
+      value = c .value;
+      start = c .start ∙ p;
+      ordered = omega arith;
+      fit = top;
+      pairs = λ q i. absurd (subst (λ (ps : List (ℕ × ℕ)). In q ps) (c .none) i);
+    }
+
+pub merged-label : (t u : List ℕ) (a b n : ℕ) (j : Given.EqJust) (w : LabelWords.LabelWords) → are-equal (merges t) a b ≡ false → HoldsLabel j w → Sound u × (merges u ≡ record { a = a; b = b; just = label t (w .kind) (w .theory) (w .value) n; level = level-word t } ∷ merges t) × (level-word u ≡ level-word t) → Merged t u a b (justIs j)
+merged-label t u a b n j w e h r = merged-two t u a b (label t (w .kind) (w .theory) (w .value) n) (justIs j) e (plain t n j w h .is) r
+
+-- ---- a label of pairs
+
+-- pairs by their places
+module _ (f g : ℕ → ℕ) where
+  zip-words : (xs ys : List ℕ) (k : ℕ) → length xs ≡ length ys → ((j : ℕ) → j < length xs → (f (k + j) ≡ word xs j) × (g (k + j) ≡ word ys j)) → map (λ j. (f j, g j)) (range k (length xs)) ≡ zip xs ys
+  unfolding zip range
+  zip-words [] ys k e h = refl
+  zip-words (x ∷ xs) [] k e h = absurd (omega arith)
+  zip-words (x ∷ xs) (y ∷ ys) k e h =
+      let a = h 0 (omega arith) in
+      ap₂ (λ (p : ℕ × ℕ) (ps : List (ℕ × ℕ)). p ∷ ps)
+      (ap₂ (λ (p q : ℕ). (p, q)) (ap f (sym (add-zero k)) ∙ a .0) (ap g (sym (add-zero k)) ∙ a .1))
+      (zip-words xs ys (suc k) (omega arith) (λ j l.
+      let q : suc k + j ≡ k + suc j = omega arith in
+      let b = h (suc j) (omega arith) in
+      (ap f q ∙ b .0, ap g q ∙ b .1)))
+
+-- pairs in force of some time before are no more
+pairs-fewer : (t : List ℕ) (i n : ℕ) → i ≤ n → pairs-in-force (merges-below t i) ≤ pairs-in-force (merges-below t n)
+unfolding merges-below
+pairs-fewer t i zero h = let e : i ≡ 0 = omega arith in let q = ap (λ (k : ℕ). pairs-in-force (merges-below t k)) e in omega arith
+pairs-fewer t i (suc n) h = go (decLe i n) (pairs-fewer t i n)
+  where
+    go : Dec (i ≤ n) → (i ≤ n → pairs-in-force (merges-below t i) ≤ pairs-in-force (merges-below t n)) → pairs-in-force (merges-below t i) ≤ pairs-in-force (merges-below t (suc n))
+    go (yes l) f = let r = f l in omega (arith, pairs-more (merge-at t n) (merges-below t n))
+    go (no l) f = let e : i ≡ suc n = omega arith in let q = ap (λ (k : ℕ). pairs-in-force (merges-below t k)) e in omega arith
+
+-- the pairs of every merge stand below the pairs in force
+pub after-within : (t : List ℕ) (i : ℕ) → Sound t → i < merges# t → after-word t i ≤ pairs-in-force (merges t)
+unfolding merges
+after-within t i z h = let e = after-is t i z h in let l = pairs-fewer t (suc i) (merges# t) h in omega arith
+
+module _ (t u : List ℕ) (start : ℕ) (xs ys : List ℕ) (z : Sound t) (p : start ≡ pairs-in-force (merges t)) (c : Copied t u start xs ys) where
+  same-log : SameLog t u (merges# t)
+  same-log =
+      let f = z .fewer in
+      record {
+        entries = λ i h. record {
+          a = c .before (4160 + i) (omega arith);
+          b = c .before (5184 + i) (omega arith);
+          kind = c .before (6208 + i) (omega arith);
+          value = c .before (7232 + i) (omega arith);
+          low = c .before (8256 + i) (omega arith);
+          froot = c .before (9280 + i) (omega arith);
+          after = c .before (10304 + i) (omega arith);
+        };
+        pairs = λ i h j l. let r = after-within t i z h in c .older j (omega arith);
+      }
+
+  shortened : Shortened t u (merges# t)
+  unfolding merges
+  shortened = record {
+    long = let l = z .long in let k = c .long in omega arith;
+    fewer = omega arith;
+    count = c .before 0 (omega arith);
+    log = same-log;
+    levels-fit = let e = c .before 1 (omega arith) in let f = z .levels-fit in omega arith;
+    levels = λ i h. let e = c .before 1 (omega arith) in let f = z .levels i h in omega arith;
+    parents = λ x h. c .before (64 + x) (omega arith) ∙ z .parents x h;
+    sizes = λ x h. c .before (1088 + x) (omega arith) ∙ z .sizes x h;
+    forest = λ x h.
+      edge-kept t u x (way (merges t) x) same-log (let e = c .before 0 (omega arith) in omega arith)
+      (c .before (2112 + x) (omega arith)) (c .before (3136 + x) (omega arith)) (z .forest x h);
+  }
+
+  -- more pairs behind those in force change nothing
+  pub copied-sound : Sound u
+  copied-sound = shorter-sound t u (merges# t) z shortened
+
+  pub copied-merges : merges u ≡ merges t
+  unfolding merges
+  copied-merges = shorter-merges t u (merges# t) z shortened
+
+  label-is : (n : ℕ) → n ≡ start + length xs → length xs ≡ length ys → label u 1 0 start n ≡ Congruence (zip xs ys)
+  unfolding label
+  label-is n e l =
+      let d : n - start ≡ length xs = omega arith in
+      ap Congruence (
+      ap (λ (k : ℕ). map (λ j. (left-word u j, right-word u j)) (range start k)) d
+      ∙ zip-words (left-word u) (right-word u) xs ys start l (c .new))
+
+  pub joinable-pairs : (a b n : ℕ) → a < 1024 → b < 1024 → are-equal (merges t) a b ≡ false → n ≡ start + length xs → length xs ≡ length ys → n ≤ 2048 → EqualPairs (merges t) (zip xs ys) → Joinable u a b 1 0 start n
+  unfolding begins pairs-of
+  joinable-pairs a b n na nb two e l f q = record {
+    nodes = (na, nb);
+    two = ap (λ (ms : List Merge). are-equal ms a b) copied-merges ∙ two;
+    known = omega arith;
+    theory = omega arith;
+    value = omega arith;
+    start = p ∙ ap pairs-in-force (sym copied-merges);
+    ordered = omega arith;
+    fit = f;
+    pairs = subst (λ (j : EqJust). EqualPairs (merges u) (pairs-of j)) (sym (label-is n e l)) (subst (λ (ms : List Merge). EqualPairs ms (zip xs ys)) (sym copied-merges) q);
+  }
+
+  pub merged-pairs : (v : List ℕ) (a b n : ℕ) → are-equal (merges t) a b ≡ false → n ≡ start + length xs → length xs ≡ length ys → Sound v × (merges v ≡ record { a = a; b = b; just = label u 1 0 start n; level = level-word u } ∷ merges u) × (level-word v ≡ level-word u) → Merged t v a b (Congruence (zip xs ys))
+  merged-pairs v a b n two e l (s, m, k) =
+      let q = c .before 1 (omega arith) in
+      merged-two t v a b (label u 1 0 start n) (Congruence (zip xs ys)) two (label-is n e l) (
+        s,
+        m ∙ ap₂ (λ (lv : ℕ) (ms : List Merge). record { a = a; b = b; just = label u 1 0 start n; level = lv } ∷ ms) q copied-merges,
+        k ∙ q,
+      )
