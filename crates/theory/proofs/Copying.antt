@@ -51,7 +51,7 @@ module _ (t₀ t u v : List ℕ) (start : ℕ) (xs ys : List ℕ) (i x y : ℕ) 
     before = λ k b. other k (λ r. absurd (omega arith)) (λ r. absurd (omega arith)) ∙ c .before k b;
     older = λ j b. let a = there j (omega arith) in let d = c .older j b in (a .0 ∙ d .0, a .1 ∙ d .1);
     new = below-more (λ j. (left-word v (start + j) ≡ word xs j) × (right-word v (start + j) ≡ word ys j)) i
-      (λ j b. let a = there (start + j) (omega arith) in let d = c .new j b in (a .0 ∙ d .0, a .1 ∙ d .1)) here;
+        (λ j b. let a = there (start + j) (omega arith) in let d = c .new j b in (a .0 ∙ d .0, a .1 ∙ d .1)) here;
   }
 
 pub copying-done : (t₀ t : List ℕ) (start : ℕ) (xs ys : List ℕ) (i : ℕ) → CopyingPairs t₀ t start xs ys i → length xs ≤ i → Copied t₀ t start xs ys

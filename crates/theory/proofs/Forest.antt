@@ -3,7 +3,7 @@ use Prim.Native.Nat.{ℕ, suc, _≤_, _<_}
 use mathlib.Core.Path.{_≡_, refl, sym, subst, ap, _∙_}
 use mathlib.Core.Logic.{_⊎_, inl, inr}
 use mathlib.Core.Bool.{Bool, true, false, cond}
-use mathlib.Core.List.{List, [], _∷_, _++_, map, append-assoc, append-cancel-right, nil≢cons, tail-eq-of-cons-eq, head-eq-of-cons-eq}
+use mathlib.Core.List.{List, [], _∷_, _++_, map, append-assoc, append-cancel-right, append-nil, nil≢cons, tail-eq-of-cons-eq, head-eq-of-cons-eq}
 use mathlib.Core.Option.{none, some, Option·getD}
 use native.Mathlib.Nat.{le-antisymm}
 use native.Mathlib.Decide.{ℕ-discrete}
@@ -16,7 +16,7 @@ use Rattle.core.proofs.Lists.{In, any-in}
 pub use Rattle.theory.specs.Table.{Joins, end}
 pub use Rattle.theory.specs.Steps.{On}
 use Rattle.theory.specs.EqEngine.{Merge, Step, classes, find, are-equal, before, turned, nodes, common, rehung, way, path}
-use Rattle.theory.proofs.Members.{in-either, in-any, Apart}
+use Rattle.theory.proofs.Members.{in-left, in-right, in-either, in-any, Apart}
 use Rattle.theory.proofs.Classes.{Same, same-alone, same?, BothSides, turned-sides, unequal, Across, same-split, same-kept, same-sides, Suffix, same-suffix}
 
 -- ---- steps
@@ -66,11 +66,11 @@ edge-same (n ∷ ms) s (m, inl e, (j, inr (p, q))) =
 
 -- ---- before, turned
 
-before-skip : (n : ℕ) (s : Step) (w : List Step) → (s .node ≡ n → ⊥) → before n (s ∷ w) ≡ s ∷ before n w
+pub before-skip : (n : ℕ) (s : Step) (w : List Step) → (s .node ≡ n → ⊥) → before n (s ∷ w) ≡ s ∷ before n w
 unfolding before
 before-skip n s w h = rw (ne-eqb (s .node) n h)
 
-before-stop : (n : ℕ) (s : Step) (w : List Step) → s .node ≡ n → before n (s ∷ w) ≡ []
+pub before-stop : (n : ℕ) (s : Step) (w : List Step) → s .node ≡ n → before n (s ∷ w) ≡ []
 unfolding before
 before-stop n s w e = rw (eq-eqb (s .node) n e)
 
@@ -88,6 +88,23 @@ turned-last : (u : List Step) (s : Step) → turned (u ++ (s ∷ [])) ≡ back s
 unfolding turned
 turned-last [] s = refl
 turned-last (t ∷ u) s = ap (λ (w : List Step). w ++ (back t ∷ [])) (turned-last u s)
+
+-- a step turned was a step
+pub turned-in : (w : List Step) (q : Step) → In q (turned w) → (s : Step) × In s w × (q ≡ back s)
+unfolding turned
+turned-in [] q i = absurd i
+turned-in (t ∷ w) q i = go (in-either q (turned w) (back t ∷ []) i) (turned-in w q)
+  where
+    go : In q (turned w) ⊎ In q (back t ∷ []) → (In q (turned w) → (s : Step) × In s w × (q ≡ back s)) → (s : Step) × In s (t ∷ w) × (q ≡ back s)
+    go (inl j) f = let (s, k, e) = f j in (s, inr k, e)
+    go (inr (inl e)) f = (t, inl refl, e)
+    go (inr (inr j)) f = absurd j
+
+pub in-turned : (w : List Step) (s : Step) → In s w → In (back s) (turned w)
+unfolding turned
+in-turned [] s i = absurd i
+in-turned (t ∷ w) s (inl e) = in-right (back s) (turned w) (back t ∷ []) (inl (ap back e))
+in-turned (t ∷ w) s (inr i) = in-left (back s) (turned w) (back t ∷ []) (in-turned w s i)
 
 turned-over : (ms : List Merge) (w : List Step) → Over ms w → Over ms (turned w)
 unfolding turned
@@ -348,6 +365,36 @@ module _ (W : ℕ → List Step) (F : Forest W) where
       go (inl e) = absurd (h (sym e))
       go (inr i) = i
 
+-- ---- the end of a way
+
+pub end-on : (w : List Step) (x : ℕ) → On (end x w) x w
+end-on [] x = inl refl
+end-on (s ∷ w) x = inr (end-on w (s .up))
+
+-- a way ends where no way goes on
+end-root : (W : ℕ → List Step) → Forest W → (w : List Step) (x : ℕ) → W x ≡ w → W (end x w) ≡ []
+end-root W F [] x p = p
+end-root W F (s ∷ w) x p = end-root W F w (s .up) (F x s w p .1)
+
+-- the way up to its end is the whole way
+pub before-end : (W : ℕ → List Step) → Forest W → (x : ℕ) → before (end x (W x)) (W x) ≡ W x
+before-end W F x =
+    sym (append-nil (before (end x (W x)) (W x)))
+    ∙ ap (λ (w : List Step). before (end x (W x)) (W x) ++ w) (sym (end-root W F (W x) x refl))
+    ∙ sym (split W F (end x (W x)) x (end-on (W x) x))
+
+-- what stands above has the same end
+pub end-above : (W : ℕ → List Step) → Forest W → (n x : ℕ) → Above W n x → end x (W x) ≡ end n (W n)
+end-above W F n x i =
+    climb W F (λ x. end x (W x) ≡ end n (W n)) n refl
+    (λ x s w p h j e. ap (end x) p ∙ ap (end (s .up)) (sym (F x s w p .1)) ∙ e) (W x) x refl i
+
+-- the steps of a way begin at nodes above its term
+pub step-above : (W : ℕ → List Step) → Forest W → (w : List Step) (x : ℕ) → W x ≡ w → (s : Step) → In s w → Above W (s .node) x
+step-above W F [] x p s i = absurd i
+step-above W F (r ∷ w) x p s (inl e) = inl (ap (λ (q : Step). q .node) e ∙ F x r w p .0)
+step-above W F (r ∷ w) x p s (inr i) = from-step W F (s .node) x r w p (step-above W F w (r .up) (F x r w p .1) s i)
+
 -- ---- the ways of a list of merges
 
 -- the new edge
@@ -364,10 +411,6 @@ way-out : (m : Merge) (ms : List Merge) (x : ℕ) → (Same ms x (m .a) → ⊥)
 unfolding way find
 way-out m ms x h =
     ap (λ (b : Bool). cond b (rehung x (way ms x) m (way ms (m .a)) (way ms (m .b))) (way ms x)) (ne-eqb (find ms x) (find ms (m .a)) h)
-
-pub end-on : (w : List Step) (x : ℕ) → On (end x w) x w
-end-on [] x = inl refl
-end-on (s ∷ w) x = inr (end-on w (s .up))
 
 end-over : (u : List Step) (x : ℕ) (s : Step) (w : List Step) → end x (u ++ (s ∷ w)) ≡ end (s .up) w
 end-over [] x s w = refl
@@ -397,7 +440,7 @@ way-end (m ∷ ms) (j, js) x y e =
     way-end-more m ms x y (unequal ms (m .a) (m .b) j) (way-end ms js) (same-split m ms x y e) (same? ms x (m .a))
 
 -- a step of a way goes on in the class
-step-same : (ms : List Merge) → Forest (way ms) → (x : ℕ) (s : Step) (w : List Step) → way ms x ≡ s ∷ w → Same ms x (s .up)
+pub step-same : (ms : List Merge) → Forest (way ms) → (x : ℕ) (s : Step) (w : List Step) → way ms x ≡ s ∷ w → Same ms x (s .up)
 step-same ms F x s w p =
     ap (find ms) (sym (F x s w p .0)) ∙ edge-same ms s (way-over ms x s (subst (λ (u : List Step). In s u) (sym p) (inl refl)))
 
@@ -477,6 +520,11 @@ module _ (m : Merge) (ms : List Merge) (J : Joins (m ∷ ms)) (F : Forest (way m
     where
       root : Same ms x (m .a) → end (m .a) (way ms (m .a)) ≡ x
       root e = sym (way-end ms (J .1) x (m .a) e) ∙ ap (end x) p
+
+  -- the old root of the first side's tree goes the old way back, then over the new edge
+  pub from-old-root : way (m ∷ ms) (end (m .a) (way ms (m .a))) ≡ turned (way ms (m .a)) ++ (new-step m ∷ way ms (m .b))
+  unfolding hung
+  from-old-root = hung-above (end (m .a) (way ms (m .a))) (end-on (way ms (m .a)) (m .a)) ∙ ap (hung []) (before-end (way ms) F (m .a))
 
   abbrev Climbs : ℕ → Type 0
   Climbs x = (s : Step) (w : List Step) → way (m ∷ ms) x ≡ s ∷ w → (s .node ≡ x) × (way (m ∷ ms) (s .up) ≡ w)

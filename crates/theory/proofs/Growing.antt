@@ -105,44 +105,44 @@ module _ (t u : List ℕ) (m : Merge) (z : Sound t) (g : Grown t u m) where
     fewer = let c = g .count in let l = merges-length t in let f = merges-fewer 1024 (m ∷ merges t) (omega arith) (justified-joins (m ∷ merges t) justified-now) within-now in omega arith;
     justified = subst Justified (sym grown-merges) justified-now;
     nodes = every-merge (λ i. (a-word u i < 1024) × (b-word u i < 1024))
-      (λ i h. let e = g .log .entries i h in let f = z .nodes i h in let a = e .a in let b = e .b in (omega arith, omega arith))
-      (let f = g .nodes in let a = side-a in let b = side-b in (omega arith, omega arith));
+        (λ i h. let e = g .log .entries i h in let f = z .nodes i h in let a = e .a in let b = e .b in (omega arith, omega arith))
+        (let f = g .nodes in let a = side-a in let b = side-b in (omega arith, omega arith));
     pair-nodes = λ k i p j. pair-nodes-now k (subst (λ (ms : List Merge). In k ms) grown-merges i) p j;
     low = every-merge (λ i. low-word u i ≡ low-root (merges-below u i) (merge-at u i))
-      (λ i h. g .log .entries i h .low ∙ z .low i h ∙ ap₂ low-root (sym (older i h)) (sym (same i h)))
-      (g .low ∙ ap₂ low-root (sym rest) (sym (g .new)));
+        (λ i h. g .log .entries i h .low ∙ z .low i h ∙ ap₂ low-root (sym (older i h)) (sym (same i h)))
+        (g .low ∙ ap₂ low-root (sym rest) (sym (g .new)));
     froot = every-merge (λ i. froot-word u i ≡ end (a-word u i) (way (merges-below u i) (a-word u i)))
-      (λ i h. g .log .entries i h .froot ∙ z .froot i h ∙ ap₂ (λ (ms : List Merge) (a : ℕ). end a (way ms a)) (sym (older i h)) (sym (g .log .entries i h .a)))
-      (g .froot ∙ ap₂ (λ (ms : List Merge) (a : ℕ). end a (way ms a)) (sym rest) (sym side-a));
+        (λ i h. g .log .entries i h .froot ∙ z .froot i h ∙ ap₂ (λ (ms : List Merge) (a : ℕ). end a (way ms a)) (sym (older i h)) (sym (g .log .entries i h .a)))
+        (g .froot ∙ ap₂ (λ (ms : List Merge) (a : ℕ). end a (way ms a)) (sym rest) (sym side-a));
     levels-fit = let l = g .level in let f = z .levels-fit in omega arith;
     levels = every-merge (λ i. kind-word u i / 262144 ≤ level-word u)
-      (λ i h. let e = ap (λ (w : ℕ). w / 262144) (g .log .entries i h .kind) in let f = z .levels i h in let l = g .level in omega arith)
-      (let e = kind-now in let l = g .level in omega arith);
+        (λ i h. let e = ap (λ (w : ℕ). w / 262144) (g .log .entries i h .kind) in let f = z .levels i h in let l = g .level in omega arith)
+        (let e = kind-now in let l = g .level in omega arith);
     levels-rise = λ i h. every-merge (λ j. suc i ≡ j → kind-word u i / 262144 ≤ kind-word u j / 262144)
-      (λ j l q.
+        (λ j l q.
         let k : i < merges# t = omega arith in
         let a = ap (λ (w : ℕ). w / 262144) (g .log .entries i k .kind) in
         let b = ap (λ (w : ℕ). w / 262144) (g .log .entries j l .kind) in
         let f = z .levels-rise i (subst (λ (x : ℕ). x < merges# t) (sym q) l) in
         let d = ap (λ (x : ℕ). kind-word t x / 262144) q in
         omega arith)
-      (λ q.
+        (λ q.
         let k : i < merges# t = omega arith in
         let a = ap (λ (w : ℕ). w / 262144) (g .log .entries i k .kind) in
         let b = kind-now in
         let f = z .levels i k in
         omega arith)
-      (suc i) h refl;
+        (suc i) h refl;
     starts = every-merge (λ i. value-start u i ≡ pairs-in-force (merges-below u i))
-      (λ i h. start-same t u i (g .log .entries i h) ∙ z .starts i h ∙ ap pairs-in-force (sym (older i h)))
-      (g .start ∙ ap pairs-in-force (sym rest));
+        (λ i h. start-same t u i (g .log .entries i h) ∙ z .starts i h ∙ ap pairs-in-force (sym (older i h)))
+        (g .start ∙ ap pairs-in-force (sym rest));
     pairs-fit = every-merge (λ i. (value-start u i ≤ after-word u i) × (after-word u i ≤ 2048))
-      (λ i h.
+        (λ i h.
         let f = z .pairs-fit i h in
         let a = start-same t u i (g .log .entries i h) in
         let b = g .log .entries i h .after in
         (omega arith, omega arith))
-      (g .fit);
+        (g .fit);
     parents = λ x h. g .parents x h ∙ sym (ap (λ (ms : List Merge). parent ms x) grown-merges);
     sizes = λ x h. g .sizes x h ∙ sym (ap (λ (ms : List Merge). classes ms .size x) grown-merges);
     forest = λ x h. subst (FirstEdge u x) (sym (ap (λ (ms : List Merge). way ms x) grown-merges)) (g .forest x h);

@@ -153,8 +153,8 @@ module _ (t u : List ℕ) (start : ℕ) (xs ys : List ℕ) (z : Sound t) (p : st
     parents = λ x h. c .before (64 + x) (omega arith) ∙ z .parents x h;
     sizes = λ x h. c .before (1088 + x) (omega arith) ∙ z .sizes x h;
     forest = λ x h.
-      edge-kept t u x (way (merges t) x) same-log (let e = c .before 0 (omega arith) in omega arith)
-      (c .before (2112 + x) (omega arith)) (c .before (3136 + x) (omega arith)) (z .forest x h);
+        edge-kept t u x (way (merges t) x) same-log (let e = c .before 0 (omega arith) in omega arith)
+        (c .before (2112 + x) (omega arith)) (c .before (3136 + x) (omega arith)) (z .forest x h);
   }
 
   -- more pairs behind those in force change nothing

@@ -18,6 +18,8 @@ pub mod Merging
 pub mod Growing
 pub mod Joining
 pub mod Copying
+pub mod Undoing
+pub mod Popping
 pub mod Clearing
 pub mod Registering
 pub mod Registers

@@ -72,9 +72,9 @@ pub log-then : (t u v : List ℕ) (n : ℕ) → SameLog t u n → SameLog u v n 
 log-then t u v n p q = record {
   entries = λ i h. entry-then t u v i (p .entries i h) (q .entries i h);
   pairs = λ i h j l.
-    let f = p .pairs i h j l in
-    let g = q .pairs i h j (subst (λ (k : ℕ). j < k) (sym (p .entries i h .after)) l) in
-    (g .0 ∙ f .0, g .1 ∙ f .1);
+      let f = p .pairs i h j l in
+      let g = q .pairs i h j (subst (λ (k : ℕ). j < k) (sym (p .entries i h .after)) l) in
+      (g .0 ∙ f .0, g .1 ∙ f .1);
 }
 
 -- words from the log on that agree

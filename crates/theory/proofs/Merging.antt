@@ -3,7 +3,7 @@ use Prim.Native.Nat.{ℕ, zero, suc, _+_, _≤_, _<_}
 use mathlib.Core.Path.{_≡_, refl, sym, subst, ap, ap₂, _∙_}
 use mathlib.Core.Logic.{_⊎_, inl, inr}
 use mathlib.Core.Bool.{Bool, true, false, cond}
-use mathlib.Core.List.{List, [], _∷_, _++_, map, append-nil}
+use mathlib.Core.List.{List, map}
 use native.Mathlib.Omega.{arith}
 use native.Mathlib.Decide.{ℕ-discrete}
 use lib.Dec.{eqb, leb}
@@ -14,23 +14,11 @@ use Rattle.core.specs.Table.{word}
 use Rattle.theory.specs.EqEngine.{Merge, Step, before, way}
 use Rattle.theory.specs.Table.{parent-word, size-word, fparent-word, fedge-word, merges, end, Sound}
 use Rattle.theory.specs.Steps.{SameLog, On, Rerooted, Spliced, United, lower, higher, Logged}
-use Rattle.theory.proofs.Forest.{Forest, Above, end-on, split, apart}
+use Rattle.theory.proofs.Forest.{before-end, apart}
 use Rattle.theory.proofs.Trees.{sound-forest, way-within, in-ups}
 use Rattle.theory.proofs.Puts.{word-put, word-kept, length-put}
 
 -- ---- the forest
-
--- a way ends where no way goes on
-end-root : (W : ℕ → List Step) → Forest W → (w : List Step) (x : ℕ) → W x ≡ w → W (end x w) ≡ []
-end-root W F [] x p = p
-end-root W F (s ∷ w) x p = end-root W F w (s .up) (F x s w p .1)
-
--- the way up to its end is the whole way
-pub before-end : (W : ℕ → List Step) → Forest W → (x : ℕ) → before (end x (W x)) (W x) ≡ W x
-before-end W F x =
-    sym (append-nil (before (end x (W x)) (W x)))
-    ∙ ap (λ (w : List Step). before (end x (W x)) (W x) ++ w) (sym (end-root W F (W x) x refl))
-    ∙ sym (split W F (end x (W x)) x (end-on (W x) x))
 
 module _ (t t₁ t₂ t₃ t₄ : List ℕ) (a b i r : ℕ) (z : Sound t) (h : a < 1024) (k : i < 1024) (e : r ≡ end a (way (merges t) a)) (c : Rerooted t t₁ a (before r (way (merges t) a))) (e₂ : t₂ ≡ set t₁ (2112 + a) b) (e₃ : t₃ ≡ set t₂ (3136 + a) i) (e₄ : t₄ ≡ set t₃ (9280 + i) r) where
   whole : before r (way (merges t) a) ≡ way (merges t) a
@@ -63,23 +51,23 @@ module _ (t t₁ t₂ t₃ t₄ : List ℕ) (a b i r : ℕ) (z : Sound t) (h : a
         behind = λ n g d. far n (λ q. absurd (omega arith)) (λ q. absurd (omega arith)) d ∙ c .behind n g;
         old-root = word-put t₃ t₄ (9280 + i) r e₄ (omega arith) ∙ e;
         edge = (
-            word-kept t₃ t₄ (9280 + i) r e₄ (2112 + a) (λ q. absurd (omega arith))
-            ∙ word-kept t₂ t₃ (3136 + a) i e₃ (2112 + a) (λ q. absurd (omega arith))
-            ∙ word-put t₁ t₂ (2112 + a) b e₂ (omega arith),
-            word-kept t₃ t₄ (9280 + i) r e₄ (3136 + a) (λ q. absurd (omega arith)) ∙ word-put t₂ t₃ (3136 + a) i e₃ (omega arith),
-          );
+          word-kept t₃ t₄ (9280 + i) r e₄ (2112 + a) (λ q. absurd (omega arith))
+              ∙ word-kept t₂ t₃ (3136 + a) i e₃ (2112 + a) (λ q. absurd (omega arith))
+              ∙ word-put t₁ t₂ (2112 + a) b e₂ (omega arith),
+          word-kept t₃ t₄ (9280 + i) r e₄ (3136 + a) (λ q. absurd (omega arith)) ∙ word-put t₂ t₃ (3136 + a) i e₃ (omega arith),
+        );
         turned = λ s j.
-          let o = c .turned s (subst (λ (x : List Step). In s x) (sym whole) j) in
-          let d = not-first s j in
-          let w = way-within t a s z j .1 in (
-            far (2112 + s .up) (λ q. d (omega arith)) (λ q. absurd (omega arith)) (λ q. absurd (omega arith)) ∙ o .0,
-            far (3136 + s .up) (λ q. absurd (omega arith)) (λ q. d (omega arith)) (λ q. absurd (omega arith)) ∙ o .1,
-          );
+            let o = c .turned s (subst (λ (x : List Step). In s x) (sym whole) j) in
+            let d = not-first s j in
+            let w = way-within t a s z j .1 in (
+              far (2112 + s .up) (λ q. d (omega arith)) (λ q. absurd (omega arith)) (λ q. absurd (omega arith)) ∙ o .0,
+              far (3136 + s .up) (λ q. absurd (omega arith)) (λ q. d (omega arith)) (λ q. absurd (omega arith)) ∙ o .1,
+            );
         others = λ x g n.
-          let o = c .others x g (subst (λ (v : List Step). On x a v → ⊥) (sym whole) n) in (
-            far (2112 + x) (λ q. n (inl (omega arith))) (λ q. absurd (omega arith)) (λ q. absurd (omega arith)) ∙ o .0,
-            far (3136 + x) (λ q. absurd (omega arith)) (λ q. n (inl (omega arith))) (λ q. absurd (omega arith)) ∙ o .1,
-          );
+            let o = c .others x g (subst (λ (v : List Step). On x a v → ⊥) (sym whole) n) in (
+              far (2112 + x) (λ q. n (inl (omega arith))) (λ q. absurd (omega arith)) (λ q. absurd (omega arith)) ∙ o .0,
+              far (3136 + x) (λ q. absurd (omega arith)) (λ q. n (inl (omega arith))) (λ q. absurd (omega arith)) ∙ o .1,
+            );
       }
 
 -- ---- classes
@@ -187,12 +175,12 @@ module _ (t t₁ t₂ t₃ t₄ t₅ : List ℕ) (i a b w v e : ℕ) (l : 16384 
         };
         pairs = λ m h. clear-of m (inr (inr h));
         sides = (
-            word-kept t₄ t₅ (10304 + i) e e₅ (4160 + i) (λ q. absurd (omega arith)) ∙ word-kept t₃ t₄ (7232 + i) v e₄ (4160 + i) (λ q. absurd (omega arith))
-            ∙ word-kept t₂ t₃ (6208 + i) w e₃ (4160 + i) (λ q. absurd (omega arith)) ∙ word-kept t₁ t₂ (5184 + i) b e₂ (4160 + i) (λ q. absurd (omega arith))
-            ∙ word-put t t₁ (4160 + i) a e₁ (omega arith),
-            word-kept t₄ t₅ (10304 + i) e e₅ (5184 + i) (λ q. absurd (omega arith)) ∙ word-kept t₃ t₄ (7232 + i) v e₄ (5184 + i) (λ q. absurd (omega arith))
-            ∙ word-kept t₂ t₃ (6208 + i) w e₃ (5184 + i) (λ q. absurd (omega arith)) ∙ word-put t₁ t₂ (5184 + i) b e₂ (omega arith),
-          );
+          word-kept t₄ t₅ (10304 + i) e e₅ (4160 + i) (λ q. absurd (omega arith)) ∙ word-kept t₃ t₄ (7232 + i) v e₄ (4160 + i) (λ q. absurd (omega arith))
+              ∙ word-kept t₂ t₃ (6208 + i) w e₃ (4160 + i) (λ q. absurd (omega arith)) ∙ word-kept t₁ t₂ (5184 + i) b e₂ (4160 + i) (λ q. absurd (omega arith))
+              ∙ word-put t t₁ (4160 + i) a e₁ (omega arith),
+          word-kept t₄ t₅ (10304 + i) e e₅ (5184 + i) (λ q. absurd (omega arith)) ∙ word-kept t₃ t₄ (7232 + i) v e₄ (5184 + i) (λ q. absurd (omega arith))
+              ∙ word-kept t₂ t₃ (6208 + i) w e₃ (5184 + i) (λ q. absurd (omega arith)) ∙ word-put t₁ t₂ (5184 + i) b e₂ (omega arith),
+        );
         kind =
             word-kept t₄ t₅ (10304 + i) e e₅ (6208 + i) (λ q. absurd (omega arith)) ∙ word-kept t₃ t₄ (7232 + i) v e₄ (6208 + i) (λ q. absurd (omega arith))
             ∙ word-put t₂ t₃ (6208 + i) w e₃ (omega arith);

@@ -87,23 +87,23 @@ module _ (t u : List ℕ) (n : ℕ) (z : Sound t) (s : Shortened t u n) where
     nodes = λ i h. let e = s .log .entries i (there i h) in let g = z .nodes i (inside i (there i h)) in let a = e .a in let b = e .b in (omega arith, omega arith);
     pair-nodes = λ m i p j. z .pair-nodes m (in-suffix (merges-below t n) (merges t) m suffix (subst (λ (ms : List Merge). In m ms) shorter-merges i)) p j;
     low = λ i h. let k = there i h in
-      s .log .entries i k .low ∙ z .low i (inside i k) ∙ ap₂ low-root (sym (older i k)) (sym (same i k));
+        s .log .entries i k .low ∙ z .low i (inside i k) ∙ ap₂ low-root (sym (older i k)) (sym (same i k));
     froot = λ i h. let k = there i h in
-      s .log .entries i k .froot ∙ z .froot i (inside i k)
-      ∙ ap₂ (λ (ms : List Merge) (a : ℕ). end a (way ms a)) (sym (older i k)) (sym (s .log .entries i k .a));
+        s .log .entries i k .froot ∙ z .froot i (inside i k)
+        ∙ ap₂ (λ (ms : List Merge) (a : ℕ). end a (way ms a)) (sym (older i k)) (sym (s .log .entries i k .a));
     levels-fit = s .levels-fit;
     levels = λ i h. let k = there i h in subst (λ (w : ℕ). w / 262144 ≤ level-word u) (sym (s .log .entries i k .kind)) (s .levels i k);
     levels-rise = λ i h. let k = there (suc i) h in
-      let j : i < n = omega arith in
-      subst (λ (w : ℕ). w / 262144 ≤ kind-word u (suc i) / 262144) (sym (s .log .entries i j .kind))
-      (subst (λ (w : ℕ). kind-word t i / 262144 ≤ w / 262144) (sym (s .log .entries (suc i) k .kind)) (z .levels-rise i (inside (suc i) k)));
+        let j : i < n = omega arith in
+        subst (λ (w : ℕ). w / 262144 ≤ kind-word u (suc i) / 262144) (sym (s .log .entries i j .kind))
+        (subst (λ (w : ℕ). kind-word t i / 262144 ≤ w / 262144) (sym (s .log .entries (suc i) k .kind)) (z .levels-rise i (inside (suc i) k)));
     starts = λ i h. let k = there i h in
-      start-same t u i (s .log .entries i k) ∙ z .starts i (inside i k) ∙ ap pairs-in-force (sym (older i k));
+        start-same t u i (s .log .entries i k) ∙ z .starts i (inside i k) ∙ ap pairs-in-force (sym (older i k));
     pairs-fit = λ i h. let k = there i h in
-      let f = z .pairs-fit i (inside i k) in
-      let a = start-same t u i (s .log .entries i k) in
-      let b = s .log .entries i k .after in
-      (omega arith, omega arith);
+        let f = z .pairs-fit i (inside i k) in
+        let a = start-same t u i (s .log .entries i k) in
+        let b = s .log .entries i k .after in
+        (omega arith, omega arith);
     parents = λ x h. s .parents x h ∙ sym (ap (λ (ms : List Merge). parent ms x) shorter-merges);
     sizes = λ x h. s .sizes x h ∙ sym (ap (λ (ms : List Merge). classes ms .size x) shorter-merges);
     forest = λ x h. subst (FirstEdge u x) (sym (ap (λ (ms : List Merge). way ms x) shorter-merges)) (s .forest x h);

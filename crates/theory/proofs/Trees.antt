@@ -36,7 +36,7 @@ pub record Stepped (t : List ℕ) (x : ℕ) (s : Step) (w : List Step) : Type 0 
 abbrev pub Here : List ℕ → ℕ → Type 0
 Here t x = ((way (merges t) x ≡ []) × (fparent-word t x ≡ x)) ⊎ ((s : Step) × (w : List Step) × Stepped t x s w)
 
-sides-within : (m : Merge) (x y : ℕ) → (m .a < 1024) × (m .b < 1024) → BothSides m x y → (x < 1024) × (y < 1024)
+pub sides-within : (m : Merge) (x y : ℕ) → (m .a < 1024) × (m .b < 1024) → BothSides m x y → (x < 1024) × (y < 1024)
 sides-within m x y h (inl (p, q)) = omega arith
 sides-within m x y h (inr (p, q)) = omega arith
 
@@ -54,15 +54,19 @@ here t x z h = go (way (merges t) x) refl (z .forest x h)
   where
     go : (w : List Step) → way (merges t) x ≡ w → FirstEdge t x w → Here t x
     go [] p e = inl (p, e)
-    go (s ∷ w) p (u, l, j, b) = inr (s, w, record {
-      at = p;
-      up = u;
-      edge = l;
-      just = j;
-      sides = b;
-      within = sides-within (merge-at t (fedge-word t x)) x (s .up) (node-words t (fedge-word t x) z l) b .1;
-      differs = λ e. let g = ap (λ (v : ℕ). length (way (merges t) v)) e in absurd (omega (arith, longer (way (merges t)) (sound-forest t z) x s w p));
-    })
+    go (s ∷ w) p (u, l, j, b) = inr (
+      s,
+      w,
+      record {
+        at = p;
+        up = u;
+        edge = l;
+        just = j;
+        sides = b;
+        within = sides-within (merge-at t (fedge-word t x)) x (s .up) (node-words t (fedge-word t x) z l) b .1;
+        differs = λ e. let g = ap (λ (v : ℕ). length (way (merges t) v)) e in absurd (omega (arith, longer (way (merges t)) (sound-forest t z) x s w p));
+      },
+    )
 
 -- ---- up to the root
 
@@ -128,12 +132,17 @@ in-ups s [] i = absurd i
 in-ups s (r ∷ w) (inl e) = inl (ap (λ (q : Step). q .up) e)
 in-ups s (r ∷ w) (inr i) = inr (in-ups s w i)
 
-ups-left : (z : ℕ) (u v : List Step) → In z (map (λ (r : Step). r .up) u) → In z (map (λ (r : Step). r .up) (u ++ v))
+pub ups-in : (x : ℕ) (w : List Step) → In x (map (λ (r : Step). r .up) w) → (s : Step) × In s w × (x ≡ s .up)
+ups-in x [] i = absurd i
+ups-in x (r ∷ w) (inl e) = (r, inl refl, e)
+ups-in x (r ∷ w) (inr i) = let (s, j, e) = ups-in x w i in (s, inr j, e)
+
+pub ups-left : (z : ℕ) (u v : List Step) → In z (map (λ (r : Step). r .up) u) → In z (map (λ (r : Step). r .up) (u ++ v))
 ups-left z [] v i = absurd i
 ups-left z (r ∷ u) v (inl e) = inl e
 ups-left z (r ∷ u) v (inr i) = inr (ups-left z u v i)
 
-ups-right : (z : ℕ) (u v : List Step) → In z (map (λ (r : Step). r .up) v) → In z (map (λ (r : Step). r .up) (u ++ v))
+pub ups-right : (z : ℕ) (u v : List Step) → In z (map (λ (r : Step). r .up) v) → In z (map (λ (r : Step). r .up) (u ++ v))
 ups-right z [] v i = i
 ups-right z (r ∷ u) v i = inr (ups-right z u v i)
 
@@ -285,9 +294,9 @@ module _ (t₀ t : List ℕ) (node top prev edge cur : ℕ) (z : Sound t₀) (c 
               label = q ∙ o .1;
               turned = λ r j. more s w g r (in-either r (c .done) (s ∷ []) j);
               others = λ x l h.
-                let k = kept x l (λ r. h (ups-right x (c .done) (s ∷ []) (inl (r ∙ sym a)))) in
-                let m = c .others x l (λ j. h (ups-left x (c .done) (s ∷ []) j)) in
-                (k .0 ∙ m .0, k .1 ∙ m .1);
+                  let k = kept x l (λ r. h (ups-right x (c .done) (s ∷ []) (inl (r ∙ sym a)))) in
+                  let m = c .others x l (λ j. h (ups-left x (c .done) (s ∷ []) j)) in
+                  (k .0 ∙ m .0, k .1 ∙ m .1);
             }
 
   -- all steps up to top are turned
@@ -308,14 +317,14 @@ module _ (t₀ t : List ℕ) (node top prev edge cur : ℕ) (z : Sound t₀) (c 
         behind = λ k b. word-kept t u (2112 + node) node e k (λ r. absurd (omega arith)) ∙ c .behind-forest k b;
         root = word-put t u (2112 + node) node e (omega arith);
         turned = λ s i. let o = c .turned s i in
-          let b = done-within s i in (
-            word-kept t u (2112 + node) node e (2112 + s .up) (λ r. below s i (omega arith)) ∙ o .0,
-            word-kept t u (2112 + node) node e (3136 + s .up) (λ r. absurd (omega arith)) ∙ o .1,
-          );
+            let b = done-within s i in (
+              word-kept t u (2112 + node) node e (2112 + s .up) (λ r. below s i (omega arith)) ∙ o .0,
+              word-kept t u (2112 + node) node e (3136 + s .up) (λ r. absurd (omega arith)) ∙ o .1,
+            );
         others = λ x b n. let o = c .others x b (λ i. n (inr i)) in (
-            word-kept t u (2112 + node) node e (2112 + x) (λ r. n (inl (omega arith))) ∙ o .0,
-            word-kept t u (2112 + node) node e (3136 + x) (λ r. absurd (omega arith)) ∙ o .1,
-          );
+          word-kept t u (2112 + node) node e (2112 + x) (λ r. n (inl (omega arith))) ∙ o .0,
+          word-kept t u (2112 + node) node e (3136 + x) (λ r. absurd (omega arith)) ∙ o .1,
+        );
       }
     where
       -- a way does not come back to its first node

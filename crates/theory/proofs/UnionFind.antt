@@ -53,7 +53,7 @@ high-rooted m ms = go (chosen m ms .rooted)
     go (inl (p, q)) = ap (find ms) q ∙ find-find ms (m .b) ∙ sym q
     go (inr (p, q)) = ap (find ms) q ∙ find-find ms (m .a) ∙ sym q
 
-roots-apart : (m : Merge) (ms : List Merge) → are-equal ms (m .a) (m .b) ≡ false → low-root ms m ≡ high-root ms m → ⊥
+pub roots-apart : (m : Merge) (ms : List Merge) → are-equal ms (m .a) (m .b) ≡ false → low-root ms m ≡ high-root ms m → ⊥
 roots-apart m ms j e = unequal ms (m .a) (m .b) j (go (chosen m ms .rooted))
   where
     go : ((low-root ms m ≡ find ms (m .a)) × (high-root ms m ≡ find ms (m .b))) ⊎ ((low-root ms m ≡ find ms (m .b)) × (high-root ms m ≡ find ms (m .a))) → find ms (m .a) ≡ find ms (m .b)
@@ -80,11 +80,11 @@ depth-kept : (m : Merge) (ms : List Merge) (x : ℕ) → (find ms x ≡ low-root
 unfolding depth
 depth-kept m ms x n = ap (λ (b : Bool). cond b (suc (depth ms x)) (depth ms x)) (ne-eqb (find ms x) (low-root ms m) n)
 
-parent-low : (m : Merge) (ms : List Merge) (x : ℕ) → x ≡ low-root ms m → parent (m ∷ ms) x ≡ high-root ms m
+pub parent-low : (m : Merge) (ms : List Merge) (x : ℕ) → x ≡ low-root ms m → parent (m ∷ ms) x ≡ high-root ms m
 unfolding parent
 parent-low m ms x e = ap (λ (b : Bool). cond b (high-root ms m) (parent ms x)) (eq-eqb x (low-root ms m) e)
 
-parent-kept : (m : Merge) (ms : List Merge) (x : ℕ) → (x ≡ low-root ms m → ⊥) → parent (m ∷ ms) x ≡ parent ms x
+pub parent-kept : (m : Merge) (ms : List Merge) (x : ℕ) → (x ≡ low-root ms m → ⊥) → parent (m ∷ ms) x ≡ parent ms x
 unfolding parent
 parent-kept m ms x n = ap (λ (b : Bool). cond b (high-root ms m) (parent ms x)) (ne-eqb x (low-root ms m) n)
 
@@ -152,6 +152,14 @@ up (m ∷ ms) (j, js) x = go (ℕ-discrete x (low-root ms m)) (up ms js x)
     go (yes e) u = up-low m ms j js x e
     go (no n) (inl (p, f)) = up-root m ms j js x n p f
     go (no n) (inr (p, f, d)) = up-node m ms j js x n p f d
+
+-- the root that goes under was its own parent
+pub low-parent : (m : Merge) (ms : List Merge) → Joins ms → parent ms (low-root ms m) ≡ low-root ms m
+low-parent m ms js = go (up ms js (low-root ms m))
+  where
+    go : Up ms (low-root ms m) → parent ms (low-root ms m) ≡ low-root ms m
+    go (inl (p, f)) = p
+    go (inr (n, f, l)) = let d = root-depth ms js (low-root ms m) (low-rooted m ms) in absurd (omega arith)
 
 -- the roots of a merge of nodes are nodes
 module _ (n : ℕ) (m : Merge) (ms : List Merge) (w : Within n ms) (h : (m .a < n) × (m .b < n)) where

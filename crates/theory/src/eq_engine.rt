@@ -1,8 +1,8 @@
 // Classes of nodes: a union-find without path compression, as in the source. A node is its term.
+use crate::types::EqJust;
 use core::ids::TermId;
 use core::table::get;
 use core::table::put;
-use crate::types::EqJust;
 ghost use mathlib.Core.Path.{_≡_};
 ghost use mathlib.Core.List.{[], _∷_};
 ghost use Prim.Native.Nat.{suc, _+_, _<_, _≤_};
@@ -178,7 +178,15 @@ fn join(t: &mut [u32], a: usize, b: usize, kind: usize, theory: usize, value: us
     let rb = find(t, b);
     splice(t, a, b, i);
     union(t, ra, rb, i);
-    log(t, i, a, b, 262144 * level + 65536 * kind + theory, value, after);
+    log(
+        t,
+        i,
+        a,
+        b,
+        262144 * level + 65536 * kind + theory,
+        value,
+        after,
+    );
     put(t, 0, i + 1);
 }
 
@@ -193,8 +201,16 @@ fn label_words(j: EqJust) -> LabelWords
     ensures { λ r. ⌜ HoldsLabel j r ⌝ }
 {
     match j {
-        EqJust::Asserted(l) => LabelWords { kind: 0, theory: 0, value: l.0 as usize },
-        EqJust::Interface(k) => LabelWords { kind: 2, theory: k.theory as usize, value: k.tag as usize },
+        EqJust::Asserted(l) => LabelWords {
+            kind: 0,
+            theory: 0,
+            value: l.0 as usize,
+        },
+        EqJust::Interface(k) => LabelWords {
+            kind: 2,
+            theory: k.theory as usize,
+            value: k.tag as usize,
+        },
     }
 }
 
