@@ -44,7 +44,7 @@ pairs-newest : (m : Merge) (r : List Merge) → Justified (m ∷ r) → (n : Mer
 pairs-newest m r j n e p i = equal-same r (p .0) (p .1) (j .1 p (subst (λ (k : Merge). In p (pairs-of (k .just))) e i))
 
 -- the pairs of every label were equal before the newest merge
-pairs-before : (m : Merge) (r : List Merge) → Justified (m ∷ r) → (n : Merge) → In n (m ∷ r) → (p : ℕ × ℕ) → In p (pairs-of (n .just)) → Same r (p .0) (p .1)
+pub pairs-before : (m : Merge) (r : List Merge) → Justified (m ∷ r) → (n : Merge) → In n (m ∷ r) → (p : ℕ × ℕ) → In p (pairs-of (n .just)) → Same r (p .0) (p .1)
 pairs-before m [] j n (inl e) p i = pairs-newest m [] j n e p i
 pairs-before m [] j n (inr q) p i = absurd q
 pairs-before m (k ∷ r) j n (inl e) p i = pairs-newest m (k ∷ r) j n e p i
@@ -344,7 +344,7 @@ seen-in l seen t =
     let (k, i, s) = any-in (same-leaf l) seen t in
     subst (λ (z : EqLeaf). In z seen) (sym (same-leaf-eq l k s)) i
 
-in-seen : (l : EqLeaf) (seen : List EqLeaf) → In l seen → T (any (same-leaf l) seen)
+pub in-seen : (l : EqLeaf) (seen : List EqLeaf) → In l seen → T (any (same-leaf l) seen)
 in-seen l seen i = in-any (same-leaf l) seen l i (same-leaf-refl l)
 
 -- what is kept stood there
@@ -413,7 +413,7 @@ firsts-apart ls = after-apart [] ls
 
 -- ---- how many leaves
 
-label-leaf : EqJust → EqLeaf
+pub label-leaf : EqJust → EqLeaf
 label-leaf (Asserted l) = AssertedLeaf l
 label-leaf (Congruence ps) = AssertedLeaf 0
 label-leaf (Interface h g) = InterfaceLeaf h g
@@ -424,12 +424,12 @@ labels-leaf (Asserted n) l e = e
 labels-leaf (Congruence ps) l e = absurd e
 labels-leaf (Interface h g) l e = e
 
-cites-in : (ms : List Merge) (l : EqLeaf) → Cites ms l → In l (map (λ (m : Merge). label-leaf (m .just)) ms)
+pub cites-in : (ms : List Merge) (l : EqLeaf) → Cites ms l → In l (map (λ (m : Merge). label-leaf (m .just)) ms)
 cites-in [] l (m, i, c) = absurd i
 cites-in (n ∷ ms) l (m, inl e, c) = inl (labels-leaf (m .just) l c ∙ ap (λ (k : Merge). label-leaf (k .just)) e)
 cites-in (n ∷ ms) l (m, inr i, c) = inr (cites-in ms l (m, i, c))
 
-map-length : (ms : List Merge) → length (map (λ (m : Merge). label-leaf (m .just)) ms) ≡ length ms
+pub map-length : (ms : List Merge) → length (map (λ (m : Merge). label-leaf (m .just)) ms) ≡ length ms
 map-length [] = refl
 map-length (m ∷ ms) = ap suc (map-length ms)
 

@@ -26,7 +26,7 @@ use Rattle.theory.proofs.Nodes.{merges-within, sound-joins}
 use Rattle.theory.proofs.Puts.{word-put, word-kept, length-put}
 use Rattle.theory.proofs.KindWords.{kind-level, kind-kind, kind-theory}
 use Rattle.theory.proofs.Log.{merge-same, just-same, start-same, log-shorter, log-then, below-same, merges-length, log-words, log-but}
-use Rattle.theory.proofs.Trees.{sound-forest, way-within}
+use Rattle.theory.proofs.Walks.{sound-forest, way-within}
 use Rattle.theory.proofs.Shorter.{edge-words}
 
 -- below one more: older, or the new one

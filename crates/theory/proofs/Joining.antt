@@ -6,7 +6,6 @@ use mathlib.Core.Bool.{Bool, true, false, cond}
 use mathlib.Core.List.{List, [], _∷_, map}
 use native.Mathlib.Omega.{arith}
 use native.Mathlib.Nat.{add-zero}
-use native.Mathlib.Decide.{decLe}
 use lib.ListN.{length}
 use Rattle.core.specs.Lists.{In, range, zip}
 use Rattle.core.specs.Table.{word}
@@ -14,10 +13,10 @@ use Rattle.theory.specs.Types.{EqJust, Asserted, Congruence, Interface}
 use Rattle.theory.specs.declared.types.EqJust as Given
 use Rattle.theory.specs.declared.eq_engine.LabelWords as LabelWords
 use Rattle.theory.specs.EqEngine.{Merge, are-equal, merge, pairs-of, pairs-in-force, Step, way}
-use Rattle.theory.specs.Table.{merges#, level-word, after-word, left-word, right-word, merge-at, merges-below, merges, justIs, EqualPairs, Sound}
+use Rattle.theory.specs.Table.{merges#, level-word, left-word, right-word, merges, justIs, EqualPairs, Sound}
 use Rattle.theory.specs.Steps.{SameLog, SamePairs, label, begins, Joinable, HoldsLabel, Copied}
-use Rattle.theory.proofs.Pairs.{after-is, pairs-more}
-use Rattle.theory.proofs.Shorter.{below-suffix, edge-kept, Shortened, shorter-sound, shorter-merges}
+use Rattle.theory.proofs.Pairs.{after-within}
+use Rattle.theory.proofs.Shorter.{edge-kept, Shortened, shorter-sound, shorter-merges}
 
 -- ---- the list
 
@@ -108,21 +107,6 @@ module _ (f g : ℕ → ℕ) where
       let q : suc k + j ≡ k + suc j = omega arith in
       let b = h (suc j) (omega arith) in
       (ap f q ∙ b .0, ap g q ∙ b .1)))
-
--- pairs in force of some time before are no more
-pairs-fewer : (t : List ℕ) (i n : ℕ) → i ≤ n → pairs-in-force (merges-below t i) ≤ pairs-in-force (merges-below t n)
-unfolding merges-below
-pairs-fewer t i zero h = let e : i ≡ 0 = omega arith in let q = ap (λ (k : ℕ). pairs-in-force (merges-below t k)) e in omega arith
-pairs-fewer t i (suc n) h = go (decLe i n) (pairs-fewer t i n)
-  where
-    go : Dec (i ≤ n) → (i ≤ n → pairs-in-force (merges-below t i) ≤ pairs-in-force (merges-below t n)) → pairs-in-force (merges-below t i) ≤ pairs-in-force (merges-below t (suc n))
-    go (yes l) f = let r = f l in omega (arith, pairs-more (merge-at t n) (merges-below t n))
-    go (no l) f = let e : i ≡ suc n = omega arith in let q = ap (λ (k : ℕ). pairs-in-force (merges-below t k)) e in omega arith
-
--- the pairs of every merge stand below the pairs in force
-pub after-within : (t : List ℕ) (i : ℕ) → Sound t → i < merges# t → after-word t i ≤ pairs-in-force (merges t)
-unfolding merges
-after-within t i z h = let e = after-is t i z h in let l = pairs-fewer t (suc i) (merges# t) h in omega arith
 
 module _ (t u : List ℕ) (start : ℕ) (xs ys : List ℕ) (z : Sound t) (p : start ≡ pairs-in-force (merges t)) (c : Copied t u start xs ys) where
   same-log : SameLog t u (merges# t)

@@ -1,5 +1,6 @@
--- Laws of the theory layer. Members: lists; Classes: equality in the list of merges; Forest: ways and paths; Sizes: how large
--- classes are and how many merges there can be; Explain: what an explanation cites and forces; Visits: the pairs it expands.
+-- Laws of the definition. Members: lists; Classes: equality in the list of merges; Forest: ways and paths; Sizes: how large classes
+-- are and how many merges there can be; Explain: what an explanation cites and forces; Visits: the pairs it expands; UnionFind:
+-- parents and roots; Ages: why explaining ends.
 pub mod Members
 pub mod Classes
 pub mod Forest
@@ -7,11 +8,16 @@ pub mod Sizes
 pub mod Explain
 pub mod Visits
 pub mod UnionFind
+pub mod Ages
+-- The engine's table. Nodes: up to the root of a class; Puts: one word written; Log, Pairs: what the log says; Walks: up the forest;
+-- Turning: a way turned; Shorter, Growing: a sound table with fewer merges or one more; Merging, KindWords, Joining, Copying: the
+-- steps of a merge; Undoing, Popping: merges taken back; Marks, Leaves, Explaining: explanations; Clearing: an empty table.
 pub mod Nodes
 pub mod Puts
 pub mod Log
 pub mod Pairs
-pub mod Trees
+pub mod Walks
+pub mod Turning
 pub mod KindWords
 pub mod Shorter
 pub mod Merging
@@ -20,6 +26,10 @@ pub mod Joining
 pub mod Copying
 pub mod Undoing
 pub mod Popping
+pub mod Marks
+pub mod Leaves
+pub mod Explaining
 pub mod Clearing
+-- The registry.
 pub mod Registering
 pub mod Registers

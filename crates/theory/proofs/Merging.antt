@@ -15,7 +15,8 @@ use Rattle.theory.specs.EqEngine.{Merge, Step, before, way}
 use Rattle.theory.specs.Table.{parent-word, size-word, fparent-word, fedge-word, merges, end, Sound}
 use Rattle.theory.specs.Steps.{SameLog, On, Rerooted, Spliced, United, lower, higher, Logged}
 use Rattle.theory.proofs.Forest.{before-end, apart}
-use Rattle.theory.proofs.Trees.{sound-forest, way-within, in-ups}
+use Rattle.theory.proofs.Walks.{sound-forest, way-within}
+use Rattle.theory.proofs.Turning.{in-ups}
 use Rattle.theory.proofs.Puts.{word-put, word-kept, length-put}
 
 -- ---- the forest

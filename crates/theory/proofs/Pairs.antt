@@ -11,7 +11,7 @@ use Rattle.core.proofs.Lists.{length-map-range}
 use Rattle.theory.specs.EqEngine.{Merge, pairs-of, pairs-in-force}
 use Rattle.theory.specs.Table.{merges#, kind-word, value-word, after-word, left-word, right-word, just-of, just-at, merge-at, start-of, value-start, merges-below, merges, Sound}
 
-pub pairs-more : (m : Merge) (ms : List Merge) → pairs-in-force (m ∷ ms) ≡ length (pairs-of (m .just)) + pairs-in-force ms
+pairs-more : (m : Merge) (ms : List Merge) → pairs-in-force (m ∷ ms) ≡ length (pairs-of (m .just)) + pairs-in-force ms
 unfolding pairs-in-force total
 pairs-more m ms = refl
 
@@ -21,7 +21,7 @@ label-length t i zero h = omega arith
 label-length t i (suc zero) h = let e = length-map-range {A = ℕ × ℕ} (λ j. (left-word t j, right-word t j)) (value-word t i) (after-word t i - value-word t i) in omega arith
 label-length t i (suc (suc k)) h = omega arith
 
-pub after-is : (t : List ℕ) (i : ℕ) → Sound t → i < merges# t → after-word t i ≡ pairs-in-force (merges-below t (suc i))
+after-is : (t : List ℕ) (i : ℕ) → Sound t → i < merges# t → after-word t i ≡ pairs-in-force (merges-below t (suc i))
 unfolding merges-below merge-at just-at value-start
 after-is t i z h =
     let s = z .starts i h in
@@ -47,3 +47,25 @@ pairs-newest t n r z e h f = go n refl
           g ∙ after-is t i z l ∙ ap (λ (k : ℕ). pairs-in-force (merges-below t k)) (sym q ∙ e),
           omega arith,
         )
+
+-- pairs in force of some time before are no more
+pairs-fewer : (t : List ℕ) (i n : ℕ) → i ≤ n → pairs-in-force (merges-below t i) ≤ pairs-in-force (merges-below t n)
+unfolding merges-below
+pairs-fewer t i zero h = let e : i ≡ 0 = omega arith in let q = ap (λ (k : ℕ). pairs-in-force (merges-below t k)) e in omega arith
+pairs-fewer t i (suc n) h = go (decLe i n) (pairs-fewer t i n)
+  where
+    go : Dec (i ≤ n) → (i ≤ n → pairs-in-force (merges-below t i) ≤ pairs-in-force (merges-below t n)) → pairs-in-force (merges-below t i) ≤ pairs-in-force (merges-below t (suc n))
+    go (yes l) f = let r = f l in omega (arith, pairs-more (merge-at t n) (merges-below t n))
+    go (no l) f = let e : i ≡ suc n = omega arith in let q = ap (λ (k : ℕ). pairs-in-force (merges-below t k)) e in omega arith
+
+-- the pairs of every merge stand below the pairs in force
+pub after-within : (t : List ℕ) (i : ℕ) → Sound t → i < merges# t → after-word t i ≤ pairs-in-force (merges t)
+unfolding merges
+after-within t i z h = let e = after-is t i z h in let l = pairs-fewer t (suc i) (merges# t) h in omega arith
+
+pub in-force-few : (t : List ℕ) → Sound t → pairs-in-force (merges t) ≤ 2048
+in-force-few t z = go (merges# t) refl
+  where
+    go : (n : ℕ) → n ≡ merges# t → pairs-in-force (merges t) ≤ 2048
+    go zero e = let h = pairs-none t 0 e refl in omega arith
+    go (suc i) e = let h = pairs-newest t (suc i) (word t (10303 + suc i)) z e (λ q. absurd (omega arith)) refl in omega arith

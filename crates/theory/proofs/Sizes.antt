@@ -112,7 +112,7 @@ gone-of : (n : ℕ) (ms : List Merge) → Joins ms → Within n ms → Gone n ms
 gone-of n [] j w = record { gone = []; count = refl; apart = tt; never = λ x i. i; within = λ r i. absurd i }
 gone-of n (m ∷ ms) j w = gone-more n m ms (union-of m ms) (j .0) w (gone-of n ms (j .1) (λ k i. w k (inr i)))
 
-length-range : (k n : ℕ) → length (range k n) ≡ n
+pub length-range : (k n : ℕ) → length (range k n) ≡ n
 unfolding range
 length-range k zero = refl
 length-range k (suc n) = ap suc (length-range (suc k) n)

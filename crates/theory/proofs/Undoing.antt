@@ -23,7 +23,8 @@ use Rattle.theory.proofs.UnionFind.{size-more, low-within, high-within,
 use Rattle.theory.proofs.Nodes.{merges-within, sound-joins}
 use Rattle.theory.proofs.Puts.{word-put, word-kept, length-put}
 use Rattle.theory.proofs.Log.{log-words}
-use Rattle.theory.proofs.Trees.{sides-within, in-ups, ups-in, ups-left, ups-right}
+use Rattle.theory.proofs.Walks.{sides-within}
+use Rattle.theory.proofs.Turning.{in-ups, ups-in, ups-left, ups-right}
 use Rattle.theory.proofs.Shorter.{edge-words, Shortened, shorter-sound, shorter-merges}
 
 -- ---- classes

@@ -6,4 +6,5 @@ pub mod Examples
 pub mod Table
 pub mod Answer
 pub mod Steps
+pub mod Explaining
 pub mod Registry

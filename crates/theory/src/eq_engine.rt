@@ -1,19 +1,25 @@
-// Classes of nodes: a union-find without path compression, as in the source. A node is its term.
-use crate::types::EqJust;
+// The equality engine on a lent table: classes as a union-find without path compression, the proof forest, merges with their
+// levels, and explanations, as in the source. A node is its term.
 use core::ids::TermId;
 use core::table::get;
 use core::table::put;
+use crate::types::EqJust;
+use crate::types::push_leaf;
+ghost use Prim.Native.Nat.{ℕ, suc, _+_, _<_, _≤_};
 ghost use mathlib.Core.Path.{_≡_};
-ghost use mathlib.Core.List.{[], _∷_};
-ghost use Prim.Native.Nat.{suc, _+_, _<_, _≤_};
+ghost use mathlib.Core.Bool.{true, false, cond, _&&_};
+ghost use mathlib.Core.List.{[], _∷_, _++_};
+ghost use lib.Dec.{eqb, leb};
 ghost use lib.ListN.{length, set};
-ghost use mathlib.Core.Bool.{false, cond};
-ghost use lib.Dec.{leb};
-ghost use Rattle.core.specs.Lists.{zip};
+ghost use Rattle.core.specs.Lists.{In, zip};
 ghost use Rattle.theory.specs.Types.{Congruence};
-ghost use Rattle.theory.specs.EqEngine.{find, are-equal, merge, pop-merges, before, way, pairs-in-force};
-ghost use Rattle.theory.specs.Table.{merges#, parent-word, size-word, merges-below, merges, level-word, end, justIs, EqualPairs, Sound};
+ghost use Rattle.theory.specs.EqEngine.{find, are-equal, merge, pop-merges, pairs-of, pairs-in-force, nodes, before, common, way, same-pair, explain, firsts-after};
+ghost use Rattle.theory.specs.Table.{merges#, level-word, parent-word, size-word, left-word, right-word, just-at, merges-below, merges, end, justIs, EqualPairs, Sound};
+ghost use Rattle.theory.specs.Answer.{leaves, AnswerSound};
 ghost use Rattle.theory.specs.Steps.{On, Rerooted, Spliced, United, lower, higher, label, Logged, Joinable, HoldsLabel, Copied, Separated, newest-above};
+ghost use Rattle.theory.specs.Explaining.{expand-label, expand-steps, expand-pairs, expand-new, pair-at, pairs-from, age, pairs-age, steps-age, Explaining, Goes, MarksPair, EqualPair};
+
+// ---- classes
 
 // Class representative: up the parents to the root.
 fn find(t: &[u32], node: usize) -> usize
@@ -317,4 +323,164 @@ pub fn pop(t: &mut [u32], level: usize)
     }
     undo_above(t, level);
     put(t, 1, level);
+}
+
+// ---- explanation
+
+// How many edges lie between a node and the root of its tree in the proof forest.
+fn forest_depth(t: &[u32], node: usize) -> usize
+    requires { ⌜ Sound (now t) × (node < 1024) ⌝ }
+    ensures { λ r. ⌜ r ≡ length (way (merges (now (t .entry))) node) ⌝ }
+{
+    let mut n = node;
+    let mut d = 0;
+    let mut up = get(t, 2112 + n);
+    while up != n {
+        n = up;
+        d += 1;
+        up = get(t, 2112 + n);
+    }
+    d
+}
+
+// The nearest common ancestor of two equal nodes: the deeper one goes up until both are one.
+fn forest_nca(t: &[u32], a: usize, b: usize) -> usize
+    requires { ⌜ Sound (now t) × (a < 1024) × (b < 1024) × (are-equal (merges (now t)) a b ≡ true) ⌝ }
+    ensures { λ r. ⌜ (r ≡ common a (way (merges (now (t .entry))) a) b (way (merges (now (t .entry))) b)) × (r < 1024) ⌝ }
+{
+    let mut x = a;
+    let mut y = b;
+    let mut dx = forest_depth(t, a);
+    let mut dy = forest_depth(t, b);
+    while x != y {
+        if dx < dy {
+            y = get(t, 2112 + y);
+            dy -= 1;
+        } else {
+            x = get(t, 2112 + x);
+            dx -= 1;
+        }
+    }
+    x
+}
+
+// Are x and y a and b, in this order?
+fn both(x: usize, y: usize, a: usize, b: usize) -> bool
+    ensures { λ r. ⌜ r ≡ (eqb x a && eqb y b) ⌝ }
+{
+    if x == a {
+        return y == b;
+    }
+    false
+}
+
+// In either order?
+fn same_pair(x: usize, y: usize, a: usize, b: usize) -> bool
+    ensures { λ r. ⌜ r ≡ same-pair x y (a, b) ⌝ }
+{
+    if both(x, y, a, b) {
+        return true;
+    }
+    both(x, y, b, a)
+}
+
+// Marks argument pair j where it is the pair of a and b.
+fn mark_pair(t: &[u32], a: usize, b: usize, j: usize, marks: &mut [u32])
+    requires { ⌜ (16384 ≤ length (now t)) × (j < 2048) × (2048 ≤ length (now marks)) ⌝ }
+    ensures { λ _. ⌜ now (marks .exit) ≡ cond (same-pair (left-word (now (t .entry)) j) (right-word (now (t .entry)) j) (a, b)) (set (now (marks .entry)) j 1) (now (marks .entry)) ⌝ }
+{
+    let x = get(t, 11328 + j);
+    let y = get(t, 13376 + j);
+    if same_pair(x, y, a, b) {
+        put(marks, j, 1);
+    }
+}
+
+// Marks each argument pair in force that is the pair of a and b.
+fn mark_pairs(t: &[u32], a: usize, b: usize, marks: &mut [u32])
+    requires { ⌜ Sound (now t) × (2048 ≤ length (now marks)) ⌝ }
+    ensures { λ _. ⌜ MarksPair (now (t .entry)) a b (now (marks .entry)) (now (marks .exit)) ⌝ }
+{
+    let n = pairs_in_force(t);
+    let mut j = 0;
+    while j < n {
+        mark_pair(t, a, b, j, marks);
+        j += 1;
+    }
+}
+
+// Explains two equal nodes whose pair has not been expanded yet: the first up to the nearest common ancestor, then the second.
+fn explain_rec(t: &[u32], a: usize, b: usize, marks: &mut [u32], out: &mut [u32])
+    requires { ⌜ Explaining (now t) (now marks) (now out) × (a < 1024) × (b < 1024) × (are-equal (merges (now t)) a b ≡ true) ⌝ }
+    ensures { λ _. ⌜ Goes (now (t .entry)) (now (marks .entry)) (now (out .entry)) (now (marks .exit)) (now (out .exit)) (suc (age (merges (now (t .entry))) a b)) (expand-new (merges (now (t .entry))) a b) ⌝ }
+{
+    if a == b {
+        return;
+    }
+    mark_pairs(t, a, b, marks);
+    let n = forest_nca(t, a, b);
+    expand_way(t, a, n, marks, out);
+    expand_way(t, b, n, marks, out);
+}
+
+// Expands the edges from a node up to one above it.
+fn expand_way(t: &[u32], node: usize, top: usize, marks: &mut [u32], out: &mut [u32])
+    requires { ⌜ Explaining (now t) (now marks) (now out) × (node < 1024) × In top (nodes node (way (merges (now t)) node)) ⌝ }
+    ensures { λ _. ⌜ Goes (now (t .entry)) (now (marks .entry)) (now (out .entry)) (now (marks .exit)) (now (out .exit)) (steps-age (merges (now (t .entry))) (before top (way (merges (now (t .entry))) node))) (expand-steps (merges (now (t .entry))) (before top (way (merges (now (t .entry))) node))) ⌝ }
+{
+    let mut n = node;
+    while n != top {
+        expand_edge(t, get(t, 3136 + n), marks, out);
+        n = get(t, 2112 + n);
+    }
+}
+
+// Expands the label of merge i: its leaf, or the pairs of a congruence.
+fn expand_edge(t: &[u32], i: usize, marks: &mut [u32], out: &mut [u32])
+    requires { ⌜ Explaining (now t) (now marks) (now out) × (i < merges# (now t)) ⌝ }
+    ensures { λ _. ⌜ Goes (now (t .entry)) (now (marks .entry)) (now (out .entry)) (now (marks .exit)) (now (out .exit)) (pairs-age (merges (now (t .entry))) (pairs-of (just-at (now (t .entry)) i))) (expand-label (merges (now (t .entry))) (just-at (now (t .entry)) i)) ⌝ }
+{
+    let kind = get(t, 6208 + i);
+    let value = get(t, 7232 + i);
+    let sort = kind / 65536 % 4;
+    if sort == 0 {
+        push_leaf(out, 0, value);
+    } else if sort == 1 {
+        expand_pairs(t, value, get(t, 10304 + i), marks, out);
+    } else {
+        push_leaf(out, 1 + kind % 65536, value);
+    }
+}
+
+// Explains the argument pairs from one number up to another in turn.
+fn expand_pairs(t: &[u32], from: usize, to: usize, marks: &mut [u32], out: &mut [u32])
+    requires { ⌜ Explaining (now t) (now marks) (now out) × (from ≤ to) × ((j : ℕ) → from ≤ j → j < to → EqualPair (now t) j) ⌝ }
+    ensures { λ _. ⌜ Goes (now (t .entry)) (now (marks .entry)) (now (out .entry)) (now (marks .exit)) (now (out .exit)) (pairs-age (merges (now (t .entry))) (pairs-from (now (t .entry)) from to)) (expand-pairs (merges (now (t .entry))) (pairs-from (now (t .entry)) from to)) ⌝ }
+{
+    let mut j = from;
+    while j < to {
+        expand_pair(t, j, marks, out);
+        j += 1;
+    }
+}
+
+// Explains argument pair j, unless it has been expanded.
+fn expand_pair(t: &[u32], j: usize, marks: &mut [u32], out: &mut [u32])
+    requires { ⌜ Explaining (now t) (now marks) (now out) × EqualPair (now t) j ⌝ }
+    ensures { λ _. ⌜ Goes (now (t .entry)) (now (marks .entry)) (now (out .entry)) (now (marks .exit)) (now (out .exit)) (pairs-age (merges (now (t .entry))) (pair-at (now (t .entry)) j ∷ [])) (expand-pairs (merges (now (t .entry))) (pair-at (now (t .entry)) j ∷ [])) ⌝ }
+{
+    if get(marks, j) == 0 {
+        explain_rec(t, get(t, 11328 + j), get(t, 13376 + j), marks, out);
+    }
+}
+
+// Appends the leaves that the equality of two terms rests on, each once.
+pub fn explain(t: &[u32], a: TermId, b: TermId, out: &mut [u32])
+    requires { ⌜ Sound (now t) × (a .0 < 1024) × (b .0 < 1024) × (are-equal (merges (now t)) (a .0) (b .0) ≡ true) × AnswerSound (merges (now t)) (now out) ⌝ }
+    ensures { λ _. ⌜ AnswerSound (merges (now (t .entry))) (now (out .exit)) × (leaves (now (out .exit)) ≡ leaves (now (out .entry)) ++ firsts-after (leaves (now (out .entry))) (explain (merges (now (t .entry))) (a .0) (b .0))) ⌝ }
+{
+    let x = a.0 as usize;
+    let y = b.0 as usize;
+    let mut marks = [0u32; 2048];
+    explain_rec(t, x, y, &mut marks, out);
 }

@@ -1,5 +1,16 @@
-// What an equality rests on (types.rs).
+// What an equality rests on (types.rs), and the answer table (specs/Answer.antt): leaves in order, each once.
 use core::ids::Lit;
+use core::table::get;
+use core::table::put;
+ghost use mathlib.Core.Path.{_≡_};
+ghost use mathlib.Core.Logic.{_⊎_};
+ghost use mathlib.Core.Bool.{true, cond};
+ghost use mathlib.Core.List.{[], _∷_, _++_};
+ghost use Prim.Native.Nat.{_<_, _≤_};
+ghost use lib.ListN.{length};
+ghost use Rattle.core.specs.Lists.{any};
+ghost use Rattle.theory.specs.Types.{same-leaf};
+ghost use Rattle.theory.specs.Answer.{leaves#, leaf-of, leaf-at, leaves};
 
 // The leaf of another theory: which one, and a tag of its own.
 pub struct TheoryJust {
@@ -11,4 +22,47 @@ pub struct TheoryJust {
 pub enum EqJust {
     Asserted(Lit),
     Interface(TheoryJust),
+}
+
+// ---- the answer table
+
+// Is it the leaf at i? The kind is 0 for a literal, one more than the theory for an interface leaf.
+fn leaf_is(out: &[u32], i: usize, kind: usize, value: usize) -> bool
+    requires { ⌜ (2049 ≤ length (now out)) × (i < 1024) ⌝ }
+    ensures { λ r. ⌜ r ≡ same-leaf (leaf-of kind value) (leaf-at (now (out .entry)) i) ⌝ }
+{
+    if get(out, 1 + i) == kind {
+        return value == get(out, 1025 + i);
+    }
+    false
+}
+
+// Does the leaf stand there?
+fn has_leaf(out: &[u32], kind: usize, value: usize) -> bool
+    requires { ⌜ (2049 ≤ length (now out)) × (leaves# (now out) ≤ 1024) ⌝ }
+    ensures { λ r. ⌜ r ≡ any (same-leaf (leaf-of kind value)) (leaves (now (out .entry))) ⌝ }
+{
+    let n = get(out, 0);
+    let mut i = 0;
+    while i < n {
+        if leaf_is(out, i, kind, value) {
+            return true;
+        }
+        i += 1;
+    }
+    false
+}
+
+// Appends a leaf unless it stands there already.
+pub fn push_leaf(out: &mut [u32], kind: usize, value: usize)
+    requires { ⌜ (2049 ≤ length (now out)) × (leaves# (now out) ≤ 1024) × (kind < 4294967296) × (value < 4294967296) × ((any (same-leaf (leaf-of kind value)) (leaves (now out)) ≡ true) ⊎ (leaves# (now out) < 1024)) ⌝ }
+    ensures { λ _. ⌜ leaves (now (out .exit)) ≡ cond (any (same-leaf (leaf-of kind value)) (leaves (now (out .entry)))) (leaves (now (out .entry))) (leaves (now (out .entry)) ++ (leaf-of kind value ∷ [])) ⌝ }
+{
+    if has_leaf(out, kind, value) {
+        return;
+    }
+    let n = get(out, 0);
+    put(out, 1 + n, kind);
+    put(out, 1025 + n, value);
+    put(out, 0, n + 1);
 }

@@ -2,7 +2,7 @@ use native.Mathlib.Omega.{arith}
 use lib.ListN.{length}
 use Rattle.theory.specs.EqEngine.{way}
 use Rattle.theory.specs.Table.{merges}
-use Rattle.theory.proofs.Trees.{Rise, rise-first, rise-within, rise-next, rise-less, rise-done}
+use Rattle.theory.proofs.Walks.{Rise, rise-first, rise-within, rise-next, rise-less, rise-done}
 use borrow.Author.Needs.{needs}
 use Rattle.theory.proofs.eq_engine.forest_root.Statement.{statement}
 use Rattle.theory.proofs.eq_engine.forest_root.Tie as tie
@@ -23,12 +23,12 @@ loop-holds : tie.Need-loop-holds Inv-loop μ-loop
 loop-holds c = let z = c .before .before .pre in rise-first _ _ _ (z .1) (c .get .ensures .0)
 
 add-get-2 : tie.Need-add-get-2 Inv-loop μ-loop
-add-get-2 c = let w = rise-within _ _ _ _ (c .before .before .before .before .pre .0) (c .before .loop .inv) in omega arith
+add-get-2 c = let w = rise-within _ _ _ _ (c .before .before .before .before .pre .0) (c .before .loop .inv) (c .loop-test .taken) in omega arith
 
 get-requires-2 : tie.Need-get-requires-2 Inv-loop μ-loop
 get-requires-2 c κs =
     let z = c .before .before .before .before .pre .0 in
-    let w = rise-within _ _ _ _ z (c .before .loop .inv) in
+    let w = rise-within _ _ _ _ z (c .before .loop .inv) (c .loop-test .taken) in
     let l = z .long in
     omega arith
 

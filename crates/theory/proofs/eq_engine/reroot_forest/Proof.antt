@@ -3,7 +3,7 @@ use native.Mathlib.Omega.{arith}
 use lib.ListN.{length}
 use Rattle.theory.specs.EqEngine.{way}
 use Rattle.theory.specs.Table.{merges}
-use Rattle.theory.proofs.Trees.{Turning, turn-first, turn-within, turn-edge, turn-less, turn-next, turn-done}
+use Rattle.theory.proofs.Turning.{Turning, turn-first, turn-within, turn-edge, turn-less, turn-next, turn-done}
 use borrow.Author.Needs.{needs}
 use Rattle.theory.proofs.eq_engine.reroot_forest.Statement.{statement}
 use Rattle.theory.proofs.eq_engine.reroot_forest.Tie as tie

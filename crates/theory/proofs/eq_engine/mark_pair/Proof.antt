@@ -1,0 +1,52 @@
+use Rattle.theory.proofs.Marks.{mark-one, mark-none}
+use borrow.Author.Needs.{needs}
+use Rattle.theory.proofs.eq_engine.mark_pair.Statement.{statement}
+use Rattle.theory.proofs.eq_engine.mark_pair.Tie as tie
+
+add-get : tie.Need-add-get
+add-get c = search needs
+
+get-requires : tie.Need-get-requires
+get-requires c κs = search needs
+
+add-get-2 : tie.Need-add-get-2
+add-get-2 c = search needs
+
+get-requires-2 : tie.Need-get-requires-2
+get-requires-2 c κs = search needs
+
+same-pair-requires : tie.Need-same-pair-requires
+same-pair-requires c κs = search needs
+
+put-requires : tie.Need-put-requires
+put-requires c κs = search needs
+
+same-length : tie.Need-same-length
+same-length c = search needs
+
+returns : tie.Need-returns
+returns c =
+    let at-put = c .before .before in
+    let at-if = at-put .before .before in
+    let at-same = at-if .before in
+    let x = at-same .before .before .before .before .before .args in
+    mark-one (x .t .now) (x .marks .now) _ _ _ (x .j) _ _ _ (at-same .before .before .get .ensures .0) (at-same .before .get2 .ensures .0) (at-same .same-pair .ensures) (at-if .if1 .taken) (at-put .put .ensures)
+
+returns-2 : tie.Need-returns-2
+returns-2 c =
+    let x = c .before .before .before .before .before .before .args in
+    mark-none (x .t .now) (x .marks .now) _ _ (x .j) _ _ _ (c .before .before .before .get .ensures .0) (c .before .before .get2 .ensures .0) (c .before .same-pair .ensures) (c .if1 .left)
+
+pub mark-pair-spec : {M : Type 1} → statement M
+mark-pair-spec =
+    tie.close
+    (tie.spec
+    add-get
+    get-requires
+    add-get-2
+    get-requires-2
+    same-pair-requires
+    put-requires
+    same-length
+    returns
+    returns-2)
