@@ -18,8 +18,24 @@ use Rattle.theory.specs.Types.{EqLeaf, same-leaf}
 use Rattle.theory.specs.EqEngine.{Merge, firsts-after}
 use Rattle.theory.specs.Answer.{leaves#, leaf-kind, leaf-value, leaf-of, leaf-at, leaves, Cites, AnswerSound}
 use Rattle.theory.proofs.Members.{Apart, apart-length, in-either}
+use Rattle.theory.proofs.Puts.{word-put}
 use Rattle.theory.proofs.Registering.{in-map-range, map-range-in}
 use Rattle.theory.proofs.Explain.{in-seen, label-leaf, cites-in, map-length}
+
+-- ---- an empty table
+
+pub leaves-cleared : (o u : List ℕ) → 2049 ≤ length o → u ≡ set o 0 0 → leaves u ≡ []
+unfolding leaves range
+leaves-cleared o u l e = ap (λ (n : ℕ). map (leaf-at u) (range 0 n)) (word-put o u 0 0 e (omega arith))
+
+-- whatever merges are in force
+pub no-leaves : (ms : List Merge) (o : List ℕ) → 2049 ≤ length o → leaves o ≡ [] → AnswerSound ms o
+no-leaves ms o l e = record {
+  long = l;
+  apart = subst Apart (sym e) tt;
+  other = leaf-of 0 0;
+  cited = λ k i. absurd (subst (λ (ls : List EqLeaf). In k ls) e i);
+}
 
 -- ---- asking
 

@@ -26,6 +26,14 @@ pub enum EqJust {
 
 // ---- the answer table
 
+// No leaf yet.
+pub fn clear_leaves(out: &mut [u32])
+    requires { ⌜ 2049 ≤ length (now out) ⌝ }
+    ensures { λ _. ⌜ leaves (now (out .exit)) ≡ [] ⌝ }
+{
+    put(out, 0, 0);
+}
+
 // Is it the leaf at i? The kind is 0 for a literal, one more than the theory for an interface leaf.
 fn leaf_is(out: &[u32], i: usize, kind: usize, value: usize) -> bool
     requires { ⌜ (2049 ≤ length (now out)) × (i < 1024) ⌝ }
