@@ -1,7 +1,7 @@
 -- Equality in a list of merges: an equivalence, what one more merge adds, suffixes, chains over the sides of merges.
 use Prim.Native.Nat.{ℕ, zero, suc, _≤_}
 use mathlib.Core.Path.{_≡_, refl, sym, subst, ap, _∙_}
-use mathlib.Core.Logic.{_⊎_, inl, inr, _↔_}
+use mathlib.Core.Logic.{_⊎_, inl, inr}
 use mathlib.Core.Bool.{Bool, true, false, cond}
 use mathlib.Core.List.{List, [], _∷_, cons≢nil, tail-eq-of-cons-eq}
 use native.Mathlib.Omega.{arith}
@@ -158,29 +158,6 @@ same-split m ms x y e = go (union-of m ms)
     go : Union m ms → Same ms x y ⊎ Across m ms x y
     go u = pick u (same? ms x (u .low)) (same? ms y (u .low))
 
-same-across : (m : Merge) (ms : List Merge) (x y : ℕ) → Across m ms x y → Same (m ∷ ms) x y
-same-across m ms x y (inl p) = same-kept m ms x (m .a) (p .0) ∙ same-sides m ms ∙ same-kept m ms (m .b) y (p .1)
-same-across m ms x y (inr p) = same-kept m ms x (m .b) (p .0) ∙ sym (same-sides m ms) ∙ same-kept m ms (m .a) y (p .1)
-
--- x and y over the sides of a merge, by the test
-abbrev pub EqualAcross : Merge → List Merge → ℕ → ℕ → Type 0
-EqualAcross m ms x y =
-    (T (are-equal ms x (m .a)) × T (are-equal ms (m .b) y)) ⊎ (T (are-equal ms x (m .b)) × T (are-equal ms (m .a) y))
-
--- One more merge joins the classes of its sides and no others: sizes decide only the root.
-pub equal-one-more : (m : Merge) (ms : List Merge) (x y : ℕ) → T (are-equal (m ∷ ms) x y) ↔ (T (are-equal ms x y) ⊎ EqualAcross m ms x y)
-equal-one-more m ms x y = (λ t. there (same-split m ms x y (equal-same (m ∷ ms) x y t)), λ h. same-equal (m ∷ ms) x y (back h))
-  where
-    there : Same ms x y ⊎ Across m ms x y → T (are-equal ms x y) ⊎ EqualAcross m ms x y
-    there (inl e) = inl (same-equal ms x y e)
-    there (inr (inl p)) = inr (inl (same-equal ms x (m .a) (p .0), same-equal ms (m .b) y (p .1)))
-    there (inr (inr p)) = inr (inr (same-equal ms x (m .b) (p .0), same-equal ms (m .a) y (p .1)))
-
-    back : T (are-equal ms x y) ⊎ EqualAcross m ms x y → Same (m ∷ ms) x y
-    back (inl t) = same-kept m ms x y (equal-same ms x y t)
-    back (inr (inl p)) = same-across m ms x y (inl (equal-same ms x (m .a) (p .0), equal-same ms (m .b) y (p .1)))
-    back (inr (inr p)) = same-across m ms x y (inr (equal-same ms x (m .b) (p .0), equal-same ms (m .a) y (p .1)))
-
 -- ---- suffixes: the merges of some time before
 
 abbrev pub Suffix : List Merge → List Merge → Type 0
@@ -190,10 +167,6 @@ Suffix r (m ∷ ms) = (r ≡ m ∷ ms) ⊎ Suffix r ms
 pub suffix-self : (ms : List Merge) → Suffix ms ms
 suffix-self [] = refl
 suffix-self (m ∷ ms) = inl refl
-
-pub suffix-nil : (ms : List Merge) → Suffix [] ms
-suffix-nil [] = refl
-suffix-nil (m ∷ ms) = inr (suffix-nil ms)
 
 -- what is older than a part's newest merge is older than the whole
 pub suffix-tail : (m : Merge) (r ms : List Merge) → Suffix (m ∷ r) ms → Suffix r ms
@@ -244,15 +217,6 @@ pop-more k m ms = go (leb (m .level) k)
     go true = inr (pop-suffix k ms)
     go false = suffix-self (pop-merges k ms)
 
--- `merge` only adds, and its sides are equal afterwards
-pub merge-suffix : (ms : List Merge) (level x y : ℕ) (j : EqJust) → Suffix ms (merge ms level x y j)
-unfolding merge
-merge-suffix ms level x y j = go (are-equal ms x y)
-  where
-    go : (b : Bool) → Suffix ms (cond b ms (record { a = x; b = y; just = j; level = level } ∷ ms))
-    go true = suffix-self ms
-    go false = inr (suffix-self ms)
-
 pub merge-equal : (ms : List Merge) (level x y : ℕ) (j : EqJust) → T (are-equal (merge ms level x y j) x y)
 unfolding merge
 merge-equal ms level x y j = go (are-equal ms x y) refl
@@ -274,22 +238,6 @@ Sides ms x y = (m : Merge) × In m ms × (m .a ≡ x) × (m .b ≡ y)
 abbrev pub Linked : List Merge → ℕ → ℕ → ℕ → Type 0
 Linked ms zero x y = x ≡ y
 Linked ms (suc n) x y = (z : ℕ) × (Sides ms x z ⊎ Sides ms z x) × Linked ms n z y
-
-pub sides-same : (ms : List Merge) (x y : ℕ) → Sides ms x y → Same ms x y
-sides-same [] x y (m, i, e, f) = absurd i
-sides-same (n ∷ ms) x y (m, inl q, e, f) = go (ap (λ (p : Merge). p .a) (sym q) ∙ e) (ap (λ (p : Merge). p .b) (sym q) ∙ f)
-  where
-    go : n .a ≡ x → n .b ≡ y → Same (n ∷ ms) x y
-    go e f = ap (find (n ∷ ms)) (sym e) ∙ same-sides n ms ∙ ap (find (n ∷ ms)) f
-sides-same (n ∷ ms) x y (m, inr i, e, f) = same-kept n ms x y (sides-same ms x y (m, i, e, f))
-
-link-same : (ms : List Merge) (x y : ℕ) → Sides ms x y ⊎ Sides ms y x → Same ms x y
-link-same ms x y (inl s) = sides-same ms x y s
-link-same ms x y (inr s) = sym (sides-same ms y x s)
-
-linked-same : (ms : List Merge) (n x y : ℕ) → Linked ms n x y → Same ms x y
-linked-same ms zero x y e = ap (find ms) e
-linked-same ms (suc n) x y (z, s, l) = link-same ms x z s ∙ linked-same ms n z y l
 
 sides-kept : (m : Merge) (ms : List Merge) (x y : ℕ) → Sides ms x y → Sides (m ∷ ms) x y
 sides-kept m ms x y (n, i, e, f) = (n, inr i, e, f)
@@ -323,9 +271,6 @@ chained-more m ms x y old (inr (inr p)) =
 same-chained : (ms : List Merge) (x y : ℕ) → Same ms x y → Chained ms x y
 same-chained [] x y e = (0, same-alone x y e)
 same-chained (m ∷ ms) x y e = chained-more m ms x y (same-chained ms) (same-split m ms x y e)
-
-pub linked-equal : (ms : List Merge) (n x y : ℕ) → Linked ms n x y → T (are-equal ms x y)
-linked-equal ms n x y l = same-equal ms x y (linked-same ms n x y l)
 
 pub equal-linked : (ms : List Merge) (x y : ℕ) → T (are-equal ms x y) → (n : ℕ) × Linked ms n x y
 equal-linked ms x y t = same-chained ms x y (equal-same ms x y t)

@@ -1,7 +1,7 @@
 -- A cleared table: each node alone, no merge, level 0.
-use Prim.Native.Nat.{ℕ, zero, suc, _+_, _≤_, _<_}
+use Prim.Native.Nat.{ℕ, _+_, _≤_, _<_}
 use mathlib.Core.Path.{_≡_, refl, sym, subst, ap, _∙_}
-use mathlib.Core.Logic.{_⊎_, inl, inr, _≢_}
+use mathlib.Core.Logic.{_≢_}
 use mathlib.Core.List.{List, []}
 use native.Mathlib.Omega.{arith}
 use borrow.Author.Count.{below-more}
@@ -10,7 +10,7 @@ use lib.Seq.{getD-set-same, getD-set-other}
 use Rattle.core.specs.Lists.{In}
 use Rattle.core.specs.Table.{word}
 use Rattle.theory.specs.EqEngine.{Merge, singletons, classes, way}
-use Rattle.theory.specs.Table.{merges#, level-word, parent-word, size-word, fparent-word, merges-below, merges, parent, FirstEdge, Justified, Sound}
+use Rattle.theory.specs.Table.{level-word, parent-word, size-word, fparent-word, merges-below, merges, parent, FirstEdge, Justified, Sound}
 
 abbrev Alone : List ℕ → ℕ → Type 0
 Alone t x = (parent-word t x ≡ x) × (size-word t x ≡ 1) × (fparent-word t x ≡ x)

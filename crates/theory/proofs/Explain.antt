@@ -1,5 +1,5 @@
 -- Explanations: each leaf labels a merge, and the leaves together force the equality that they explain.
-use Prim.Native.Nat.{ℕ, zero, suc, _≤_, _<_}
+use Prim.Native.Nat.{ℕ, zero, suc, _<_}
 use mathlib.Core.Path.{_≡_, refl, sym, subst, ap, ap₂, _∙_}
 use mathlib.Core.Logic.{_⊎_, inl, inr, _↔_}
 use mathlib.Core.Bool.{Bool, true, false, cond, _&&_, _||_}
@@ -14,7 +14,7 @@ use Rattle.theory.specs.Types.{EqJust, Asserted, Congruence, Interface, 
 use Rattle.theory.specs.EqEngine.{Merge, Step, find, are-equal, merge, pop-merges, pairs-of, path, Explained, same-pair, visit, cite, expand-edge, explain-rec, explain, firsts-after, firsts}
 pub use Rattle.theory.specs.Table.{Justified}
 pub use Rattle.theory.specs.Answer.{Labels, Cites}
-use Rattle.theory.proofs.Members.{T-or, T-left, in-left, in-right, in-either, in-any, Apart, apart-length}
+use Rattle.theory.proofs.Members.{T-or, T-left, in-left, in-right, in-either, in-any}
 use Rattle.theory.proofs.Classes.{Same, same?, same-alone, same-kept, same-suffix, equal-same, Suffix, suffix-self, suffix-tail, in-suffix, pop-suffix}
 use Rattle.theory.proofs.Forest.{Leads, Along, path-over, Joins, PathOf, path-of, path-age}
 
@@ -375,26 +375,6 @@ in-after seen (k ∷ ls) l i = go (any (same-leaf k) seen) refl i (in-after seen
     go false e (inl q) f g = inl (inl q)
     go false e (inr j) f g = later (g j)
 
--- what is kept is new
-after-new : (seen ls : List EqLeaf) (l : EqLeaf) → In l (firsts-after seen ls) → In l seen → ⊥
-unfolding firsts-after
-after-new seen [] l i s = i
-after-new seen (k ∷ ls) l i s = go (any (same-leaf k) seen) refl i (after-new seen ls l) (after-new (k ∷ seen) ls l)
-  where
-    go : (b : Bool) → any (same-leaf k) seen ≡ b → In l (cond b (firsts-after seen ls) (k ∷ firsts-after (k ∷ seen) ls)) → (In l (firsts-after seen ls) → In l seen → ⊥) → (In l (firsts-after (k ∷ seen) ls) → In l (k ∷ seen) → ⊥) → ⊥
-    go true e j f g = f j s
-    go false e (inl q) f g = subst T e (in-seen k seen (subst (λ (z : EqLeaf). In z seen) q s))
-    go false e (inr j) f g = g j (inr s)
-
-after-apart : (seen ls : List EqLeaf) → Apart (firsts-after seen ls)
-unfolding firsts-after
-after-apart seen [] = tt
-after-apart seen (k ∷ ls) = go (any (same-leaf k) seen) (after-apart seen ls) (after-apart (k ∷ seen) ls)
-  where
-    go : (b : Bool) → Apart (firsts-after seen ls) → Apart (firsts-after (k ∷ seen) ls) → Apart (cond b (firsts-after seen ls) (k ∷ firsts-after (k ∷ seen) ls))
-    go true f g = f
-    go false f g = (λ i. after-new (k ∷ seen) ls k i (inl refl), g)
-
 pub firsts-in : (ls : List EqLeaf) (l : EqLeaf) → In l (firsts ls) ↔ In l ls
 unfolding firsts
 firsts-in ls l = (after-in [] ls l, λ i. go (in-after [] ls l i))
@@ -406,10 +386,6 @@ firsts-in ls l = (after-in [] ls l, λ i. go (in-after [] ls l i))
 pub firsts-empty : (ls : List EqLeaf) → firsts ls ≡ [] → ls ≡ []
 firsts-empty [] e = refl
 firsts-empty (l ∷ ls) e = absurd (subst (λ (ks : List EqLeaf). In l ks) e (firsts-in (l ∷ ls) l .1 (inl refl)))
-
-pub firsts-apart : (ls : List EqLeaf) → Apart (firsts ls)
-unfolding firsts
-firsts-apart ls = after-apart [] ls
 
 -- ---- how many leaves
 
@@ -432,15 +408,3 @@ cites-in (n ∷ ms) l (m, inr i, c) = inr (cites-in ms l (m, i, c))
 pub map-length : (ms : List Merge) → length (map (λ (m : Merge). label-leaf (m .just)) ms) ≡ length ms
 map-length [] = refl
 map-length (m ∷ ms) = ap suc (map-length ms)
-
--- no more first occurrences than a list that has them all
-pub firsts-within : (ls ks : List EqLeaf) → ((l : EqLeaf) → In l ls → In l ks) → length (firsts ls) ≤ length ks
-firsts-within ls ks f = apart-length (firsts ls) ks (firsts-apart ls) (λ l i. f l (firsts-in ls l .0 i))
-
--- Leaves that label merges are, without repetition, no more than the merges.
-pub cited-length : (ms : List Merge) (ls : List EqLeaf) → ((l : EqLeaf) → In l ls → Cites ms l) → length (firsts ls) ≤ length ms
-cited-length ms ls f =
-    rw map-length at (firsts-within ls (map (λ (m : Merge). label-leaf (m .just)) ms) (λ l i. cites-in ms l (f l i)))
-
-pub explain-length : (ms : List Merge) (x y : ℕ) → length (firsts (explain ms x y)) ≤ length ms
-explain-length ms x y = cited-length ms (explain ms x y) (explain-cites ms x y)

@@ -14,7 +14,7 @@ use Rattle.core.specs.Table.{word}
 use Rattle.core.proofs.Lists.{In, T-true, true-T, in-range, map-range-suc}
 use Rattle.theory.specs.Types.{EqJust, Asserted, Congruence, Interface, EqLeaf, AssertedLeaf, same-leaf}
 use Rattle.theory.specs.EqEngine.{Merge, Step, Explained, are-equal, pairs-of, before, nodes, common, way, same-pair, visit, cite, path, expand-edge, explain-rec, explain, firsts-after}
-use Rattle.theory.specs.Table.{merges#, kind-word, value-word, after-word, left-word, right-word, fparent-word, fedge-word, just-of, just-at, merge-at, start-of, value-start, merges-below, merges, Justified, Sound}
+use Rattle.theory.specs.Table.{merges#, kind-word, value-word, after-word, left-word, right-word, fparent-word, fedge-word, label, begins, kind-of, just-at, merge-at, value-start, merges-below, merges, Justified, Sound}
 use Rattle.theory.specs.Answer.{leaves#, leaf-of, leaves, Labels, Cites, AnswerSound}
 use Rattle.theory.specs.Explaining.{expand-label, expand-steps, expand-pairs, expand-new, pair-at, pairs-from, age, pairs-age, steps-age, marked, Shows, Explaining, Goes, MarksPair, EqualPair}
 use Rattle.theory.proofs.Members.{in-left, in-right}
@@ -23,6 +23,7 @@ use Rattle.theory.proofs.Forest.{Forest, Above, at-root, at-step, above
 use Rattle.theory.proofs.Explain.{pairs-before}
 use Rattle.theory.proofs.Nodes.{sound-joins}
 use Rattle.theory.proofs.Walks.{sound-forest, Rises, first-edge}
+use Rattle.theory.proofs.Log.{merges-length}
 use Rattle.theory.proofs.Pairs.{after-within, in-force-few}
 use Rattle.theory.proofs.Ages.{pairs-age-in, pairs-age-among, steps-age-in, steps-age-among, age-bound, ways-older}
 use Rattle.theory.proofs.Leaves.{push-room, push-sound, pushed-firsts}
@@ -378,26 +379,21 @@ in-merges t i (suc n) h = go (ℕ-discrete i n) (in-merges t i n)
     go (yes e) f = inl (ap (merge-at t) e)
     go (no k) f = inr (f (omega arith))
 
-merges-length : (t : List ℕ) (n : ℕ) → length (merges-below t n) ≡ n
-unfolding merges-below
-merges-length t zero = refl
-merges-length t (suc n) = ap suc (merges-length t n)
-
 -- the leaf that a word of kind and value means labels its merge
-literal-labels : (t : List ℕ) (i k : ℕ) → k ≡ 0 → Labels (just-of t i k) (leaf-of 0 (value-word t i))
-unfolding just-of leaf-of
-literal-labels t i k e = subst (λ (n : ℕ). Labels (just-of t i n) (AssertedLeaf (value-word t i))) (sym e) refl
+literal-labels : (t : List ℕ) (k h v e : ℕ) → k ≡ 0 → Labels (label t k h v e) (leaf-of 0 v)
+unfolding label leaf-of
+literal-labels t k h v e q = subst (λ (n : ℕ). Labels (label t n h v e) (AssertedLeaf v)) (sym q) refl
 
-interface-labels : (t : List ℕ) (i k : ℕ) → (k ≡ 0 → ⊥) → (k ≡ 1 → ⊥) → Labels (just-of t i k) (leaf-of (suc (kind-word t i % 65536)) (value-word t i))
-unfolding just-of leaf-of
-interface-labels t i zero h g = absurd (h refl)
-interface-labels t i (suc zero) h g = absurd (g refl)
-interface-labels t i (suc (suc k)) h g = refl
+interface-labels : (t : List ℕ) (k h v e : ℕ) → (k ≡ 0 → ⊥) → (k ≡ 1 → ⊥) → Labels (label t k h v e) (leaf-of (suc h) v)
+unfolding label leaf-of
+interface-labels t zero h v e p q = absurd (p refl)
+interface-labels t (suc zero) h v e p q = absurd (q refl)
+interface-labels t (suc (suc k)) h v e p q = refl
 
 pub edge-literal : (t : List ℕ) (i k v : ℕ) → k ≡ kind-word t i → v ≡ value-word t i → k / 65536 % 4 ≡ 0 → Labels (just-at t i) (leaf-of 0 v)
 unfolding just-at
 edge-literal t i k v e q h =
-    subst (λ (n : ℕ). Labels (just-at t i) (leaf-of 0 n)) (sym q) (literal-labels t i (kind-word t i / 65536 % 4) (sym (ap (λ (n : ℕ). n / 65536 % 4) e) ∙ h))
+    subst (λ (n : ℕ). Labels (just-at t i) (leaf-of 0 n)) (sym q) (literal-labels t (kind-of t i) (kind-word t i % 65536) (value-word t i) (after-word t i) (sym (ap (λ (n : ℕ). n / 65536 % 4) e) ∙ h))
 
 pub edge-interface : (t : List ℕ) (i k v : ℕ) → k ≡ kind-word t i → v ≡ value-word t i → (k / 65536 % 4 ≡ 0 → ⊥) → (k / 65536 % 4 ≡ 1 → ⊥) → Labels (just-at t i) (leaf-of (1 + k % 65536) v)
 unfolding just-at
@@ -405,7 +401,7 @@ edge-interface t i k v e q h g =
     let r : suc (kind-word t i % 65536) ≡ 1 + k % 65536 = let w = ap (λ (n : ℕ). n % 65536) e in omega arith in
     subst (λ (n : ℕ). Labels (just-at t i) (leaf-of n v)) r
     (subst (λ (n : ℕ). Labels (just-at t i) (leaf-of (suc (kind-word t i % 65536)) n)) (sym q)
-    (interface-labels t i (kind-word t i / 65536 % 4) (λ w. h (ap (λ (n : ℕ). n / 65536 % 4) e ∙ w)) (λ w. g (ap (λ (n : ℕ). n / 65536 % 4) e ∙ w))))
+    (interface-labels t (kind-of t i) (kind-word t i % 65536) (value-word t i) (after-word t i) (λ w. h (ap (λ (n : ℕ). n / 65536 % 4) e ∙ w)) (λ w. g (ap (λ (n : ℕ). n / 65536 % 4) e ∙ w))))
 
 module _ (t o : List ℕ) (i : ℕ) (l : EqLeaf) (z : Sound t) (y : AnswerSound (merges t) o) (h : i < merges# t) (k : Labels (just-at t i) l) where
   label-cites : Cites (merges t) l
@@ -414,7 +410,7 @@ module _ (t o : List ℕ) (i : ℕ) (l : EqLeaf) (z : Sound t) (y : AnswerSound 
 
   pub label-room : (leaves# o ≤ 1024) × ((any (same-leaf l) (leaves o) ≡ true) ⊎ (leaves# o < 1024))
   unfolding merges
-  label-room = let n = z .fewer in push-room (merges t) o l y (let w = merges-length t (merges# t) in omega arith) label-cites
+  label-room = let n = z .fewer in push-room (merges t) o l y (let w = merges-length t in omega arith) label-cites
 
   label-is : (j : EqJust) → Labels j l → (d : ℕ) (e : Explained) → cite l e ≡ expand-label (merges t) j d e
   unfolding expand-label expand-edge
@@ -433,9 +429,9 @@ module _ (t o : List ℕ) (i : ℕ) (l : EqLeaf) (z : Sound t) (y : AnswerSound 
 
 -- the label of a congruence
 edge-is : (t : List ℕ) (i k v a : ℕ) → k ≡ kind-word t i → v ≡ value-word t i → a ≡ after-word t i → k / 65536 % 4 ≡ 1 → just-at t i ≡ Congruence (pairs-from t v a)
-unfolding just-at just-of pairs-from
+unfolding just-at label pairs-from
 edge-is t i k v a e q r h =
-    ap (just-of t i) (sym (ap (λ (n : ℕ). n / 65536 % 4) e) ∙ h)
+    ap (λ (n : ℕ). label t n (kind-word t i % 65536) (value-word t i) (after-word t i)) (sym (ap (λ (n : ℕ). n / 65536 % 4) e) ∙ h)
     ∙ ap₂ (λ (x y : ℕ). Congruence (pairs-from t x y)) (sym q) (sym r)
 
 pub edge-goes : (t m o m₁ o₁ : List ℕ) (i k v a : ℕ) → k ≡ kind-word t i → v ≡ value-word t i → a ≡ after-word t i → k / 65536 % 4 ≡ 1 → Goes t m o m₁ o₁ (pairs-age (merges t) (pairs-from t v a)) (expand-pairs (merges t) (pairs-from t v a)) → Goes t m o m₁ o₁ (pairs-age (merges t) (pairs-of (just-at t i))) (expand-label (merges t) (just-at t i))
@@ -447,9 +443,9 @@ pub edge-age : (t : List ℕ) (i k v a : ℕ) → k ≡ kind-word t i → v ≡ 
 unfolding pairs-of
 edge-age t i k v a e q r h = ap (λ (j : EqJust). pairs-age (merges t) (pairs-of j)) (edge-is t i k v a e q r h)
 
-start-by : (t : List ℕ) (i k : ℕ) → k ≡ 1 → start-of t i k ≡ value-word t i
-unfolding start-of
-start-by t i k e = ap (start-of t i) e
+begins-by : (k v e : ℕ) → k ≡ 1 → begins k v e ≡ v
+unfolding begins
+begins-by k v e q = ap (λ (n : ℕ). begins n v e) q
 
 congruent : (ps : List (ℕ × ℕ)) (p : ℕ × ℕ) → In p ps → In p (pairs-of (Congruence ps))
 unfolding pairs-of
@@ -464,7 +460,7 @@ pub edge-ready : (t : List ℕ) (i k v a : ℕ) → Sound t → i < merges# t �
 unfolding value-start merges merge-at pair-at
 edge-ready t i k v a z h e q r w =
     let f = z .pairs-fit i h .0 in
-    let s = start-by t i (kind-word t i / 65536 % 4) (sym (ap (λ (n : ℕ). n / 65536 % 4) e) ∙ w) in
+    let s = begins-by (kind-of t i) (value-word t i) (after-word t i) (sym (ap (λ (n : ℕ). n / 65536 % 4) e) ∙ w) in
     let l = after-within t i z h in (
       omega arith,
       λ j b c. record {

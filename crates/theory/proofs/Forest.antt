@@ -15,7 +15,7 @@ use Rattle.core.specs.Lists.{first, mem}
 use Rattle.core.proofs.Lists.{In, any-in}
 pub use Rattle.theory.specs.Table.{Joins, end}
 pub use Rattle.theory.specs.Steps.{On}
-use Rattle.theory.specs.EqEngine.{Merge, Step, classes, find, are-equal, before, turned, nodes, common, rehung, way, path}
+use Rattle.theory.specs.EqEngine.{Merge, Step, classes, find, before, turned, nodes, common, rehung, way, path}
 use Rattle.theory.proofs.Members.{in-left, in-right, in-either, in-any, Apart}
 use Rattle.theory.proofs.Classes.{Same, same-alone, same?, BothSides, turned-sides, unequal, Across, same-split, same-kept, same-sides, Suffix, same-suffix}
 
@@ -555,14 +555,6 @@ way-forest (m ∷ ms) J x s w p =
 pub way-apart : (ms : List Merge) → Joins ms → (x : ℕ) → Apart (nodes x (way ms x))
 unfolding nodes
 way-apart ms J x = apart (way ms) (way-forest ms J) (way ms x) x refl
-
--- a way leads to its root
-pub way-leads : (ms : List Merge) → Joins ms → (x : ℕ) → Leads x (way ms x) (end x (way ms x))
-way-leads ms J x = go (way ms x) x refl
-  where
-    go : (w : List Step) (x : ℕ) → way ms x ≡ w → Leads x w (end x w)
-    go [] x p = refl
-    go (s ∷ w) x p = let (a, b) = way-forest ms J x s w p in (a, go w (s .up) b)
 
 -- ---- the path
 

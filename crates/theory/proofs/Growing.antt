@@ -1,31 +1,29 @@
 -- One more merge: what its steps wrote makes a sound table with that merge in front.
-use Prim.Native.Nat.{ℕ, zero, suc, _+_, _-_, _*_, _/_, _%_, _≤_, _<_}
+use Prim.Native.Nat.{ℕ, suc, _+_, _-_, _*_, _/_, _%_, _≤_, _<_}
 use mathlib.Core.Path.{_≡_, refl, sym, subst, ap, ap₂, _∙_}
-use mathlib.Core.Logic.{_⊎_, inl, inr}
-use mathlib.Core.Bool.{Bool, true, false, cond}
-use mathlib.Core.List.{List, [], _∷_, _++_, map}
+use mathlib.Core.Logic.{inl, inr}
+use mathlib.Core.Bool.{Bool, false, cond}
+use mathlib.Core.List.{List, [], _∷_}
 use native.Mathlib.Omega.{arith}
 use native.Mathlib.Decide.{ℕ-discrete, decLe}
 use native.Mathlib.Numerals.{add-one}
-use lib.Dec.{T, eqb, leb}
+use lib.Dec.{eqb, leb}
 use lib.ListN.{length, set}
-use Rattle.core.specs.Lists.{In, range}
+use Rattle.core.specs.Lists.{In}
 use Rattle.core.specs.Table.{word}
-use Rattle.core.proofs.Lists.{map-range-cong}
-use Rattle.theory.specs.Types.{EqJust, Asserted, Congruence, Interface}
 use Rattle.theory.specs.EqEngine.{Merge, classes, find, are-equal, pairs-of, pairs-in-force, Step, before, way}
-use Rattle.theory.specs.Table.{merges#, level-word, parent-word, size-word, fparent-word, fedge-word, a-word, b-word, kind-word, value-word, low-word, froot-word, after-word, left-word, right-word, just-of, just-at, merge-at, start-of, value-start, merges-below, merges, low-root, high-root, parent, end, BothSides, FirstEdge, Justified, EqualPairs, Sound}
-use Rattle.theory.specs.Steps.{SameEntry, SamePairs, SameLog, On, Spliced, United, lower, higher, label, begins, Logged, Joinable}
+use Rattle.theory.specs.Table.{merges#, level-word, parent-word, size-word, fparent-word, fedge-word, a-word, b-word, kind-word, value-word, low-word, froot-word, after-word, label, begins, just-at, merge-at, value-start, merges-below, merges, low-root, high-root, parent, end, BothSides, FirstEdge, Justified, EqualPairs, Sound}
+use Rattle.theory.specs.Steps.{SameLog, Spliced, United, lower, higher, Logged, Joinable}
 use Rattle.theory.proofs.Members.{in-right}
 use Rattle.theory.proofs.Classes.{turned-sides}
 use Rattle.theory.proofs.Explain.{justified-joins}
-use Rattle.theory.proofs.Forest.{Forest, Above, above?, Below, below, split, back, new-step, first-side, turned-above, other-stays, other-root}
+use Rattle.theory.proofs.Forest.{Forest, Above, above?, Below, below, split, back, first-side, turned-above, other-stays, other-root}
 use Rattle.theory.proofs.Sizes.{Within, find-within, merges-fewer, size-bound}
 use Rattle.theory.proofs.UnionFind.{size-more, low-within, high-within}
 use Rattle.theory.proofs.Nodes.{merges-within, sound-joins}
 use Rattle.theory.proofs.Puts.{word-put, word-kept, length-put}
 use Rattle.theory.proofs.KindWords.{kind-level, kind-kind, kind-theory}
-use Rattle.theory.proofs.Log.{merge-same, just-same, start-same, log-shorter, log-then, below-same, merges-length, log-words, log-but}
+use Rattle.theory.proofs.Log.{label-same, merge-same, start-same, log-shorter, log-then, below-same, merges-length, log-words, log-but}
 use Rattle.theory.proofs.Walks.{sound-forest, way-within}
 use Rattle.theory.proofs.Shorter.{edge-words}
 
@@ -221,25 +219,6 @@ module _ (t s u : List ℕ) (m : Merge) (z : Sound t) (two : are-equal (merges t
       go (yes i) (yes e) = edge-first x h e
       go (yes i) (no n) = edge-turned x h (below W F x (m .a) i n)
 
--- ---- the entry of the log
-
--- the label, read from the words
-label-words : (t u : List ℕ) (i k h v e : ℕ) → kind-word u i % 65536 ≡ h → value-word u i ≡ v → after-word u i ≡ e → ((j : ℕ) → 11328 ≤ j → word u j ≡ word t j) → just-of u i k ≡ label t k h v e
-unfolding just-of label
-label-words t u i zero h v e p q r f = ap Asserted q
-label-words t u i (suc zero) h v e p q r f =
-    ap Congruence (
-    ap₂ (λ (x y : ℕ). map (λ j. (left-word u j, right-word u j)) (range x (y - x))) q r
-    ∙ map-range-cong (λ j. (left-word u j, right-word u j)) (λ j. (left-word t j, right-word t j)) v (e - v)
-    (λ j l g. ap₂ (λ (x y : ℕ). (x, y)) (f (11328 + j) (omega arith)) (f (13376 + j) (omega arith))))
-label-words t u i (suc (suc k)) h v e p q r f = ap₂ Interface p q
-
-start-words : (u : List ℕ) (i k v e : ℕ) → value-word u i ≡ v → after-word u i ≡ e → start-of u i k ≡ begins k v e
-unfolding start-of begins
-start-words u i zero v e q r = r
-start-words u i (suc zero) v e q r = q
-start-words u i (suc (suc k)) v e q r = r
-
 -- ---- all steps together
 
 module _ (t t₁ t₂ t₃ t₄ : List ℕ) (a b kind h v e ra rb : ℕ) (z : Sound t) (J : Joinable t a b kind h v e) (fa : ra ≡ find (merges t) a) (fb : rb ≡ find (merges t) b) (c₁ : Spliced t t₁ a b (merges# t)) (c₂ : United t₁ t₂ (lower t₁ ra rb) (higher t₁ ra rb) (merges# t)) (c₃ : Logged t₂ t₃ (merges# t) a b (262144 * level-word t + 65536 * kind + h) v e) (e₄ : t₄ ≡ set t₃ 0 (merges# t + 1)) where
@@ -301,12 +280,14 @@ module _ (t t₁ t₂ t₃ t₄ : List ℕ) (a b kind h v e ra rb : ℕ) (z : So
   just-then : just-at t₄ (merges# t) ≡ label t kind h v e
   unfolding just-at w
   just-then =
-      ap (just-of t₄ (merges# t)) code
-      ∙ label-words t t₄ (merges# t) kind h v e (ap (λ (k : ℕ). k % 65536) kind-then ∙ kind-theory (level-word t) kind h (J .known) (J .theory)) value-then after-then pairs-then
+      ap₂ (λ (k g : ℕ). label t₄ k g (value-word t₄ (merges# t)) (after-word t₄ (merges# t))) code
+      (ap (λ (k : ℕ). k % 65536) kind-then ∙ kind-theory (level-word t) kind h (J .known) (J .theory))
+      ∙ ap₂ (label t₄ kind h) value-then after-then
+      ∙ label-same t t₄ kind h v e (λ j l. (pairs-then (11328 + j) (omega arith), pairs-then (13376 + j) (omega arith)))
 
   start-then : value-start t₄ (merges# t) ≡ begins kind v e
   unfolding value-start
-  start-then = ap (start-of t₄ (merges# t)) code ∙ start-words t₄ (merges# t) kind v e value-then after-then
+  start-then = ap (λ (k : ℕ). begins k (value-word t₄ (merges# t)) (after-word t₄ (merges# t))) code ∙ ap₂ (begins kind) value-then after-then
 
   merge-then : merge-at t₄ (merges# t) ≡ m
   unfolding merge-at m w

@@ -1,7 +1,6 @@
 -- Two classes joined under a given label, or one class left as it is.
-use Prim.Native.Nat.{ℕ, zero, suc, _+_, _-_, _≤_, _<_}
+use Prim.Native.Nat.{ℕ, suc, _+_, _-_, _≤_, _<_}
 use mathlib.Core.Path.{_≡_, refl, sym, subst, ap, ap₂, _∙_}
-use mathlib.Core.Logic.{inl, inr}
 use mathlib.Core.Bool.{Bool, true, false, cond}
 use mathlib.Core.List.{List, [], _∷_, map}
 use native.Mathlib.Omega.{arith}
@@ -12,9 +11,9 @@ use Rattle.core.specs.Table.{word}
 use Rattle.theory.specs.Types.{EqJust, Asserted, Congruence, Interface}
 use Rattle.theory.specs.declared.types.EqJust as Given
 use Rattle.theory.specs.declared.eq_engine.LabelWords as LabelWords
-use Rattle.theory.specs.EqEngine.{Merge, are-equal, merge, pairs-of, pairs-in-force, Step, way}
-use Rattle.theory.specs.Table.{merges#, level-word, left-word, right-word, merges, justIs, EqualPairs, Sound}
-use Rattle.theory.specs.Steps.{SameLog, SamePairs, label, begins, Joinable, HoldsLabel, Copied}
+use Rattle.theory.specs.EqEngine.{Merge, are-equal, merge, pairs-of, pairs-in-force, way}
+use Rattle.theory.specs.Table.{merges#, level-word, left-word, right-word, label, begins, merges, justIs, EqualPairs, Sound}
+use Rattle.theory.specs.Steps.{SameLog, Joinable, HoldsLabel, Copied}
 use Rattle.theory.proofs.Pairs.{after-within}
 use Rattle.theory.proofs.Shorter.{edge-kept, Shortened, shorter-sound, shorter-merges}
 

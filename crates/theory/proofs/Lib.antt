@@ -1,12 +1,11 @@
 -- Laws of the definition. Members: lists; Classes: equality in the list of merges; Forest: ways and paths; Sizes: how large classes
--- are and how many merges there can be; Explain: what an explanation cites and forces; Visits: the pairs it expands; UnionFind:
+-- are and how many merges there can be; Explain: what an explanation cites and forces; UnionFind:
 -- parents and roots; Ages: why explaining ends.
 pub mod Members
 pub mod Classes
 pub mod Forest
 pub mod Sizes
 pub mod Explain
-pub mod Visits
 pub mod UnionFind
 pub mod Ages
 -- The engine's table. Nodes: up to the root of a class; Puts: one word written; Log, Pairs: what the log says; Walks: up the forest;

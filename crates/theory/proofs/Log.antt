@@ -1,31 +1,30 @@
 -- The log of merges: tables that agree on its first merges give the same list of merges, and how many there are.
-use Prim.Native.Nat.{ℕ, zero, suc, _+_, _-_, _*_, _/_, _%_, _≤_, _<_}
+use Prim.Native.Nat.{ℕ, zero, suc, _+_, _-_, _/_, _%_, _≤_, _<_}
 use mathlib.Core.Path.{_≡_, refl, sym, subst, ap, ap₂, _∙_}
-use mathlib.Core.Logic.{inl, inr}
-use mathlib.Core.List.{List, [], _∷_, map}
+use mathlib.Core.List.{List, _∷_}
 use native.Mathlib.Omega.{arith}
 use lib.ListN.{length}
-use Rattle.core.specs.Lists.{In, range}
 use Rattle.core.specs.Table.{word}
-use Rattle.core.proofs.Lists.{map-range-cong, length-map-range}
-use Rattle.theory.specs.Types.{EqJust, Asserted, Congruence, Interface}
-use Rattle.theory.specs.EqEngine.{Merge, pairs-of, pairs-in-force}
-use Rattle.theory.specs.Table.{merges#, level-word, a-word, b-word, kind-word, value-word, low-word, froot-word, after-word, left-word, right-word, just-of, just-at, merge-at, start-of, value-start, merges-below, merges, Sound}
+use Rattle.core.proofs.Lists.{map-range-cong}
+use Rattle.theory.specs.Types.{Congruence}
+use Rattle.theory.specs.EqEngine.{Merge}
+use Rattle.theory.specs.Table.{merges#, kind-word, value-word, after-word, left-word, right-word, label, begins, kind-of, just-at, merge-at, value-start, merges-below, merges}
 use Rattle.theory.specs.Steps.{SameEntry, SamePairs, SameLog}
 
-just-kind : (t u : List ℕ) (i k : ℕ) → SameEntry t u i → SamePairs t u (after-word t i) → just-of u i k ≡ just-of t i k
-unfolding just-of
-just-kind t u i zero s p = ap Asserted (s .value)
-just-kind t u i (suc zero) s p =
-    ap Congruence (
-    ap₂ (λ (v e : ℕ). map (λ j. (left-word u j, right-word u j)) (range v (e - v))) (s .value) (s .after)
-    ∙ map-range-cong (λ j. (left-word u j, right-word u j)) (λ j. (left-word t j, right-word t j)) (value-word t i) (after-word t i - value-word t i)
-    (λ j l h. let q = p j (omega arith) in ap₂ (λ (x y : ℕ). (x, y)) (q .0) (q .1)))
-just-kind t u i (suc (suc k)) s p = ap₂ (λ (w v : ℕ). Interface (w % 65536) v) (s .kind) (s .value)
+pub label-same : (t u : List ℕ) (k h v e : ℕ) → SamePairs t u e → label u k h v e ≡ label t k h v e
+unfolding label
+label-same t u zero h v e p = refl
+label-same t u (suc zero) h v e p =
+    ap Congruence (map-range-cong (λ j. (left-word u j, right-word u j)) (λ j. (left-word t j, right-word t j)) v (e - v)
+    (λ j l g. let q = p j (omega arith) in ap₂ (λ (x y : ℕ). (x, y)) (q .0) (q .1)))
+label-same t u (suc (suc k)) h v e p = refl
 
 pub just-same : (t u : List ℕ) (i : ℕ) → SameEntry t u i → SamePairs t u (after-word t i) → just-at u i ≡ just-at t i
 unfolding just-at
-just-same t u i s p = ap (λ (w : ℕ). just-of u i (w / 65536 % 4)) (s .kind) ∙ just-kind t u i (kind-word t i / 65536 % 4) s p
+just-same t u i s p =
+    ap (λ (w : ℕ). label u (w / 65536 % 4) (w % 65536) (value-word u i) (after-word u i)) (s .kind)
+    ∙ ap₂ (label u (kind-of t i) (kind-word t i % 65536)) (s .value) (s .after)
+    ∙ label-same t u (kind-of t i) (kind-word t i % 65536) (value-word t i) (after-word t i) p
 
 pub merge-same : (t u : List ℕ) (i : ℕ) → SameEntry t u i → SamePairs t u (after-word t i) → merge-at u i ≡ merge-at t i
 unfolding merge-at
@@ -36,15 +35,9 @@ merge-same t u i s p =
     let k = ap (λ (w : ℕ). w / 262144) (s .kind) in
     λ n. record { a = a n; b = b n; just = j n; level = k n }
 
-start-kind : (t u : List ℕ) (i k : ℕ) → SameEntry t u i → start-of u i k ≡ start-of t i k
-unfolding start-of
-start-kind t u i zero s = s .after
-start-kind t u i (suc zero) s = s .value
-start-kind t u i (suc (suc k)) s = s .after
-
 pub start-same : (t u : List ℕ) (i : ℕ) → SameEntry t u i → value-start u i ≡ value-start t i
 unfolding value-start
-start-same t u i s = ap (λ (w : ℕ). start-of u i (w / 65536 % 4)) (s .kind) ∙ start-kind t u i (kind-word t i / 65536 % 4) s
+start-same t u i s = ap (λ (w : ℕ). begins (w / 65536 % 4) (value-word u i) (after-word u i)) (s .kind) ∙ ap₂ (begins (kind-of t i)) (s .value) (s .after)
 
 pub log-shorter : (t u : List ℕ) (n m : ℕ) → m ≤ n → SameLog t u n → SameLog t u m
 log-shorter t u n m l s = record { entries = λ i h. s .entries i (omega arith); pairs = λ i h. s .pairs i (omega arith) }

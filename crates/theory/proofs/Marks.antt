@@ -1,20 +1,17 @@
 -- The marks of the argument pairs that an explanation has expanded.
-use Prim.Native.Nat.{ℕ, zero, suc, _+_, _-_, _≤_, _<_, _/_, _%_}
+use Prim.Native.Nat.{ℕ, _+_, _-_, _≤_, _<_}
 use mathlib.Core.Path.{_≡_, refl, sym, subst, ap, ap₂, _∙_}
 use mathlib.Core.Bool.{Bool, true, false, cond, _&&_, _||_}
 use mathlib.Core.List.{List}
-use native.Mathlib.Decide.{decLe}
 use native.Mathlib.Omega.{arith}
 use borrow.Author.Count.{below-more}
 use borrow.Author.Tests.{eq-eqb, ne-eqb}
 use lib.Dec.{eqb}
 use lib.ListN.{length, set, length-set}
 use lib.Seq.{getD-set-same, getD-set-other}
-use Rattle.core.specs.Lists.{total}
 use Rattle.core.specs.Table.{word}
-use Rattle.core.proofs.Lists.{length-map-range}
-use Rattle.theory.specs.EqEngine.{pairs-of, pairs-in-force, same-pair}
-use Rattle.theory.specs.Table.{merges#, kind-word, value-word, after-word, left-word, right-word, just-of, just-at, merge-at, start-of, value-start, merges-below, merges, Sound}
+use Rattle.theory.specs.EqEngine.{pairs-in-force, same-pair}
+use Rattle.theory.specs.Table.{left-word, right-word, merges}
 use Rattle.theory.specs.Explaining.{marked, MarksPair}
 
 pub both-first : (x y a b : ℕ) → x ≡ a → eqb y b ≡ (eqb x a && eqb y b)

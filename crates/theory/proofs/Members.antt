@@ -21,10 +21,6 @@ pub T-left : (a b : Bool) → T a → T (a || b)
 T-left true b t = tt
 T-left false b t = absurd t
 
-pub T-right : (a b : Bool) → T b → T (a || b)
-T-right true b t = tt
-T-right false b t = t
-
 -- ---- members
 
 in-any-here : (b r : Bool) → T b → T (cond b true r)

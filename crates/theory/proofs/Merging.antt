@@ -1,19 +1,19 @@
 -- What the steps of a merge write: the new edge of the forest, the class that goes under, the entry of the log.
-use Prim.Native.Nat.{ℕ, zero, suc, _+_, _≤_, _<_}
-use mathlib.Core.Path.{_≡_, refl, sym, subst, ap, ap₂, _∙_}
+use Prim.Native.Nat.{ℕ, _+_, _≤_, _<_}
+use mathlib.Core.Path.{_≡_, refl, sym, subst, ap, _∙_}
 use mathlib.Core.Logic.{_⊎_, inl, inr}
-use mathlib.Core.Bool.{Bool, true, false, cond}
+use mathlib.Core.Bool.{Bool, cond}
 use mathlib.Core.List.{List, map}
 use native.Mathlib.Omega.{arith}
 use native.Mathlib.Decide.{ℕ-discrete}
-use lib.Dec.{eqb, leb}
+use lib.Dec.{eqb}
 use lib.ListN.{length, set}
 use borrow.Author.Tests.{eq-eqb, ne-eqb, le-leb, lt-leb}
 use Rattle.core.specs.Lists.{In}
 use Rattle.core.specs.Table.{word}
-use Rattle.theory.specs.EqEngine.{Merge, Step, before, way}
-use Rattle.theory.specs.Table.{parent-word, size-word, fparent-word, fedge-word, merges, end, Sound}
-use Rattle.theory.specs.Steps.{SameLog, On, Rerooted, Spliced, United, lower, higher, Logged}
+use Rattle.theory.specs.EqEngine.{Step, before, way}
+use Rattle.theory.specs.Table.{parent-word, size-word, merges, end, Sound}
+use Rattle.theory.specs.Steps.{On, Rerooted, Spliced, United, lower, higher, Logged}
 use Rattle.theory.proofs.Forest.{before-end, apart}
 use Rattle.theory.proofs.Walks.{sound-forest, way-within}
 use Rattle.theory.proofs.Turning.{in-ups}

@@ -1,18 +1,14 @@
 -- Walks over the table of a sound engine.
-use Prim.Native.Nat.{ℕ, zero, suc, _+_, _≤_, _<_}
+use Prim.Native.Nat.{ℕ, zero, suc, _+_, _<_}
 use mathlib.Core.Path.{_≡_, refl, sym, subst, ap, _∙_}
-use mathlib.Core.Logic.{_⊎_, inl, inr}
-use mathlib.Core.Bool.{Bool, true, false, cond}
-use mathlib.Core.List.{List, [], _∷_}
+use mathlib.Core.Logic.{inl, inr}
+use mathlib.Core.List.{List}
 use native.Mathlib.Omega.{arith}
-use native.Mathlib.Decide.{ℕ-discrete}
-use lib.Dec.{eqb}
-use lib.ListN.{length}
 use Rattle.core.specs.Table.{word}
 use Rattle.core.proofs.Lists.{In}
-use Rattle.theory.specs.EqEngine.{Merge, find, are-equal}
-use Rattle.theory.specs.Table.{merges#, parent-word, a-word, b-word, merge-at, merges-below, merges, low-root, high-root, parent, Joins, Sound}
-use Rattle.theory.proofs.Sizes.{Within, find-within}
+use Rattle.theory.specs.EqEngine.{Merge, find}
+use Rattle.theory.specs.Table.{merges#, merge-at, merges-below, merges, parent, Joins, Sound}
+use Rattle.theory.proofs.Sizes.{Within}
 use Rattle.theory.proofs.Explain.{justified-joins}
 use Rattle.theory.proofs.UnionFind.{Up, up, depth, parent-within}
 

@@ -1,7 +1,7 @@
 -- The argument pairs in force: the newest merge says how many there are.
-use Prim.Native.Nat.{ℕ, zero, suc, _+_, _-_, _/_, _%_, _≤_, _<_}
-use mathlib.Core.Path.{_≡_, refl, sym, subst, ap, _∙_}
-use mathlib.Core.List.{List, [], _∷_, map}
+use Prim.Native.Nat.{ℕ, zero, suc, _+_, _-_, _%_, _≤_, _<_}
+use mathlib.Core.Path.{_≡_, refl, sym, ap, _∙_}
+use mathlib.Core.List.{List, _∷_}
 use native.Mathlib.Omega.{arith}
 use native.Mathlib.Decide.{decLe}
 use lib.ListN.{length}
@@ -9,23 +9,23 @@ use Rattle.core.specs.Lists.{total}
 use Rattle.core.specs.Table.{word}
 use Rattle.core.proofs.Lists.{length-map-range}
 use Rattle.theory.specs.EqEngine.{Merge, pairs-of, pairs-in-force}
-use Rattle.theory.specs.Table.{merges#, kind-word, value-word, after-word, left-word, right-word, just-of, just-at, merge-at, start-of, value-start, merges-below, merges, Sound}
+use Rattle.theory.specs.Table.{merges#, kind-word, value-word, after-word, left-word, right-word, label, begins, kind-of, just-at, merge-at, value-start, merges-below, merges, Sound}
 
 pairs-more : (m : Merge) (ms : List Merge) → pairs-in-force (m ∷ ms) ≡ length (pairs-of (m .just)) + pairs-in-force ms
 unfolding pairs-in-force total
 pairs-more m ms = refl
 
-label-length : (t : List ℕ) (i k : ℕ) → start-of t i k ≤ after-word t i → length (pairs-of (just-of t i k)) + start-of t i k ≡ after-word t i
-unfolding just-of start-of pairs-of
-label-length t i zero h = omega arith
-label-length t i (suc zero) h = let e = length-map-range {A = ℕ × ℕ} (λ j. (left-word t j, right-word t j)) (value-word t i) (after-word t i - value-word t i) in omega arith
-label-length t i (suc (suc k)) h = omega arith
+label-length : (t : List ℕ) (k h v e : ℕ) → begins k v e ≤ e → length (pairs-of (label t k h v e)) + begins k v e ≡ e
+unfolding label begins pairs-of
+label-length t zero h v e l = omega arith
+label-length t (suc zero) h v e l = let q = length-map-range {A = ℕ × ℕ} (λ j. (left-word t j, right-word t j)) v (e - v) in omega arith
+label-length t (suc (suc k)) h v e l = omega arith
 
 after-is : (t : List ℕ) (i : ℕ) → Sound t → i < merges# t → after-word t i ≡ pairs-in-force (merges-below t (suc i))
 unfolding merges-below merge-at just-at value-start
 after-is t i z h =
     let s = z .starts i h in
-    let e = label-length t i (kind-word t i / 65536 % 4) (z .pairs-fit i h .0) in
+    let e = label-length t (kind-of t i) (kind-word t i % 65536) (value-word t i) (after-word t i) (z .pairs-fit i h .0) in
     let p = pairs-more (merge-at t i) (merges-below t i) in
     omega arith
 

@@ -1,17 +1,16 @@
 -- The registry's table against the list of registrations.
 use Prim.Native.Nat.{ℕ, zero, suc, _+_, _-_, _≤_, _<_}
-use mathlib.Core.Path.{_≡_, refl, sym, subst, ap, ap₂, _∙_}
+use mathlib.Core.Path.{_≡_, refl, sym, subst, ap, _∙_}
 use mathlib.Core.Logic.{_⊎_, inl, inr}
-use mathlib.Core.Bool.{Bool, true, false, cond, not, true≢false, false≢true}
+use mathlib.Core.Bool.{Bool, true, false, cond, true≢false, false≢true}
 use mathlib.Core.List.{List, [], _∷_, map}
-use mathlib.Core.Option.{Option, none, some}
-use native.Mathlib.Nat.{zero-add}
+use mathlib.Core.Option.{none, some}
 use native.Mathlib.Decide.{decLt}
 use native.Mathlib.Omega.{arith}
 use borrow.Author.Tests.{eq-eqb, ne-eqb, eqb-true}
-use lib.Dec.{T, eqb}
-use lib.ListN.{length, set}
-use Rattle.core.specs.Lists.{any, first, range}
+use lib.Dec.{eqb}
+use lib.ListN.{set}
+use Rattle.core.specs.Lists.{first, range}
 use Rattle.core.specs.Table.{word}
 use Rattle.core.proofs.Lists.{In, any-some, any-none, in-range, range-in}
 use Rattle.theory.specs.Atom.{Registered, is-registered, atom, atom-of, var-of-atom}

@@ -10,13 +10,13 @@ use native.Mathlib.Decide.{ℕ-discrete}
 use native.Mathlib.Numerals.{add-one}
 use native.Mathlib.Omega.{arith}
 use borrow.Author.Count.{below-more}
-use borrow.Author.Tests.{eq-eqb, ne-eqb, eqb-true}
+use borrow.Author.Tests.{eq-eqb, ne-eqb}
 use lib.Dec.{eqb}
 use lib.ListN.{length, set, length-set}
 use lib.Seq.{getD-set-same, getD-set-other}
 use Rattle.core.specs.Lists.{first, range}
 use Rattle.core.specs.Table.{word}
-use Rattle.core.proofs.Lists.{In, in-range, range-in, length-map-range, map-range-suc, map-range-cong}
+use Rattle.core.proofs.Lists.{In, length-map-range, map-range-suc, map-range-cong}
 use Rattle.theory.specs.Atom.{Registered, register, is-registered, var-of, var-of-atom}
 use Rattle.theory.specs.Registry.{vars#, var-word, atom-word, first-word, registered-at, atoms, held, noted-first, RegistrySound}
 use Rattle.theory.proofs.Members.{Apart, apart-length}

@@ -1,7 +1,7 @@
 -- A table that keeps the first merges of a sound one, and the classes and forest of these, is sound.
 use Prim.Native.Nat.{ℕ, zero, suc, _+_, _/_, _≤_, _<_}
 use mathlib.Core.Path.{_≡_, refl, sym, subst, ap, ap₂, _∙_}
-use mathlib.Core.Logic.{_⊎_, inl, inr, _≢_}
+use mathlib.Core.Logic.{inl, inr, _≢_}
 use mathlib.Core.List.{List, [], _∷_}
 use native.Mathlib.Omega.{arith}
 use native.Mathlib.Decide.{decLe}
@@ -9,11 +9,10 @@ use native.Mathlib.Numerals.{add-one}
 use lib.ListN.{length, set}
 use Rattle.core.specs.Lists.{In}
 use Rattle.core.specs.Table.{word}
-use Rattle.theory.specs.Types.{EqJust}
-use Rattle.theory.specs.EqEngine.{Merge, classes, pairs-of, pairs-in-force, Step, way}
-use Rattle.theory.specs.Table.{merges#, level-word, parent-word, size-word, fparent-word, fedge-word, a-word, b-word, kind-word, value-start, after-word, just-at, merge-at, merges-below, merges, low-root, parent, end, BothSides, FirstEdge, Justified, Sound}
-use Rattle.theory.specs.Steps.{SameEntry, SamePairs, SameLog}
-use Rattle.theory.proofs.Classes.{Suffix, suffix-self, in-suffix}
+use Rattle.theory.specs.EqEngine.{Merge, classes, pairs-in-force, Step, way}
+use Rattle.theory.specs.Table.{merges#, level-word, parent-word, size-word, fparent-word, fedge-word, kind-word, just-at, merge-at, merges-below, merges, low-root, parent, end, BothSides, FirstEdge, Justified, Sound}
+use Rattle.theory.specs.Steps.{SameLog}
+use Rattle.theory.proofs.Classes.{Suffix, in-suffix}
 use Rattle.theory.proofs.Explain.{justified-suffix}
 use Rattle.theory.proofs.Puts.{word-put, word-kept, length-put}
 use Rattle.theory.proofs.Log.{just-same, merge-same, start-same, log-shorter, below-same, log-words}

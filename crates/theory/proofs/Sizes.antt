@@ -2,7 +2,7 @@
 use Prim.Native.Nat.{ℕ, zero, suc, _+_, _≤_, _<_}
 use mathlib.Core.Path.{_≡_, refl, sym, subst, ap, _∙_}
 use mathlib.Core.Logic.{inl, inr}
-use mathlib.Core.Bool.{Bool, true, false, cond}
+use mathlib.Core.Bool.{Bool, false, cond}
 use mathlib.Core.List.{List, [], _∷_, map}
 use native.Mathlib.Decide.{ℕ-discrete}
 use native.Mathlib.Omega.{arith}
@@ -19,21 +19,6 @@ use Rattle.theory.proofs.Forest.{Joins}
 size-under : (m : Merge) (ms : List Merge) (u : Union m ms) (r : ℕ) → classes (m ∷ ms) .size r ≡ cond (eqb r (find ms (u .high))) (classes ms .size (find ms (u .low)) + classes ms .size (find ms (u .high))) (classes ms .size r)
 unfolding under
 size-under m ms u r = ap (λ (c : Classes). c .size r) (u .is-under)
-
--- No class is empty.
-pub size-positive : (ms : List Merge) (r : ℕ) → 0 < classes ms .size r
-unfolding classes singletons
-size-positive [] r = omega arith
-size-positive (m ∷ ms) r = go (union-of m ms) (size-positive ms)
-  where
-    pick : (b : Bool) (x y z : ℕ) → 0 < x → 0 < z → 0 < cond b (x + y) z
-    pick true x y z h k = omega arith
-    pick false x y z h k = k
-
-    go : Union m ms → ((s : ℕ) → 0 < classes ms .size s) → 0 < classes (m ∷ ms) .size r
-    go u h =
-        subst (λ (n : ℕ). 0 < n) (sym (size-under m ms u r))
-        (pick (eqb r (find ms (u .high))) (classes ms .size (find ms (u .low))) (classes ms .size (find ms (u .high))) (classes ms .size r) (h (find ms (u .low))) (h r))
 
 -- ---- roots
 

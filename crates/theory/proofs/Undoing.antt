@@ -1,8 +1,8 @@
 -- The newest merge taken back: its class is its own again, and the way from the old root is turned again.
-use Prim.Native.Nat.{ℕ, zero, suc, _+_, _-_, _/_, _≤_, _<_}
+use Prim.Native.Nat.{ℕ, suc, _+_, _-_, _≤_, _<_}
 use mathlib.Core.Path.{_≡_, refl, sym, subst, ap, ap₂, _∙_}
-use mathlib.Core.Logic.{_⊎_, inl, inr}
-use mathlib.Core.Bool.{Bool, true, false, cond}
+use mathlib.Core.Logic.{inl, inr}
+use mathlib.Core.Bool.{Bool, cond}
 use mathlib.Core.List.{List, [], _∷_, _++_, map}
 use native.Mathlib.Omega.{arith}
 use native.Mathlib.Decide.{ℕ-discrete}
@@ -11,13 +11,12 @@ use lib.ListN.{length, set}
 use borrow.Author.Tests.{eq-eqb, ne-eqb}
 use Rattle.core.specs.Lists.{In}
 use Rattle.core.specs.Table.{word}
-use Rattle.theory.specs.EqEngine.{Merge, Classes, classes, find, are-equal, Step, before, turned, way}
-use Rattle.theory.specs.Table.{merges#, level-word, parent-word, size-word, fparent-word, fedge-word, a-word, b-word, kind-word, low-word, froot-word, just-at, merge-at, merges-below, merges, low-root, high-root, parent, end, BothSides, FirstEdge, Joins, Justified, Sound}
+use Rattle.theory.specs.EqEngine.{Merge, classes, find, Step, before, turned, way}
+use Rattle.theory.specs.Table.{merges#, level-word, parent-word, size-word, fparent-word, fedge-word, a-word, low-word, froot-word, merge-at, merges-below, merges, low-root, high-root, parent, end, BothSides, FirstEdge, Joins, Sound}
 use Rattle.theory.specs.Steps.{SameLog, On, Rerooted, Separated}
-use Rattle.theory.proofs.Members.{in-right, in-left}
+use Rattle.theory.proofs.Members.{in-right}
 use Rattle.theory.proofs.Classes.{Same, unequal, turned-sides}
-use Rattle.theory.proofs.Explain.{justified-joins}
-use Rattle.theory.proofs.Forest.{Forest, Above, way-over, above?, split, apart, back, new-step, end-on, before-end, end-above, step-above, way-forest, step-same, before-skip, before-stop, turned-in, in-turned, turned-above, other-stays, other-root, from-old-root}
+use Rattle.theory.proofs.Forest.{Forest, Above, way-over, above?, split, apart, back, new-step, end-on, end-above, step-above, way-forest, step-same, before-skip, before-stop, turned-in, in-turned, turned-above, other-stays, other-root, from-old-root}
 use Rattle.theory.proofs.Sizes.{Within}
 use Rattle.theory.proofs.UnionFind.{size-more, low-within, high-within, roots-apart, low-parent, parent-low, parent-kept}
 use Rattle.theory.proofs.Nodes.{merges-within, sound-joins}

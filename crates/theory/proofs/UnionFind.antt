@@ -1,6 +1,6 @@
 -- The union-find as parents: a walk up the parents ends in the root that `find` gives.
-use Prim.Native.Nat.{ℕ, zero, suc, _+_, _≤_, _<_}
-use mathlib.Core.Path.{_≡_, refl, sym, subst, ap, ap₂, _∙_}
+use Prim.Native.Nat.{ℕ, suc, _+_, _<_}
+use mathlib.Core.Path.{_≡_, refl, sym, subst, ap, _∙_}
 use mathlib.Core.Logic.{_⊎_, inl, inr}
 use mathlib.Core.Bool.{Bool, true, false, cond}
 use mathlib.Core.List.{List, [], _∷_}
@@ -8,9 +8,9 @@ use native.Mathlib.Omega.{arith}
 use native.Mathlib.Decide.{ℕ-discrete}
 use lib.Dec.{eqb, leb}
 use borrow.Author.Tests.{eq-eqb, ne-eqb}
-use Rattle.theory.specs.EqEngine.{Merge, Classes, singletons, under, union, classes, find, are-equal}
+use Rattle.theory.specs.EqEngine.{Merge, Classes, under, union, classes, find, are-equal}
 use Rattle.theory.specs.Table.{low-root, high-root, parent}
-use Rattle.theory.proofs.Classes.{Same, unequal, find-alone}
+use Rattle.theory.proofs.Classes.{unequal, find-alone}
 use Rattle.theory.proofs.Forest.{Joins}
 use Rattle.theory.proofs.Sizes.{find-find, Within, find-within}
 

@@ -1,9 +1,9 @@
 -- The equality engine (eq_engine.rs) as one list: the merges in force that joined two classes, newest first. Classes, the
 -- proof forest and explanations are functions of this list. A node is its term.
 use Prim.Native.Nat.{ℕ, zero, suc, _+_}
-use mathlib.Core.Bool.{Bool, true, false, cond, _&&_, _||_}
+use mathlib.Core.Bool.{Bool, cond, _&&_, _||_}
 use mathlib.Core.List.{List, [], _∷_, _++_, map, foldl}
-use mathlib.Core.Option.{Option, none, some, Option·getD}
+use mathlib.Core.Option.{Option·getD}
 use lib.Dec.{eqb, leb}
 use lib.ListN.{length}
 use Rattle.core.specs.Lists.{any, first, mem, total}

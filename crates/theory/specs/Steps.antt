@@ -1,17 +1,16 @@
 -- What the engine's private functions do to its table: for the contracts between them. A caller of the crate needs none of it.
-use Prim.Native.Nat.{ℕ, zero, suc, _+_, _-_, _≤_, _<_}
+use Prim.Native.Nat.{ℕ, _+_, _-_, _≤_, _<_}
 use mathlib.Core.Path.{_≡_}
 use mathlib.Core.Bool.{Bool, false, cond}
 use mathlib.Core.List.{List, [], _∷_, map}
 use lib.Dec.{eqb, leb, ltb}
 use lib.ListN.{length}
-use Rattle.core.specs.Lists.{In, range}
+use Rattle.core.specs.Lists.{In}
 use Rattle.core.specs.Table.{word}
-use Rattle.theory.specs.Types.{EqJust, Asserted, Congruence, Interface}
 use Rattle.theory.specs.declared.types.EqJust as Given
 use Rattle.theory.specs.declared.eq_engine.LabelWords as LabelWords
 use Rattle.theory.specs.EqEngine.{Merge, are-equal, pairs-of, pairs-in-force, Step, way}
-use Rattle.theory.specs.Table.{parent-word, size-word, fparent-word, fedge-word, a-word, b-word, kind-word, value-word, low-word, froot-word, after-word, left-word, right-word, merges, end, EqualPairs}
+use Rattle.theory.specs.Table.{parent-word, size-word, fparent-word, fedge-word, a-word, b-word, kind-word, value-word, low-word, froot-word, after-word, left-word, right-word, label, begins, merges, end, EqualPairs}
 
 -- ---- the log
 
@@ -78,18 +77,6 @@ unfoldable pub higher : List ℕ → ℕ → ℕ → ℕ
 higher t ra rb = cond (leb (size-word t rb) (size-word t ra)) ra rb
 
 -- ---- a new entry of the log
-
--- the label, by its kind (0 a literal, 1 a congruence, 2 an interface leaf), its theory, its value and the pairs in force after it
-unfoldable pub label : List ℕ → ℕ → ℕ → ℕ → ℕ → EqJust
-label t zero h v e = Asserted v
-label t (suc zero) h v e = Congruence (map (λ j. (left-word t j, right-word t j)) (range v (e - v)))
-label t (suc (suc k)) h v e = Interface h v
-
--- where its pairs begin
-unfoldable pub begins : ℕ → ℕ → ℕ → ℕ
-begins zero v e = e
-begins (suc zero) v e = v
-begins (suc (suc k)) v e = e
 
 -- entry i is written but for its roots; those before it stay
 pub record Logged (t u : List ℕ) (i a b w v e : ℕ) : Type 0 where

@@ -1,8 +1,8 @@
 -- The lent table of the equality engine: where each part stands, what a table means, and when it is sound. The log of merges is
 -- the one truth; every other part is a function of it.
-use Prim.Native.Nat.{ℕ, zero, suc, _+_, _-_, _*_, _/_, _%_, _≤_, _<_}
+use Prim.Native.Nat.{ℕ, zero, suc, _+_, _-_, _/_, _%_, _≤_, _<_}
 use mathlib.Core.Path.{_≡_}
-use mathlib.Core.Bool.{Bool, false, cond}
+use mathlib.Core.Bool.{false, cond}
 use mathlib.Core.List.{List, [], _∷_, map}
 use mathlib.Core.Logic.{_⊎_}
 use lib.Dec.{T, eqb, leb}
@@ -67,26 +67,31 @@ right-word t j = word t (13376 + j)
 
 -- ---- the log
 
--- the label of merge i: kind 0 a literal, 1 a congruence, 2 an interface leaf
-unfoldable pub just-of : List ℕ → ℕ → ℕ → EqJust
-just-of t i zero = Asserted (value-word t i)
-just-of t i (suc zero) = Congruence (map (λ j. (left-word t j, right-word t j)) (range (value-word t i) (after-word t i - value-word t i)))
-just-of t i (suc (suc k)) = Interface (kind-word t i % 65536) (value-word t i)
+-- a label by its kind (0 a literal, 1 a congruence, 2 an interface leaf), its theory, its value (literal, start of its pairs, tag)
+-- and the pairs in force after it
+unfoldable pub label : List ℕ → ℕ → ℕ → ℕ → ℕ → EqJust
+label t zero h v e = Asserted v
+label t (suc zero) h v e = Congruence (map (λ j. (left-word t j, right-word t j)) (range v (e - v)))
+label t (suc (suc k)) h v e = Interface h v
+
+-- where its pairs begin: a label that is no congruence has none
+unfoldable pub begins : ℕ → ℕ → ℕ → ℕ
+begins zero v e = e
+begins (suc zero) v e = v
+begins (suc (suc k)) v e = e
+
+-- the word of a merge holds its level, the kind of its label and the theory
+abbrev pub kind-of : List ℕ → ℕ → ℕ
+kind-of t i = kind-word t i / 65536 % 4
 
 unfoldable pub just-at : List ℕ → ℕ → EqJust
-just-at t i = just-of t i (kind-word t i / 65536 % 4)
+just-at t i = label t (kind-of t i) (kind-word t i % 65536) (value-word t i) (after-word t i)
+
+unfoldable pub value-start : List ℕ → ℕ → ℕ
+value-start t i = begins (kind-of t i) (value-word t i) (after-word t i)
 
 unfoldable pub merge-at : List ℕ → ℕ → Merge
 merge-at t i = record { a = a-word t i; b = b-word t i; just = just-at t i; level = kind-word t i / 262144 }
-
--- where the pairs of a merge begin: a merge that is no congruence has none
-unfoldable pub start-of : List ℕ → ℕ → ℕ → ℕ
-start-of t i zero = after-word t i
-start-of t i (suc zero) = value-word t i
-start-of t i (suc (suc k)) = after-word t i
-
-unfoldable pub value-start : List ℕ → ℕ → ℕ
-value-start t i = start-of t i (kind-word t i / 65536 % 4)
 
 -- the merges below n, newest first
 unfoldable pub merges-below : List ℕ → ℕ → List Merge

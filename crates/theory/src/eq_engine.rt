@@ -14,9 +14,9 @@ ghost use lib.ListN.{length, set};
 ghost use Rattle.core.specs.Lists.{In, zip};
 ghost use Rattle.theory.specs.Types.{Congruence};
 ghost use Rattle.theory.specs.EqEngine.{find, are-equal, merge, pop-merges, pairs-of, pairs-in-force, nodes, before, common, way, same-pair, explain, firsts-after};
-ghost use Rattle.theory.specs.Table.{merges#, level-word, parent-word, size-word, left-word, right-word, just-at, merges-below, merges, end, justIs, EqualPairs, Sound};
+ghost use Rattle.theory.specs.Table.{merges#, level-word, parent-word, size-word, left-word, right-word, label, just-at, merges-below, merges, end, justIs, EqualPairs, Sound};
 ghost use Rattle.theory.specs.Answer.{leaves, AnswerSound};
-ghost use Rattle.theory.specs.Steps.{On, Rerooted, Spliced, United, lower, higher, label, Logged, Joinable, HoldsLabel, Copied, Separated, newest-above};
+ghost use Rattle.theory.specs.Steps.{On, Rerooted, Spliced, United, lower, higher, Logged, Joinable, HoldsLabel, Copied, Separated, newest-above};
 ghost use Rattle.theory.specs.Explaining.{expand-label, expand-steps, expand-pairs, expand-new, pair-at, pairs-from, age, pairs-age, steps-age, Explaining, Goes, MarksPair, EqualPair};
 
 // ---- classes

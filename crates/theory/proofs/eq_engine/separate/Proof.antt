@@ -1,7 +1,5 @@
 use native.Mathlib.Omega.{arith}
-use mathlib.Core.Path.{_≡_, ap, _∙_}
-use Rattle.core.specs.Table.{word}
-use Prim.Native.Nat.{ℕ, _+_}
+use mathlib.Core.Path.{ap}
 use Rattle.theory.specs.Table.{size-word}
 use Rattle.theory.proofs.Undoing.{separated}
 use borrow.Author.Needs.{needs}
