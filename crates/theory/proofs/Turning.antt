@@ -174,9 +174,9 @@ module _ (t₀ t : List ℕ) (node top prev edge cur : ℕ) (z : Sound t₀) (c 
               label = q ∙ o .1;
               turned = λ r j. more g r (in-either r (c .done) (g .step ∷ []) j);
               others = λ x l h.
-                let k = kept x l (λ r. h (ups-right x (c .done) (g .step ∷ []) (inl (r ∙ sym (g .up))))) in
-                let m = c .others x l (λ j. h (ups-left x (c .done) (g .step ∷ []) j)) in
-                (k .0 ∙ m .0, k .1 ∙ m .1);
+                  let k = kept x l (λ r. h (ups-right x (c .done) (g .step ∷ []) (inl (r ∙ sym (g .up))))) in
+                  let m = c .others x l (λ j. h (ups-left x (c .done) (g .step ∷ []) j)) in
+                  (k .0 ∙ m .0, k .1 ∙ m .1);
             }
 
   -- all steps up to top are turned

@@ -1,10 +1,10 @@
 // The equality engine on a lent table: classes as a union-find without path compression, the proof forest, merges with their
 // levels, and explanations, as in the source. A node is its term.
+use crate::types::EqJust;
+use crate::types::push_leaf;
 use core::ids::TermId;
 use core::table::get;
 use core::table::put;
-use crate::types::EqJust;
-use crate::types::push_leaf;
 ghost use Prim.Native.Nat.{ℕ, suc, _+_, _<_, _≤_};
 ghost use mathlib.Core.Path.{_≡_};
 ghost use mathlib.Core.Bool.{true, false, cond, _&&_};
@@ -143,9 +143,9 @@ fn put_under(t: &mut [u32], low: usize, high: usize, i: usize)
     requires { ⌜ (16384 ≤ length (now t)) × (low < 1024) × (high < 1024) × (i < 1024) × (size-word (now t) low + size-word (now t) high < 4294967296) ⌝ }
     ensures { λ _. ⌜ United (now (t .entry)) (now (t .exit)) low high i ⌝ }
 {
-    let n = get(t, 1088 + low) + get(t, 1088 + high);
+    let size = get(t, 1088 + low) + get(t, 1088 + high);
     put(t, 64 + low, high);
-    put(t, 1088 + high, n);
+    put(t, 1088 + high, size);
     put(t, 8256 + i, low);
 }
 
@@ -274,8 +274,8 @@ fn separate(t: &mut [u32], low: usize)
     ensures { λ _. ⌜ Separated (now (t .entry)) (now (t .exit)) low (parent-word (now (t .entry)) low) ⌝ }
 {
     let high = get(t, 64 + low);
-    let n = get(t, 1088 + high) - get(t, 1088 + low);
-    put(t, 1088 + high, n);
+    let rest = get(t, 1088 + high) - get(t, 1088 + low);
+    put(t, 1088 + high, rest);
     put(t, 64 + low, low);
 }
 
@@ -457,10 +457,10 @@ fn expand_pairs(t: &[u32], from: usize, to: usize, marks: &mut [u32], out: &mut 
     requires { ⌜ Explaining (now t) (now marks) (now out) × (from ≤ to) × ((j : ℕ) → from ≤ j → j < to → EqualPair (now t) j) ⌝ }
     ensures { λ _. ⌜ Goes (now (t .entry)) (now (marks .entry)) (now (out .entry)) (now (marks .exit)) (now (out .exit)) (pairs-age (merges (now (t .entry))) (pairs-from (now (t .entry)) from to)) (expand-pairs (merges (now (t .entry))) (pairs-from (now (t .entry)) from to)) ⌝ }
 {
-    let mut j = from;
-    while j < to {
-        expand_pair(t, j, marks, out);
-        j += 1;
+    let mut k = from;
+    while k < to {
+        expand_pair(t, k, marks, out);
+        k += 1;
     }
 }
 

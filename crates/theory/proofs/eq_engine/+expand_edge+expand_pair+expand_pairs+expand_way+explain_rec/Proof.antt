@@ -278,8 +278,8 @@ expand-pairs-expand-pair-requires t c κs =
     let m = start .pre .0 in
     (omega arith, (record { engine = p .0 .engine; answer = i .goes .answer; long = i .room }, p .2 _ (i .after) h))
 
-expand-pairs-add-j : (t : ℕ) → expand-pairs-lts.Need-add-j (expand-pair-below t, expand-pair.Post) (expand-pairs-at t) expand-pairs.Post expand-pairs-Inv-loop expand-pairs-μ-loop
-expand-pairs-add-j t c = search needs
+expand-pairs-add-k : (t : ℕ) → expand-pairs-lts.Need-add-k (expand-pair-below t, expand-pair.Post) (expand-pairs-at t) expand-pairs.Post expand-pairs-Inv-loop expand-pairs-μ-loop
+expand-pairs-add-k t c = search needs
 
 expand-pairs-loop-less : (t : ℕ) → expand-pairs-lts.Need-loop-less (expand-pair-below t, expand-pair.Post) (expand-pairs-at t) expand-pairs.Post expand-pairs-Inv-loop expand-pairs-μ-loop
 expand-pairs-loop-less t c = search needs
@@ -438,7 +438,7 @@ pub +expand-edge+expand-pair+expand-pairs+expand-way+explain-rec-spec : {M : Typ
     expand-pairs-μ-loop
     (expand-pairs-loop-holds t)
     (expand-pairs-expand-pair-requires t)
-    (expand-pairs-add-j t)
+    (expand-pairs-add-k t)
     (expand-pairs-loop-less t)
     (expand-pairs-loop-again t)
     (expand-pairs-same-length t)

@@ -17,8 +17,8 @@ add-get-2 c = search needs
 get-requires-2 : tie.Need-get-requires-2
 get-requires-2 c κs = search needs
 
-add-n : tie.Need-add-n
-add-n c = search needs
+add-size : tie.Need-add-size
+add-size c = search needs
 
 add-put : tie.Need-add-put
 add-put c = search needs
@@ -52,7 +52,7 @@ put-under-spec =
     get-requires
     add-get-2
     get-requires-2
-    add-n
+    add-size
     add-put
     put-requires
     add-put-2

@@ -24,8 +24,8 @@ add-get-3 c = search needs
 get-requires-3 : tie.Need-get-requires-3
 get-requires-3 c κs = search needs
 
-sub-n : tie.Need-sub-n
-sub-n c = let h = c .before .before .before .before .before .before .before .pre .3 in let e = c .before .before .before .before .get .ensures .0 in let a = c .before .before .get2 .ensures .0 in let b = c .get3 .ensures .0 in let q = ap (size-word (c .before .before .before .before .before .before .before .args .t .now)) e in omega arith
+sub-rest : tie.Need-sub-rest
+sub-rest c = let h = c .before .before .before .before .before .before .before .pre .3 in let e = c .before .before .before .before .get .ensures .0 in let a = c .before .before .get2 .ensures .0 in let b = c .get3 .ensures .0 in let q = ap (size-word (c .before .before .before .before .before .before .before .args .t .now)) e in omega arith
 
 add-put : tie.Need-add-put
 add-put c = search needs
@@ -55,7 +55,7 @@ separate-spec =
     get-requires-2
     add-get-3
     get-requires-3
-    sub-n
+    sub-rest
     add-put
     put-requires
     add-put-2

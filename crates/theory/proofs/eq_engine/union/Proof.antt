@@ -1,3 +1,4 @@
+use native.Mathlib.Omega.{arith}
 use Rattle.theory.proofs.Merging.{united-first, united-second}
 use borrow.Author.Needs.{needs}
 use Rattle.theory.proofs.eq_engine.union.Statement.{statement}
@@ -25,13 +26,13 @@ same-length : tie.Need-same-length
 same-length c = search needs
 
 returns : tie.Need-returns
-returns c = united-second _ _ _ _ _ _ _ (c .before .before .before .before .before .before .before .get .ensures .0) (c .before .before .before .before .before .get2 .ensures .0) (c .before .before .before .before .if1 .taken) (c .before .before .put-under .ensures)
+returns c = let h = c .before .before .before .before .if1 .taken in united-second _ _ _ _ _ _ _ (c .before .before .before .before .before .before .before .get .ensures .0) (c .before .before .before .before .before .get2 .ensures .0) (omega arith) (c .before .before .put-under .ensures)
 
 same-length-2 : tie.Need-same-length-2
 same-length-2 c = search needs
 
 returns-2 : tie.Need-returns-2
-returns-2 c = united-first _ _ _ _ _ _ _ (c .before .before .before .before .before .before .before .get .ensures .0) (c .before .before .before .before .before .get2 .ensures .0) (c .before .before .before .before .if1 .left) (c .before .before .put-under2 .ensures)
+returns-2 c = let h = c .before .before .before .before .if1 .left in united-first _ _ _ _ _ _ _ (c .before .before .before .before .before .before .before .get .ensures .0) (c .before .before .before .before .before .get2 .ensures .0) (omega arith) (c .before .before .put-under2 .ensures)
 
 pub union-spec : {M : Type 1} → statement M
 union-spec =
