@@ -6,7 +6,7 @@ use mathlib.Core.Bool.{Bool, true, false, cond, not, false≢true}
 use mathlib.Core.List.{List, [], _∷_, _++_, map}
 use mathlib.Core.Option.{Option, none, some}
 use native.Mathlib.Omega.{arith}
-use lib.Dec.{T, ltb, eqb→eq, ltb→lt}
+use lib.Dec.{T, eqb→eq, ltb→lt}
 use lib.ListN.{length, length-append}
 use Rattle.core.specs.Lists.{insert, every, same-list}
 use Rattle.core.specs.Ids as Ids
@@ -20,7 +20,7 @@ use Rattle.theory.specs.EqEngine.{Merge}
 use Rattle.theory.specs.Atom as Atom
 use Rattle.theory.proofs.Explain.{Justified, TwoTerms}
 use Rattle.theory.proofs.Members.{in-either}
-use Rattle.solver.specs.State.{State, AssertedTester, with-terms, with-eq, with-level, with-level-record, with-lasting, with-dt}
+use Rattle.solver.specs.State.{State, AssertedTester, with-terms, with-level, with-level-record, with-lasting, with-dt}
 use Rattle.solver.specs.Records as Records
 use Rattle.solver.specs.Records.{relevant}
 use Rattle.solver.specs.Rules as Rules
@@ -38,11 +38,11 @@ use Rattle.solver.proofs.Collection.{relevant-kept}
 use Rattle.session.specs.Line as Line
 use Rattle.session.specs.Line.{Command, DeclareSort, DeclareCtor, DeclareFun, Close, MkTerm, MkEq, Register, Equate, Cong, Iface, Assert, Push, Pop}
 use Rattle.session.specs.Answer.{Refusal, Answer, Ok, TermIs, Checked, Refused}
-use Rattle.session.specs.Session.{Session, Performed, term-exists, one-sort, perform, done, numbered, conflict-or-ok, pop-to}
-use Rattle.session.specs.History.{History, signature, declared, level, level-after, HoldsNow, IsAtom}
+use Rattle.session.specs.Session.{Session, Performed, term-exists, one-sort, perform, done, numbered, conflict-or-ok}
+use Rattle.session.specs.History.{History, level, level-after, HoldsNow, IsAtom}
 use Rattle.session.specs.Claim.{AllInForce, Impossible, Valid, Ring, SaysConflict}
 use Rattle.session.proofs.Forces.{kind}
-use Rattle.session.proofs.Invariant.{Kept, kept-self, kept-extends, kept-terms, registered-atom, Entry, Entries, entries-on, Inv}
+use Rattle.session.proofs.Invariant.{signature, declared, kept-self, kept-extends, kept-terms, registered-atom, Entry, Entries, entries-on, Inv}
 use Rattle.session.proofs.Truth.{two-terms, SaidNow, conflict-holds, lemma-holds}
 use Rattle.session.proofs.Rings.{ring-there, there-ring}
 use Rattle.session.proofs.Steps.{plain-kept, register-kept, pop-kept}
@@ -73,12 +73,11 @@ line-kind (Line.Check e) = 13
 
 -- conflict with a ring, sat without one
 abbrev pub RingClause : Performed → History → Type 0
-RingClause p h = (Ring (p .session .state) h × SaysConflict (p .answer)) ⊎ ((Ring (p .session .state) h → ⊥) × (p .answer ≡ Checked Rules.Sat))
+RingClause p h = (Ring (p .session .state .terms) (p .session .state .dt .marks) h × SaysConflict (p .answer)) ⊎ ((Ring (p .session .state .terms) (p .session .state .dt .marks) h → ⊥) × (p .answer ≡ Checked Rules.Sat))
 
 -- an accepted line c with what it does
 pub record Good (s : Session) (c : Command) (p : Performed) (h : History) : Type 1 where
   pub inv : Inv (p .session) (c ∷ h)
-  pub kept : Kept (s .state .terms) (p .session .state .terms)
   pub spoken : (q : Refusal) → p .answer ≡ Refused q → ⊥
   pub conflict : (ls : List EqLeaf) → p .answer ≡ Checked (Conflict ls) → AllInForce (c ∷ h) ls × Impossible (p .session .state .terms) (c ∷ h) ls × (ls ≢ [])
   pub lemma : (atoms guards : List ℕ) (phases : List Phase) → p .answer ≡ Checked (Split atoms guards phases) → Valid (p .session .state .terms) (c ∷ h) atoms guards
@@ -87,11 +86,10 @@ pub record Good (s : Session) (c : Command) (p : Performed) (h : History) : Type
   pub made-eq : (t u n : ℕ) → c ≡ MkEq t u → p .answer ≡ TermIs n → term (p .session .state .terms) n ≡ record { op = Eq; args = t ∷ u ∷ [] }
 
 -- a line that is answered ok=1
-pub good-ok : (s : Session) (c : Command) (p : Performed) (h : History) → p .answer ≡ Ok → (line-kind c ≡ 13 → ⊥) → Inv (p .session) (c ∷ h) → Kept (s .state .terms) (p .session .state .terms) → Good s c p h
+pub good-ok : (s : Session) (c : Command) (p : Performed) (h : History) → p .answer ≡ Ok → (line-kind c ≡ 13 → ⊥) → Inv (p .session) (c ∷ h) → Good s c p h
 unfolding answer-kind line-kind
-good-ok s c p h a n I K = record {
+good-ok s c p h a n I = record {
   inv = I;
-  kept = K;
   spoken = λ q e. let w : _≡_ {A = ℕ} 0 3 = ap answer-kind (sym a ∙ e) in omega arith;
   conflict = λ ls e. let w : _≡_ {A = ℕ} 0 2 = ap answer-kind (sym a ∙ e) in absurd (omega arith);
   lemma = λ as′ gs ps e. let w : _≡_ {A = ℕ} 0 2 = ap answer-kind (sym a ∙ e) in absurd (omega arith);
@@ -145,7 +143,6 @@ unfolding perform done kind line-kind level level-after with-terms
 sort-good s h n I o =
     good-ok s (DeclareSort n) (perform s (DeclareSort n)) h refl (λ e. omega arith)
     (declare-kept s h (DeclareSort n) (declare-sort (s .state .terms) n) I (T-no (s .closed) o) refl refl′ (sort-signed (s .state .terms) n (I .bool-there) (I .ready .signed)) more refl sorts symbols)
-    (kept-terms (s .state .terms) (declare-sort (s .state .terms) n) (sym refl′))
   where
     refl′ : declare-sort (s .state .terms) n .terms ≡ s .state .terms .terms
     refl′ = unfold declare-sort in refl
@@ -164,7 +161,6 @@ unfolding perform done kind line-kind level level-after with-terms
 ctor-good s h dt fs I o D =
     good-ok s (DeclareCtor dt fs) (perform s (DeclareCtor dt fs)) h refl (λ e. omega arith)
     (declare-kept s h (DeclareCtor dt fs) (dt-add-constructor (s .state .terms) dt fs) I (T-no (s .closed) o) refl refl′ (ctor-signed (s .state .terms) dt fs D (I .ready .signed)) more refl sorts symbols)
-    (kept-terms (s .state .terms) (dt-add-constructor (s .state .terms) dt fs) (sym refl′))
   where
     refl′ : dt-add-constructor (s .state .terms) dt fs .terms ≡ s .state .terms .terms
     refl′ = unfold dt-add-constructor with-symbols in refl
@@ -183,7 +179,6 @@ unfolding perform done kind line-kind level level-after with-terms
 fun-good s h r as′ I o =
     good-ok s (DeclareFun r as′) (perform s (DeclareFun r as′)) h refl (λ e. omega arith)
     (declare-kept s h (DeclareFun r as′) (declare-fun (s .state .terms) r as′) I (T-no (s .closed) o) refl refl′ (fun-signed (s .state .terms) r as′ (I .ready .signed)) more refl sorts symbols)
-    (kept-terms (s .state .terms) (declare-fun (s .state .terms) r as′) (sym refl′))
   where
     refl′ : declare-fun (s .state .terms) r as′ .terms ≡ s .state .terms .terms
     refl′ = unfold declare-fun with-symbols in refl
@@ -231,32 +226,22 @@ unfolding perform kind line-kind level level-after signature declared with-level
 close-good s h I g =
     good-ok s Close (perform s Close) h refl (λ e. omega arith)
     (same-kept s h Close (s .state .level) true I refl (omega arith) (I .level) refl (λ t. g) (λ e. absurd (false≢true (sym e))))
-    (kept-self (s .state .terms))
 
 pub push-good : (s : Session) (h : History) → Inv s h → Good s Push (perform s Push) h
 unfolding perform done kind line-kind level level-after signature declared with-level
 push-good s h I =
     good-ok s Push (perform s Push) h refl (λ e. omega arith)
     (same-kept s h Push (suc (s .state .level)) (s .closed) I refl (omega arith) (ap suc (I .level)) refl (I .grounded) (I .unmade))
-    (kept-self (s .state .terms))
 
 pub pop-good : (s : Session) (h : History) (k : ℕ) → Inv s h → Good s (Pop k) (perform s (Pop k)) h
 unfolding perform done line-kind
 pop-good s h k I =
     good-ok s (Pop k) (perform s (Pop k)) h refl (λ e. omega arith) (pop-kept s h k I)
-    (kept-terms (s .state .terms) (pop-to (s .state) k .terms) (sym same))
-  where
-    same : pop-to (s .state) k .terms .terms ≡ s .state .terms .terms
-    same = unfold pop-to with-level-record with-eq with-level with-dt in go (ltb k (s .state .level))
-      where
-        go : (b : Bool) → cond b (with-level-record (with-eq (with-level (s .state) k) (Rattle.theory.specs.EqEngine.pop-merges k (s .state .eq))) (Records.pop-testers k (s .state .dt .level-record))) (s .state) .terms .terms ≡ s .state .terms .terms
-        go true = unfold with-level-record with-eq with-level with-dt in refl
-        go false = refl
 
 pub register-good : (s : Session) (h : History) (v t : ℕ) → Inv s h → T (not (Atom.is-registered (s .state .atoms) v)) → t < length (s .state .terms .terms) → Good s (Register v t) (perform s (Register v t)) h
 unfolding perform done line-kind Records.new-var Rattle.solver.specs.State.with-marks with-dt Rattle.solver.specs.State.with-atoms
 register-good s h v t I n l =
-    good-ok s (Register v t) (perform s (Register v t)) h refl (λ e. omega arith) (register-kept s h v t I n l) (kept-self (s .state .terms))
+    good-ok s (Register v t) (perform s (Register v t)) h refl (λ e. omega arith) (register-kept s h v t I n l)
 
 -- ---- lines over a longer table
 
@@ -299,7 +284,6 @@ unfolding numbered done with-terms answer-kind line-kind
 number-good s h d o as′ I c k l z n B A f g = record {
   inv = follows-inv s h d (with-terms (s .state) (m .context)) I c k l z
       (record { extends = M .extends; formed = mk-app-formed (s .state .terms) o as′ (I .ready .formed) B A; eq = refl; atoms = refl; level = refl; entries = refl; marks = λ t i. i; ascending = λ a. a });
-  kept = kept-extends (s .state .terms) (m .context) (M .extends);
   spoken = λ q e. let w : _≡_ {A = ℕ} 1 3 = ap answer-kind e in omega arith;
   conflict = λ ls e. let w : _≡_ {A = ℕ} 1 2 = ap answer-kind e in absurd (omega arith);
   lemma = λ xs gs ps e. let w : _≡_ {A = ℕ} 1 2 = ap answer-kind e in absurd (omega arith);
@@ -353,7 +337,6 @@ pub check-good : (s : Session) (h : History) (full : Bool) → Inv s h → T (s 
 unfolding perform done kind level level-after signature declared answer-kind line-kind
 check-good s h full I c = record {
   inv = J;
-  kept = kept-extends (s .state .terms) (k .state .terms) (W .follows .extends);
   spoken = λ q e. let w : _≡_ {A = ℕ} 2 3 = ap answer-kind e in omega arith;
   conflict = λ ls e. conflict-holds out (Line.Check full ∷ h) J (Recorded (k .state)) (recorded-said out (Line.Check full ∷ h) J) ls (subst (AnswerHolds (k .state)) (checked-is (Conflict ls) e) (W .holds));
   lemma = λ as′ gs ps e. lemma-holds out (Line.Check full ∷ h) J as′ gs (subst (AnswerHolds (k .state)) (checked-is (Split as′ gs ps) e) (W .holds));
@@ -536,7 +519,6 @@ module _ (s : Session) (h : History) (l : ℕ) (I : Inv s h) (v : T (Atom.is-reg
   unfolding done line-kind
   outcome-good o W = record {
     inv = noted-inv s h l (o .state) I (W .noted) (W .entries);
-    kept = kept-terms (s .state .terms) (o .state .terms) (ap (λ (z : Context). z .terms) (sym (W .noted .terms)));
     spoken = λ q e. never-refused (o .conflict) q e;
     conflict = λ ls e. holds ls (W .refutes ls (conflict-is (o .conflict) ls e));
     lemma = λ as′ gs ps e. absurd (never-split (o .conflict) as′ gs ps e);

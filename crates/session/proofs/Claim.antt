@@ -15,17 +15,18 @@ use Rattle.core.specs.Context.{term, sort-of, symbol, is-datatype-sort}
 use Rattle.core.specs.Reading.{Reading}
 use Rattle.core.proofs.Lists.{T-and}
 use Rattle.core.proofs.Readings.{has-reading}
-use Rattle.solver.specs.State.{equal}
+use Rattle.solver.specs.State.{empty-state, equal}
 use Rattle.solver.proofs.Basics.{some-is, some-none}
 use Rattle.session.specs.Line as Line
 use Rattle.session.specs.Line.{Command, DeclareSort, DeclareCtor, DeclareFun, Close, MkTerm, MkEq, Register, Equate, Cong, Iface, Assert, Push, Pop, read-line}
 use Rattle.session.specs.Answer.{Refusal, Unreadable, NoRoom, Answer, Ok, TermIs, Checked, Refused}
 use Rattle.session.specs.Session.{Session, empty-session, Performed, Asked, sort-exists, symbol-exists, term-exists, var-exists, atom-of, one-sort, argument-pairs, before-close, after-close, exist, agree, unregistered, equation, congruent, inhabited, questions, first-no, perform, fits, refused, if-fits, asked, answer-read, step}
-use Rattle.session.specs.History.{History, EqualNow, extended, history-after}
+use Rattle.session.specs.History.{History, TableOf, Accepted, EqualNow, extended, history-after}
 use Rattle.session.specs.Claim.{AtLine, Tied, ClaimFrom, Claim}
 use Rattle.session.proofs.Invariant.{classes-agree, Inv}
 use Rattle.session.proofs.Steps.{empty-inv}
 use Rattle.session.proofs.Accepting.{answer-kind, Good, sort-good, ctor-good, fun-good, close-good, push-good, pop-good, register-good, term-good, eq-good, check-good, assert-good}
+use Rattle.session.proofs.Tables.{perform-table, closed-by}
 use Rattle.session.proofs.Joins.{equate-good, cong-good, iface-good}
 
 -- ---- the questions answered yes
@@ -89,18 +90,24 @@ session-classes : (s : Session) (h : History) → Inv s h → (x y : ℕ) → T 
 unfolding equal
 session-classes s h I x y = classes-agree (s .state .terms) (s .state .atoms) (s .state .eq) (s .state .level) h (I .named) (I .merged) x y
 
-session-reading : (s : Session) (h : History) → Inv s h → T (s .closed) → Reading (s .state .terms)
-session-reading s h I c = has-reading (s .state .terms) (I .grounded c)
+-- what the claim says of one line beside the invariant: the table, and that an accepted `close` closes
+pub record Told (s : Session) (h : History) : Type 0 where
+  pub table : TableOf h (s .state .terms)
+  pub closed : Accepted h Close → T (s .closed)
+
+session-reading : (s : Session) (h : History) → Inv s h → Told s h → Accepted h Close → Reading (s .state .terms)
+session-reading s h I W a = has-reading (s .state .terms) (I .grounded (W .closed a))
 
 -- the claim of one line, and what it leaves
 pub record LineHolds (s : Session) (line : List ℕ) (p : Performed) (h′ : History) : Type 1 where
   pub at : AtLine s line p h′
   pub tied : Tied s line p h′
   pub inv : Inv (p .session) h′
+  pub told : Told (p .session) h′
 
-line-refused : (s : Session) (h : History) (line : List ℕ) (q : Refusal) → Inv s h → LineHolds s line (refused s q) h
+line-refused : (s : Session) (h : History) (line : List ℕ) (q : Refusal) → Inv s h → Told s h → LineHolds s line (refused s q) h
 unfolding refused answer-kind
-line-refused s h line q I = record {
+line-refused s h line q I W = record {
   at = record {
     conflict = λ ls e. let w : _≡_ {A = ℕ} 3 2 = ap answer-kind e in absurd (omega arith);
     lemma = λ as′ gs ps e. let w : _≡_ {A = ℕ} 3 2 = ap answer-kind e in absurd (omega arith);
@@ -108,19 +115,18 @@ line-refused s h line q I = record {
     refused = λ r e. refl;
   };
   tied = record {
-    sorts = I .sorts;
-    symbols = I .symbols;
-    kept = λ t l. refl;
+    table = W .table;
     made = λ f ts n e w. let z : _≡_ {A = ℕ} 3 1 = ap answer-kind w in absurd (omega arith);
     made-eq = λ t u n e w. let z : _≡_ {A = ℕ} 3 1 = ap answer-kind w in absurd (omega arith);
     classes = session-classes s h I;
-    reading = session-reading s h I;
+    reading = session-reading s h I W;
   };
   inv = I;
+  told = W;
 }
 
-line-accepted : (s : Session) (h : History) (line : List ℕ) (c : Command) (p : Performed) → read-line line ≡ some c → Good s c p h → LineHolds s line p (c ∷ h)
-line-accepted s h line c p e G = record {
+line-accepted : (s : Session) (h : History) (line : List ℕ) (c : Command) (p : Performed) → read-line line ≡ some c → Good s c p h → Told (p .session) (c ∷ h) → LineHolds s line p (c ∷ h)
+line-accepted s h line c p e G W = record {
   at = record {
     conflict = G .conflict;
     lemma = G .lemma;
@@ -128,15 +134,14 @@ line-accepted s h line c p e G = record {
     refused = λ q w. absurd (G .spoken q w);
   };
   tied = record {
-    sorts = G .inv .sorts;
-    symbols = G .inv .symbols;
-    kept = G .kept .same;
+    table = W .table;
     made = λ f ts n w q. G .made f ts n (some-is c (MkTerm f ts) (sym e ∙ w)) q;
     made-eq = λ t u n w q. G .made-eq t u n (some-is c (MkEq t u) (sym e ∙ w)) q;
     classes = session-classes (p .session) (c ∷ h) (G .inv);
-    reading = session-reading (p .session) (c ∷ h) (G .inv);
+    reading = session-reading (p .session) (c ∷ h) (G .inv) W;
   };
   inv = G .inv;
+  told = W;
 }
 
 -- a line that is not refused is the newest of the history
@@ -149,20 +154,23 @@ remembered h c (Refused q) n = absurd (n q refl)
 
 -- ---- one line
 
-module _ (s : Session) (h : History) (I : Inv s h) (line : List ℕ) where
+module _ (s : Session) (h : History) (I : Inv s h) (W : Told s h) (line : List ℕ) where
+  told-more : (c : Command) → Told (perform s c .session) (c ∷ h)
+  told-more c = record { table = (s .state .terms, W .table, perform-table s c (I .ready)); closed = closed-by s h c (W .closed) }
+
   line-fits : (c : Command) → read-line line ≡ some c → Good s c (perform s c) h → (b : Bool) → LineHolds s line (cond b (perform s c) (refused s NoRoom)) (extended h (some c) (cond b (perform s c) (refused s NoRoom) .answer))
   unfolding extended refused
-  line-fits c e G true = subst⁻¹ (LineHolds s line (perform s c)) (remembered h c (perform s c .answer) (G .spoken)) (line-accepted s h line c (perform s c) e G)
-  line-fits c e G false = line-refused s h line NoRoom I
+  line-fits c e G true = subst⁻¹ (LineHolds s line (perform s c)) (remembered h c (perform s c .answer) (G .spoken)) (line-accepted s h line c (perform s c) e G (told-more c))
+  line-fits c e G false = line-refused s h line NoRoom I W
 
   line-asked : (c : Command) → read-line line ≡ some c → (f : Option Refusal) → first-no (questions s c) ≡ f → LineHolds s line (asked s c f) (extended h (some c) (asked s c f .answer))
   unfolding asked if-fits extended refused
   line-asked c e none q = line-fits c e (accept s h I c q) (fits (perform s c .session .state))
-  line-asked c e (some r) q = line-refused s h line r I
+  line-asked c e (some r) q = line-refused s h line r I W
 
   line-read : (o : Option Command) → read-line line ≡ o → LineHolds s line (answer-read s o) (extended h o (answer-read s o .answer))
   unfolding answer-read extended refused
-  line-read none e = line-refused s h line Unreadable I
+  line-read none e = line-refused s h line Unreadable I W
   line-read (some c) e = line-asked c e (first-no (questions s c)) refl
 
   pub line-holds : LineHolds s line (step s line) (history-after h line (step s line .answer))
@@ -171,11 +179,15 @@ module _ (s : Session) (h : History) (I : Inv s h) (line : List ℕ) where
 
 -- ---- all lines
 
-claim-from : (lines : List (List ℕ)) (s : Session) (h : History) → Inv s h → ClaimFrom s h lines
-claim-from [] s h I = tt
-claim-from (line ∷ rest) s h I =
-    let L = line-holds s h I line in
-    (L .at, L .tied, claim-from rest (step s line .session) (history-after h line (step s line .answer)) (L .inv))
+claim-from : (lines : List (List ℕ)) (s : Session) (h : History) → Inv s h → Told s h → ClaimFrom s h lines
+claim-from [] s h I W = tt
+claim-from (line ∷ rest) s h I W =
+    let L = line-holds s h I W line in
+    (L .at, L .tied, claim-from rest (step s line .session) (history-after h line (step s line .answer)) (L .inv) (L .told))
+
+empty-told : Told empty-session []
+unfolding empty-session empty-state
+empty-told = record { table = refl; closed = λ a. absurd a }
 
 pub claim : (lines : List (List ℕ)) → Claim lines
-claim lines = claim-from lines empty-session [] empty-inv
+claim lines = claim-from lines empty-session [] empty-inv empty-told

@@ -12,7 +12,7 @@ use lib.ListN.{length}
 use Rattle.core.specs.Lists.{first, zip}
 use Rattle.core.specs.Ids as Ids
 use Rattle.core.specs.Term.{Term}
-use Rattle.core.specs.Context.{Context, term, children, all-grounded}
+use Rattle.core.specs.Context.{Context, term, children, all-grounded, empty-context, declare-sort, dt-add-constructor, declare-fun}
 use Rattle.core.proofs.Lists.{In, keep-in, any-in}
 use Rattle.theory.specs.Types.{EqJust, Asserted, Congruence, Interface}
 use Rattle.theory.specs.EqEngine.{Merge, are-equal, merge, pop-merges}
@@ -26,10 +26,33 @@ use Rattle.solver.proofs.Basics.{first-some, first-none, Ascending, false-T}
 use Rattle.solver.proofs.Terms.{Extends, extends-length, extends-term}
 use Rattle.solver.proofs.Clash.{Ready}
 use Rattle.solver.proofs.Collection.{Beneath}
-use Rattle.session.specs.Line.{Command, Register, Equate, Cong, Iface, Assert, Pop}
+use Rattle.session.specs.Line.{Command, DeclareSort, DeclareCtor, DeclareFun, Close, MkTerm, MkEq, Register, Equate, Cong, Iface, Assert, Push, Pop, Check}
 use Rattle.session.specs.Session.{Session}
-use Rattle.session.specs.History.{History, signature, level, InForce, Accepted, IsAtom, IsEquation, Sides, Chain, EqualNow}
+use Rattle.session.specs.History.{History, level, InForce, Accepted, IsAtom, IsEquation, Sides, Chain, EqualNow}
 use Rattle.session.proofs.Forces.{kind, force-on, force-pop, force-other, pop-back, accepted-other}
+
+-- ---- the signature
+
+-- the sorts and symbols that the lines declare
+unfoldable pub declared : Command → Context → Context
+declared (DeclareSort n) cx = declare-sort cx n
+declared (DeclareCtor dt fs) cx = dt-add-constructor cx dt fs
+declared (DeclareFun r as′) cx = declare-fun cx r as′
+declared Close cx = cx
+declared (MkTerm f ts) cx = cx
+declared (MkEq t u) cx = cx
+declared (Register x t) cx = cx
+declared (Equate l) cx = cx
+declared (Cong t u) cx = cx
+declared (Iface t u h g) cx = cx
+declared (Assert l) cx = cx
+declared Push cx = cx
+declared (Pop k) cx = cx
+declared (Check e) cx = cx
+
+unfoldable pub signature : History → Context
+signature [] = empty-context
+signature (c ∷ h) = declared c (signature h)
 
 -- ---- tables that keep their terms
 

@@ -18,9 +18,9 @@ use Rattle.solver.specs.State.{with-eq, equal}
 use Rattle.solver.proofs.Terms.{Agrees, same-op-eq}
 use Rattle.session.specs.Line.{Register, Equate, Cong, Iface}
 use Rattle.session.specs.Session.{Session, argument-pairs, term-exists, var-exists, atom-of, perform, done, merged, merge-sides}
-use Rattle.session.specs.History.{History, declared, level, level-after, InForce, IsAtom, IsEquation}
+use Rattle.session.specs.History.{History, level, level-after, InForce, IsAtom, IsEquation}
 use Rattle.session.proofs.Forces.{kind, force-back, force-other, accepted-other}
-use Rattle.session.proofs.Invariant.{kept-self, atom-one, atom-within, registered-atom, LineSides, Inv}
+use Rattle.session.proofs.Invariant.{declared, atom-one, atom-within, registered-atom, LineSides, Inv}
 use Rattle.session.proofs.Truth.{two-terms}
 use Rattle.session.proofs.Steps.{merge-kept}
 use Rattle.session.proofs.Accepting.{line-kind, Good, good-ok}
@@ -63,7 +63,6 @@ module _ (s : Session) (h : History) (l t a b : ℕ) (I : Inv s h) (v : T (Atom.
       good-ok s (Equate l) (merged s a b (Asserted l)) h refl (λ e. omega arith)
       (merge-kept s h (Equate l) a b (Asserted l) I (λ e. omega arith) (λ e. omega arith) refl refl (λ q i. absurd i) (λ e. tt)
       (t, inl (refl, I .level), inr at, p, atom-within (s .state .terms) (s .state .atoms) h (I .named) l t at, E) equate-sides equate-known)
-      (kept-self (s .state .terms))
 
 pub equate-good : (s : Session) (h : History) (l : ℕ) → Inv s h → T (var-exists s l) → T (Ids.is-positive l) → T (same-op (term (s .state .terms) (atom-of s l) .op) Eq) → Good s (Equate l) (perform s (Equate l)) h
 unfolding perform var-exists atom-of
@@ -95,7 +94,6 @@ cong-good s h t u I x y o e =
     (λ p i. every-in (λ (p : ℕ × ℕ). equal (s .state) (p .0) (p .1)) (argument-pairs s t u) p e i)
     (λ n. two-terms (s .state .terms) (I .ready .formed) (s .state .eq) t u a b op n)
     (inl (refl, I .level), a, b, op, refl) sides known)
-    (kept-self (s .state .terms))
   where
     a : t < length (s .state .terms .terms)
     a = ltb→lt t (length (s .state .terms .terms)) x
@@ -133,7 +131,6 @@ iface-good s h t u i g I =
     good-ok s (Iface t u i g) (merged s t u (Interface i g)) h refl (λ q. omega arith)
     (merge-kept s h (Iface t u i g) t u (Interface i g) I (λ q. omega arith) (λ q. omega arith) refl refl (λ p k. absurd k) (λ n. tt)
     (inl (refl, I .level)) sides known)
-    (kept-self (s .state .terms))
   where
     first-is : (z w j k : ℕ) → Iface t u i g ≡ Iface z w j k → z ≡ t
     first-is z w j k q = cc

@@ -1,6 +1,6 @@
 -- Laws of sessions. Forces: lines in force; Invariant: what ties a session to its accepted lines; Truth: merges in a reading;
 -- Rings: the claim's ring is the walk's; Steps: the invariant kept; Accepting and Joins: what each kind of accepted line owes the
--- claim; Claim: demand 3.
+-- claim; Tables: what each line makes of the table of terms; Claim: demand 3.
 pub mod Forces
 pub mod Invariant
 pub mod Truth
@@ -8,4 +8,5 @@ pub mod Rings
 pub mod Steps
 pub mod Accepting
 pub mod Joins
+pub mod Tables
 pub mod Claim

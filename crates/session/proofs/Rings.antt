@@ -63,28 +63,28 @@ beneath-of cx zero a t e = e
 beneath-of cx (suc n) a t (b, m, w) = (b, m, beneath-of cx n b t w)
 
 module _ (s : Session) (h : History) (I : Inv s h) where
-  marked-in : (t : ℕ) → Marked (s .state) h t → In t (s .state .dt .marks)
+  marked-in : (t : ℕ) → Marked (s .state .terms) (s .state .dt .marks) h t → In t (s .state .dt .marks)
   marked-in t (inl (v, a, n, w, b, r)) = I .marked v a n t w (beneath-of (s .state .terms) n a t b) r
   marked-in t (inr m) = mem-in t (s .state .dt .marks) m
 
-  in-marked : (t : ℕ) → In t (s .state .dt .marks) → Marked (s .state) h t
+  in-marked : (t : ℕ) → In t (s .state .dt .marks) → Marked (s .state .terms) (s .state .dt .marks) h t
   in-marked t i = inr (in-mem t (s .state .dt .marks) i)
 
   now : (x y : ℕ) → T (equal (s .state) x y) ↔ EqualNow (s .state .terms) h x y
   unfolding equal
   now x y = classes-agree (s .state .terms) (s .state .atoms) (s .state .eq) (s .state .level) h (I .named) (I .merged) x y
 
-  marked-ctor-in : (c : ℕ) → MarkedCtor (s .state) h c → (d : CtorApp) × (d .app ≡ c) × In d (ctor-apps (s .state))
+  marked-ctor-in : (c : ℕ) → MarkedCtor (s .state .terms) (s .state .dt .marks) h c → (d : CtorApp) × (d .app ≡ c) × In d (ctor-apps (s .state))
   unfolding ctor-apps
   marked-ctor-in c (m, t) =
       let (d, e) = some-there (ctor-app (s .state .terms) c) t in
       (d, ctor-app-is (s .state .terms) c d e .app, in-gather (ctor-app (s .state .terms)) (s .state .dt .marks) c d (marked-in c m) e)
 
-  pub stands-lowest : (t c : ℕ) → Stands (s .state) t c → Lowest (s .state) h t c
+  pub stands-lowest : (t c : ℕ) → Stands (s .state) t c → Lowest (s .state .terms) (s .state .dt .marks) h t c
   unfolding ctor-of-class ctor-apps
   stands-lowest t c (d, e, q) =
       let (i, v, w) = class-ctor (s .state) t d e in
-      subst (Lowest (s .state) h t) q
+      subst (Lowest (s .state .terms) (s .state .dt .marks) h t) q
       ((in-marked (d .app) i, there-some (ctor-app (s .state .terms) (d .app)) d v), now t (d .app) .0 w, λ x m y. low x (marked-ctor-in x m) y)
     where
       low : (x : ℕ) → ((g : CtorApp) × (g .app ≡ x) × In g (ctor-apps (s .state))) → EqualNow (s .state .terms) h t x → d .app ≤ x
@@ -92,7 +92,7 @@ module _ (s : Session) (h : History) (I : Inv s h) where
           subst (λ (z : ℕ). d .app ≤ z) k
           (first-lowest (s .state .terms) (λ (z : CtorApp). equal (s .state) t (z .app)) (s .state .dt .marks) d g (I .ascending) e j (subst⁻¹ (λ (z : ℕ). T (equal (s .state) t z)) k (now t x .1 y)))
 
-  pub lowest-stands : (t c : ℕ) → Lowest (s .state) h t c → Stands (s .state) t c
+  pub lowest-stands : (t c : ℕ) → Lowest (s .state .terms) (s .state .dt .marks) h t c → Stands (s .state) t c
   unfolding ctor-of-class
   lowest-stands t c (m, y, low) = go (ctor-of-class (s .state) t) refl (marked-ctor-in c m)
     where
@@ -108,7 +108,7 @@ module _ (s : Session) (h : History) (I : Inv s h) where
   abbrev CtorAt : ℕ → Type 0
   CtorAt c = T (is-some (ctor-app (s .state .terms) c))
 
-  edge-joined : (c d : ℕ) → CtorAt c → EdgeTo (s .state) h c d → Joined (s .state) c d × CtorAt d
+  edge-joined : (c d : ℕ) → CtorAt c → EdgeTo (s .state .terms) (s .state .dt .marks) h c d → Joined (s .state) c d × CtorAt d
   unfolding kids
   edge-joined c d k (f, (m, t), l) =
       let (g, e) = some-there (ctor-app (s .state .terms) c) k in
@@ -117,31 +117,31 @@ module _ (s : Session) (h : History) (I : Inv s h) where
         l .0 .1,
       )
 
-  joined-edge : (c d : ℕ) → Joined (s .state) c d → EdgeTo (s .state) h c d
+  joined-edge : (c d : ℕ) → Joined (s .state) c d → EdgeTo (s .state .terms) (s .state .dt .marks) h c d
   joined-edge c d (f, (g, e, i), w) =
       let G = ctor-app-is (s .state .terms) c g e in
       let (j, t) = kid-field (s .state .terms) g f i in
       (f, (in-mem f (children (s .state .terms) c) (subst⁻¹ (λ (zs : List ℕ). In f zs) (G .args) j), t), stands-lowest f d w)
 
-  leads-reaches : (n c d : ℕ) → CtorAt c → Leads (s .state) h n c d → Reaches (s .state) n c d × CtorAt d
+  leads-reaches : (n c d : ℕ) → CtorAt c → Leads (s .state .terms) (s .state .dt .marks) h n c d → Reaches (s .state) n c d × CtorAt d
   leads-reaches zero c d k e = (e, subst CtorAt e k)
   leads-reaches (suc n) c d k (x, e, l) =
       let (j, k′) = edge-joined c x k e in
       let (r, k″) = leads-reaches n x d k′ l in
       ((x, j, r), k″)
 
-  reaches-leads : (n c d : ℕ) → Reaches (s .state) n c d → Leads (s .state) h n c d
+  reaches-leads : (n c d : ℕ) → Reaches (s .state) n c d → Leads (s .state .terms) (s .state .dt .marks) h n c d
   reaches-leads zero c d e = e
   reaches-leads (suc n) c d (x, j, r) = (x, joined-edge c x j, reaches-leads n x d r)
 
-  pub ring-there : Ring (s .state) h → HasRing (s .state)
+  pub ring-there : Ring (s .state .terms) (s .state .dt .marks) h → HasRing (s .state)
   unfolding watched-dt-terms
   ring-there (t, c, d, (m, w), l, (i, x), (n, y)) =
       let (a, k) = leads-reaches i c d (l .0 .1) x in
       let (b, k′) = leads-reaches (suc n) d d k y in
       (c, d, i, n, (t, in-keep (λ z. is-datatype-sort (s .state .terms) (sort-of (s .state .terms) z)) (s .state .dt .marks) t (marked-in t m) w, lowest-stands t c l), a, b)
 
-  pub there-ring : HasRing (s .state) → Ring (s .state) h
+  pub there-ring : HasRing (s .state) → Ring (s .state .terms) (s .state .dt .marks) h
   unfolding watched-dt-terms
   there-ring (a, d, m, n, (t, i, w), x, y) =
       let (j, k) = keep-in (λ z. is-datatype-sort (s .state .terms) (sort-of (s .state .terms) z)) (s .state .dt .marks) t i in

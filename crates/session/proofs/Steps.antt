@@ -32,9 +32,9 @@ use Rattle.solver.proofs.Clash.{Ready}
 use Rattle.solver.proofs.Collection.{Beneath, children-lower, Marks, new-var-marks}
 use Rattle.session.specs.Line.{Command, Register, Equate, Pop}
 use Rattle.session.specs.Session.{Session, empty-session, pop-to}
-use Rattle.session.specs.History.{History, signature, declared, level, level-after, InForce, Accepted, IsAtom}
+use Rattle.session.specs.History.{History, level, level-after, InForce, Accepted, IsAtom}
 use Rattle.session.proofs.Forces.{kind, accepted-other}
-use Rattle.session.proofs.Invariant.{Kept, kept-self, Named, named-on, named-new, MergeFrom, LineSides, Merged, merged-on, merged-pop, merged-stay, merged-more, merge-members, Entries, entries-on, entries-pop, entries-stay, AllMarked, Inv}
+use Rattle.session.proofs.Invariant.{signature, declared, Kept, kept-self, Named, named-on, named-new, MergeFrom, LineSides, Merged, merged-on, merged-pop, merged-stay, merged-more, merge-members, Entries, entries-on, entries-pop, entries-stay, AllMarked, Inv}
 
 -- ---- what stands below an old term
 

@@ -1,7 +1,6 @@
 -- Answers and refusals, and 01's text and number for each.
 use Prim.Native.Nat.{ℕ}
-use mathlib.Core.Bool.{Bool, true, false}
-use mathlib.Core.List.{List, [], _∷_, _++_, map}
+use mathlib.Core.List.{List, _++_, map}
 use Rattle.theory.specs.Types.{EqLeaf, AssertedLeaf, InterfaceLeaf}
 use Rattle.solver.specs.Rules.{Phase, Positive, NoPhase, TCheck, Sat, Conflict, Split, Unknown}
 use Rattle.session.specs.Text.{bytes, comma, joined, decimal}

@@ -1,29 +1,28 @@
 -- Demand 3: the claim over whole scripts, stated. For every list of lines from an empty session, unreadable and refused ones
 -- included, at each answer: each cited leaf is in force; a conflict's leaves are true together in no reading by finite trees;
 -- each lemma is true in all readings; the ring clause.
-use Prim.Native.Nat.{ℕ, zero, suc, _≤_, _<_}
+use Prim.Native.Nat.{ℕ, zero, suc, _≤_}
 use mathlib.Core.Path.{_≡_}
 use mathlib.Core.Logic.{_≢_, _⊎_, _↔_}
-use mathlib.Core.Bool.{Bool, true, false}
+use mathlib.Core.Bool.{true}
 use mathlib.Core.List.{List, [], _∷_}
-use mathlib.Core.Option.{Option, none, some}
+use mathlib.Core.Option.{none, some}
 use lib.Dec.{T}
-use lib.ListN.{length}
 use Rattle.core.specs.Lists.{mem}
 use Rattle.core.specs.Term.{Eq, Uninterpreted}
 use Rattle.core.specs.Context.{Context, term, ctor-app, is-datatype-sort, sort-of, children}
 use Rattle.core.specs.Reading.{Reading}
 use Rattle.theory.specs.Types.{EqLeaf}
-use Rattle.solver.specs.State.{State, equal}
+use Rattle.solver.specs.State.{equal}
 use Rattle.solver.specs.Records.{is-some, relevant}
 use Rattle.solver.specs.Rules as Rules
-use Rattle.solver.specs.Rules.{Phase, TCheck, Conflict, Split}
+use Rattle.solver.specs.Rules.{Phase, Conflict, Split}
 use Rattle.solver.specs.Check.{before-ring}
 use Rattle.session.specs.Line as Line
-use Rattle.session.specs.Line.{Command, read-line}
+use Rattle.session.specs.Line.{read-line}
 use Rattle.session.specs.Answer.{Refusal, Answer, TermIs, Checked, Refused}
 use Rattle.session.specs.Session.{Session, empty-session, Performed, step}
-use Rattle.session.specs.History.{History, signature, Accepted, LeafInForce, EqualNow, AllTrue, LemmaTrue, history-after}
+use Rattle.session.specs.History.{History, TableOf, Accepted, LeafInForce, EqualNow, AllTrue, LemmaTrue, history-after}
 
 -- ---- conflicts and lemmas
 
@@ -39,36 +38,36 @@ Impossible cx h ls = (r : Reading cx) → AllTrue r h ls → ⊥
 abbrev pub Valid : Context → History → List ℕ → List ℕ → Type 1
 Valid cx h atoms guards = (r : Reading cx) → LemmaTrue r h atoms guards
 
--- ---- rings, over the terms and marks of a state and the lines of a history
+-- ---- rings, over a table of terms, the marks that the rules have made so far, and the lines of a history
 
 -- t stands n levels below a
 abbrev pub Below : Context → ℕ → ℕ → ℕ → Type 0
 Below cx zero a t = a ≡ t
 Below cx (suc n) a t = (b : ℕ) × T (mem b (children cx a)) × Below cx n b t
 
-module _ (s : State) (h : History) where
+module _ (cx : Context) (marks : List ℕ) (h : History) where
   -- 01: Collection goes down through the children of a registered atom, the atom included
   abbrev pub Collected : ℕ → Type 0
-  Collected t = (v a n : ℕ) × Accepted h (Line.Register v a) × Below (s .terms) n a t × T (relevant (s .terms) t)
+  Collected t = (v a n : ℕ) × Accepted h (Line.Register v a) × Below cx n a t × T (relevant cx t)
 
   -- 01: marked, by Collection or a rule so far, in this check too
   abbrev pub Marked : ℕ → Type 0
-  Marked t = Collected t ⊎ T (mem t (s .dt .marks))
+  Marked t = Collected t ⊎ T (mem t marks)
 
   abbrev pub MarkedCtor : ℕ → Type 0
-  MarkedCtor t = Marked t × T (is-some (ctor-app (s .terms) t))
+  MarkedCtor t = Marked t × T (is-some (ctor-app cx t))
 
   -- 01: a marked datatype term is watched
   abbrev pub Watched : ℕ → Type 0
-  Watched t = Marked t × T (is-datatype-sort (s .terms) (sort-of (s .terms) t))
+  Watched t = Marked t × T (is-datatype-sort cx (sort-of cx t))
 
   -- c is the lowest marked constructor application of t's class
   abbrev pub Lowest : ℕ → ℕ → Type 0
-  Lowest t c = MarkedCtor c × EqualNow (s .terms) h t c × ((d : ℕ) → MarkedCtor d → EqualNow (s .terms) h t d → c ≤ d)
+  Lowest t c = MarkedCtor c × EqualNow cx h t c × ((d : ℕ) → MarkedCtor d → EqualNow cx h t d → c ≤ d)
 
   -- a datatype field of an application
   abbrev pub DatatypeField : ℕ → ℕ → Type 0
-  DatatypeField c f = T (mem f (children (s .terms) c)) × T (is-datatype-sort (s .terms) (sort-of (s .terms) f))
+  DatatypeField c f = T (mem f (children cx c)) × T (is-datatype-sort cx (sort-of cx f))
 
   -- Each class stands by its lowest marked constructor application; an edge leads to the class of each datatype field.
   abbrev pub EdgeTo : ℕ → ℕ → Type 0
@@ -95,24 +94,21 @@ pub record AtLine (s : Session) (line : List ℕ) (p : Performed) (h′ : Histor
   -- each lemma is true in all readings
   pub lemma : (atoms guards : List ℕ) (phases : List Phase) → p .answer ≡ Checked (Split atoms guards phases) → Valid (p .session .state .terms) h′ atoms guards
   -- an accepted full check in which no rule before the ring answers says conflict exactly when there is a ring, else sat
-  pub ring : read-line line ≡ some (Line.Check true) → ((q : Refusal) → p .answer ≢ Refused q) → before-ring (s .state) .answer ≡ none → (Ring (p .session .state) h′ × SaysConflict (p .answer)) ⊎ ((Ring (p .session .state) h′ → ⊥) × (p .answer ≡ Checked Rules.Sat))
+  pub ring : read-line line ≡ some (Line.Check true) → ((q : Refusal) → p .answer ≢ Refused q) → before-ring (s .state) .answer ≡ none → (Ring (p .session .state .terms) (p .session .state .dt .marks) h′ × SaysConflict (p .answer)) ⊎ ((Ring (p .session .state .terms) (p .session .state .dt .marks) h′ → ⊥) × (p .answer ≡ Checked Rules.Sat))
   -- a refused line leaves the session as it was
   pub refused : (q : Refusal) → p .answer ≡ Refused q → p .session ≡ s
 
 -- what ties the words of the claim to the lines
 pub record Tied (s : Session) (line : List ℕ) (p : Performed) (h′ : History) : Type 1 where
-  -- the sorts and symbols are those that the lines declare
-  pub sorts : p .session .state .terms .sorts ≡ signature h′ .sorts
-  pub symbols : p .session .state .terms .symbols ≡ signature h′ .symbols
-  -- a term keeps its number
-  pub kept : (t : ℕ) → t < length (s .state .terms .terms) → term (p .session .state .terms) t ≡ term (s .state .terms) t
+  -- the table is one that the lines make, with what the rules appended at full checks
+  pub table : TableOf h′ (p .session .state .terms)
   -- the number that a `term` or `eq` line is answered is that of the term it names
   pub made : (f : ℕ) (ts : List ℕ) (n : ℕ) → read-line line ≡ some (Line.MkTerm f ts) → p .answer ≡ TermIs n → term (p .session .state .terms) n ≡ record { op = Uninterpreted f; args = ts }
   pub made-eq : (t u n : ℕ) → read-line line ≡ some (Line.MkEq t u) → p .answer ≡ TermIs n → term (p .session .state .terms) n ≡ record { op = Eq; args = t ∷ u ∷ [] }
   -- the session's classes are exactly equal now, by the lines in force
   pub classes : (x y : ℕ) → T (equal (p .session .state) x y) ↔ EqualNow (p .session .state .terms) h′ x y
-  -- once declarations are closed there is a reading, so that nothing is claimed of an empty class of readings
-  pub reading : T (p .session .closed) → Reading (p .session .state .terms)
+  -- once a `close` is accepted there is a reading, so that nothing is claimed of an empty class of readings
+  pub reading : Accepted h′ Line.Close → Reading (p .session .state .terms)
 
 abbrev pub ClaimFrom : Session → History → List (List ℕ) → Type 1
 ClaimFrom s h [] = Unit {1}

@@ -1,7 +1,7 @@
 -- 01's starred examples, whole, in one table, and that the definition gives each row.
 use Prim.Native.Nat.{ℕ}
 use Prim.Native.String as S
-use mathlib.Core.Bool.{Bool, true, false, _&&_}
+use mathlib.Core.Bool.{Bool, _&&_}
 use mathlib.Core.List.{List, [], _∷_}
 use lib.Dec.{T, eqb}
 use lib.ListN.{length}

@@ -3,14 +3,14 @@
 use Prim.Native.Nat.{ℕ, zero, suc, _≤_}
 use mathlib.Core.Path.{_≡_}
 use mathlib.Core.Logic.{_⊎_}
-use mathlib.Core.Bool.{Bool, true, false, cond}
-use mathlib.Core.List.{List, [], _∷_}
+use mathlib.Core.Bool.{true, false, cond}
+use mathlib.Core.List.{List, [], _∷_, _++_}
 use mathlib.Core.Option.{Option, none, some}
-use lib.Dec.{T, ltb}
+use lib.Dec.{ltb}
 use Rattle.core.specs.Ids as Ids
-use Rattle.core.specs.Term.{Eq}
-use Rattle.core.specs.Context.{Context, empty-context, declare-sort, dt-add-constructor, declare-fun, term, children}
-use Rattle.core.specs.Reading.{Reading, Value, truth, value}
+use Rattle.core.specs.Term.{Eq, Uninterpreted, Term}
+use Rattle.core.specs.Context.{Context, empty-context, declare-sort, dt-add-constructor, declare-fun, mk-app, mk-eq, term, children}
+use Rattle.core.specs.Reading.{Reading, truth, value}
 use Rattle.theory.specs.Types.{EqLeaf, AssertedLeaf, InterfaceLeaf}
 use Rattle.session.specs.Line.{Command, DeclareSort, DeclareCtor, DeclareFun, Close, MkTerm, MkEq, Register, Equate, Cong, Iface, Assert, Push, Pop, Check, read-line}
 use Rattle.session.specs.Answer.{Answer, Ok, TermIs, Checked, Refused}
@@ -18,28 +18,31 @@ use Rattle.session.specs.Answer.{Answer, Ok, TermIs, Checked, Refused}
 abbrev pub History : Type 0
 History = List Command
 
--- ---- declarations
+-- ---- the table of sorts, symbols and terms
 
--- the sorts and symbols that the lines declare
-unfoldable pub declared : Command → Context → Context
-declared (DeclareSort n) cx = declare-sort cx n
-declared (DeclareCtor dt fs) cx = dt-add-constructor cx dt fs
-declared (DeclareFun r as′) cx = declare-fun cx r as′
-declared Close cx = cx
-declared (MkTerm f ts) cx = cx
-declared (MkEq t u) cx = cx
-declared (Register x t) cx = cx
-declared (Equate l) cx = cx
-declared (Cong t u) cx = cx
-declared (Iface t u h g) cx = cx
-declared (Assert l) cx = cx
-declared Push cx = cx
-declared (Pop k) cx = cx
-declared (Check e) cx = cx
+-- what an accepted line makes of the table: `sort`, `ctor`, `fun` declare, `term` and `eq` make the term they name unless it is there,
+-- a full check may append terms that its rules make, and no other line changes it
+abbrev pub Makes : Command → Context → Context → Type 0
+Makes (DeclareSort n) cx cx′ = cx′ ≡ declare-sort cx n
+Makes (DeclareCtor dt fs) cx cx′ = cx′ ≡ dt-add-constructor cx dt fs
+Makes (DeclareFun r as′) cx cx′ = cx′ ≡ declare-fun cx r as′
+Makes Close cx cx′ = cx′ ≡ cx
+Makes (MkTerm f ts) cx cx′ = cx′ ≡ mk-app cx (Uninterpreted f) ts .context
+Makes (MkEq t u) cx cx′ = cx′ ≡ mk-eq cx t u .context
+Makes (Register x t) cx cx′ = cx′ ≡ cx
+Makes (Equate l) cx cx′ = cx′ ≡ cx
+Makes (Cong t u) cx cx′ = cx′ ≡ cx
+Makes (Iface t u h g) cx cx′ = cx′ ≡ cx
+Makes (Assert l) cx cx′ = cx′ ≡ cx
+Makes Push cx cx′ = cx′ ≡ cx
+Makes (Pop k) cx cx′ = cx′ ≡ cx
+Makes (Check true) cx cx′ = (new : List Term) × (cx′ ≡ record { sorts = cx .sorts; symbols = cx .symbols; terms = cx .terms ++ new })
+Makes (Check false) cx cx′ = cx′ ≡ cx
 
-unfoldable pub signature : History → Context
-signature [] = empty-context
-signature (c ∷ h) = declared c (signature h)
+-- a table that the lines make
+abbrev pub TableOf : History → Context → Type 0
+TableOf [] cx = cx ≡ empty-context
+TableOf (c ∷ h) cx′ = (cx : Context) × TableOf h cx × Makes c cx cx′
 
 -- ---- levels
 

@@ -1,7 +1,7 @@
 -- Reading a line: question 3 whole. A line is key=value, the value decimal numbers parted by commas, at most 17; only `sort`
 -- takes a letter.
 use Prim.Native.Nat.{ℕ}
-use mathlib.Core.Bool.{Bool, true, false, cond, _&&_}
+use mathlib.Core.Bool.{Bool, true, false, cond}
 use mathlib.Core.List.{List, [], _∷_}
 use mathlib.Core.Option.{Option, none, some}
 use lib.Dec.{eqb, leb}

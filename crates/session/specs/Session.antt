@@ -1,21 +1,21 @@
 -- The session: the questions 4 to 11 in order, what an accepted line does, and one step.
 use Prim.Native.Nat.{ℕ, suc}
 use mathlib.Core.Bool.{Bool, true, false, cond, not, _&&_}
-use mathlib.Core.List.{List, [], _∷_, _++_}
+use mathlib.Core.List.{List, [], _∷_}
 use mathlib.Core.List as List
 use mathlib.Core.Option.{Option, none, some}
 use lib.Dec.{eqb, leb, ltb}
 use lib.ListN.{length}
 use Rattle.core.specs.Lists.{every, zip, same-list}
 use Rattle.core.specs.Ids as Ids
-use Rattle.core.specs.Term.{Op, Eq, Uninterpreted, same-op}
-use Rattle.core.specs.Context.{Context, Made, declare-sort, dt-add-constructor, declare-fun, is-datatype-sort, symbol, all-grounded, term, children, sort-of, mk-app, mk-eq, terms-fit, declarations-fit}
+use Rattle.core.specs.Term.{Eq, Uninterpreted, same-op}
+use Rattle.core.specs.Context.{Made, declare-sort, dt-add-constructor, declare-fun, is-datatype-sort, symbol, all-grounded, term, children, sort-of, mk-app, mk-eq, terms-fit, declarations-fit}
 use Rattle.theory.specs.Types.{EqLeaf, EqJust, Asserted, Congruence, Interface}
-use Rattle.theory.specs.EqEngine.{merge, are-equal, pop-merges, pairs-in-force}
+use Rattle.theory.specs.EqEngine.{merge, pop-merges, pairs-in-force}
 use Rattle.theory.specs.Atom as Atom
 use Rattle.solver.specs.State.{State, empty-state, with-terms, with-eq, with-atoms, with-level, with-level-record, equal}
 use Rattle.solver.specs.Records as Records
-use Rattle.solver.specs.Rules.{TCheck, Conflict}
+use Rattle.solver.specs.Rules.{Conflict}
 use Rattle.solver.specs.Check as Check
 use Rattle.session.specs.Line as Line
 use Rattle.session.specs.Line.{Command, DeclareSort, DeclareCtor, DeclareFun, Close, MkTerm, MkEq, Register, Equate, Cong, Iface, Assert, Push, Pop, read-line}
