@@ -364,7 +364,7 @@ explain-rec-expand-way-requires t c κs =
     let o = rec-older (start .args .t .now) (start .args .a) (start .args .b) _ (p .0 .engine) (p .3) e in
     let i = common-above (start .args .t .now) (start .args .a) (start .args .b) _ (p .0 .engine) (p .3) e in
     let m = start .pre .0 in
-    (omega arith, (record { engine = p .0 .engine; answer = p .0 .answer; long = let k = c .before .before .before .before .before .mark-pairs .kept .1 .1 .1 .0 in let l = p .0 .long in omega arith }, p .1, i .0))
+    (omega arith, (record { engine = p .0 .engine; answer = p .0 .answer; long = let k = c .before .before .before .before .before .mark-pairs .kept .1 .1 .1 .0 in let l = p .0 .long in omega arith }, search (p .1, p .2), search (i .0, i .1)))
 
 explain-rec-expand-way-requires-2 : (t : ℕ) → explain-rec-lts.Need-expand-way-requires-2 (mark-pairs-reads.Asked, mark-pairs-reads.Learnt, forest-nca-reads.Asked, forest-nca-reads.Learnt, expand-way-below t, expand-way.Post) (explain-rec-at t) explain-rec.Post
 explain-rec-expand-way-requires-2 t c κs =
@@ -374,7 +374,7 @@ explain-rec-expand-way-requires-2 t c κs =
     let o = rec-older (start .args .t .now) (start .args .a) (start .args .b) _ (p .0 .engine) (p .3) e in
     let i = common-above (start .args .t .now) (start .args .a) (start .args .b) _ (p .0 .engine) (p .3) e in
     let m = start .pre .0 in
-    (omega arith, (record { engine = p .0 .engine; answer = c .before .before .before .before .before .before .expand-way .ensures .answer; long = let k = c .before .before .before .before .before .before .before .before .before .before .before .before .mark-pairs .kept .1 .1 .1 .0 in let r = c .before .before .before .before .before .before .expand-way .kept .1 .1 .1 .0 in let l = p .0 .long in omega arith }, p .2, i .1))
+    (omega arith, (record { engine = p .0 .engine; answer = c .before .before .before .before .before .before .expand-way .ensures .answer; long = let k = c .before .before .before .before .before .before .before .before .before .before .before .before .mark-pairs .kept .1 .1 .1 .0 in let r = c .before .before .before .before .before .before .expand-way .kept .1 .1 .1 .0 in let l = p .0 .long in omega arith }, search (p .1, p .2), search (i .0, i .1)))
 
 explain-rec-same-length : (t : ℕ) → explain-rec-lts.Need-same-length (mark-pairs-reads.Asked, mark-pairs-reads.Learnt, forest-nca-reads.Asked, forest-nca-reads.Learnt, expand-way-below t, expand-way.Post) (explain-rec-at t) explain-rec.Post
 explain-rec-same-length t c = c .before .before .before .before .expand-way2 .kept .1 .1 .1 .0 ∙ c .before .before .before .before .before .before .before .before .before .before .before .expand-way .kept .1 .1 .1 .0 ∙ c .before .before .before .before .before .before .before .before .before .before .before .before .before .before .before .before .before .mark-pairs .kept .1 .1 .1 .0
