@@ -10,7 +10,7 @@ use borrow.Author.Tests.{eq-eqb, ne-eqb, eqb-true, eqb-false, leb-false, lt-leb}
 use Rattle.core.proofs.Lists.{In}
 use Rattle.theory.specs.Types.{EqJust}
 pub use Rattle.theory.specs.Table.{BothSides}
-use Rattle.theory.specs.EqEngine.{Merge, Classes, singletons, under, union, classes, find, are-equal, merge, pop-merges}
+use Rattle.theory.specs.EqEngine.{Merge, Classes, singletons, under, lower, higher, union, classes, find, are-equal, merge, pop-merges}
 
 -- ---- one class
 
@@ -65,7 +65,7 @@ pub record Union (m : Merge) (ms : List Merge) : Type 0 where
   pub is-under : classes (m ∷ ms) ≡ under (classes ms) (find ms low) (find ms high)
 
 pub union-of : (m : Merge) (ms : List Merge) → Union m ms
-unfolding find classes union
+unfolding find classes union lower higher
 union-of m ms = go (leb (classes ms .size rb) (classes ms .size ra)) refl
   where
     ra : ℕ
@@ -75,7 +75,7 @@ union-of m ms = go (leb (classes ms .size rb) (classes ms .size ra)) refl
     rb = classes ms .find (m .b)
 
     pick : Bool → Classes
-    pick b = cond b (under (classes ms) rb ra) (under (classes ms) ra rb)
+    pick b = under (classes ms) (cond b rb ra) (cond b ra rb)
 
     go : (b : Bool) → leb (classes ms .size rb) (classes ms .size ra) ≡ b → Union m ms
     go true e = record { low = m .b; high = m .a; sides = inr (refl, refl); is-under = ap pick e }

@@ -14,9 +14,9 @@ use Rattle.core.specs.Table.{word}
 use Rattle.core.proofs.Lists.{In, T-true, true-T, in-range, map-range-suc}
 use Rattle.theory.specs.Types.{EqJust, Asserted, Congruence, Interface, EqLeaf, AssertedLeaf, same-leaf}
 use Rattle.theory.specs.EqEngine.{Merge, Step, Explained, are-equal, pairs-of, before, nodes, common, way, same-pair, visit, cite, path, expand-edge, explain-rec, explain, firsts-after}
-use Rattle.theory.specs.Table.{merges#, kind-word, value-word, after-word, left-word, right-word, fparent-word, fedge-word, label, begins, kind-of, just-at, merge-at, value-start, merges-below, merges, Justified, Sound}
+use Rattle.theory.specs.Table.{pair-at, merges#, label-word, value-word, after-word, left-word, right-word, fparent-word, fedge-word, label, begins, kind-of, just-at, merge-at, pairs-start, merges-below, merges, Justified, Sound}
 use Rattle.theory.specs.Answer.{leaves#, leaf-of, leaves, Labels, Cites, AnswerSound}
-use Rattle.theory.specs.Explaining.{expand-label, expand-steps, expand-pairs, expand-new, pair-at, pairs-from, age, pairs-age, steps-age, marked, Shows, Explaining, Goes, MarksPair, EqualPair}
+use Rattle.theory.specs.Explaining.{expand-label, expand-steps, expand-pairs, expand-new, pairs-from, age, pairs-age, steps-age, marked, Shows, Explaining, Goes, MarksPair, EqualPair}
 use Rattle.theory.proofs.Members.{in-left, in-right}
 use Rattle.theory.proofs.Classes.{Same, same-kept, same-equal, equal-same}
 use Rattle.theory.proofs.Forest.{Forest, Above, at-root, at-step, above-trans, from-step, shorter, longer, before-self, before-step, before-next, climb, way-meets}
@@ -249,7 +249,7 @@ unfolding pairs-from range
 pairs-none t from = let e : from - from ≡ 0 = omega arith in ap (λ (n : ℕ). map (λ j. (left-word t j, right-word t j)) (range from n)) e
 
 pairs-last : (t : List ℕ) (from j : ℕ) → from ≤ j → pairs-from t from (j + 1) ≡ pairs-from t from j ++ (pair-at t j ∷ [])
-unfolding pairs-from pair-at
+unfolding pairs-from
 pairs-last t from j h =
     ap (λ (n : ℕ). map (pair-at t) (range from n)) count
     ∙ map-range-suc (pair-at t) from (j - from)
@@ -267,7 +267,7 @@ in-map f (y ∷ xs) x (inl e) = inl (ap f e)
 in-map f (y ∷ xs) x (inr i) = inr (in-map f xs x i)
 
 pair-in : (t : List ℕ) (from to j : ℕ) → from ≤ j → j < to → In (pair-at t j) (pairs-from t from to)
-unfolding pairs-from pair-at
+unfolding pairs-from
 pair-in t from to j h k = in-map (λ i. (left-word t i, right-word t i)) (range from (to - from)) j (in-range from (to - from) j h (omega arith))
 
 pub pair-first : (t : List ℕ) (from to : ℕ) (m o : List ℕ) → Explaining t m o → from ≤ to → Pairing t from to m o m o from
@@ -339,7 +339,6 @@ pair-few t j z k = let n = in-force-few t z in let l = k .in-force in omega arit
 
 -- the age of a pair bounds what a call for it takes
 pub pair-age : (t : List ℕ) (j x y : ℕ) → x ≡ left-word t j → y ≡ right-word t j → age (merges t) x y < pairs-age (merges t) (pair-at t j ∷ [])
-unfolding pair-at
 pair-age t j x y p q =
     subst (λ (v : ℕ). age (merges t) v y < pairs-age (merges t) ((left-word t j, right-word t j) ∷ [])) (sym p)
     (subst (λ (v : ℕ). age (merges t) (left-word t j) v < pairs-age (merges t) ((left-word t j, right-word t j) ∷ [])) (sym q)
@@ -349,7 +348,7 @@ pub pair-nodes : (t : List ℕ) (j x y : ℕ) → EqualPair t j → x ≡ left-w
 pair-nodes t j x y z p q = let n = z .nodes in (omega arith, omega arith, ap₂ (are-equal (merges t)) p q ∙ z .equal)
 
 pub pair-new : (t m o m₁ o₁ : List ℕ) (j w x y : ℕ) → EqualPair t j → w ≡ word m j → w ≡ 0 → x ≡ left-word t j → y ≡ right-word t j → Goes t m o m₁ o₁ (suc (age (merges t) x y)) (expand-new (merges t) x y) → Goes t m o m₁ o₁ (pairs-age (merges t) (pair-at t j ∷ [])) (expand-pairs (merges t) (pair-at t j ∷ []))
-unfolding expand-pairs pair-at
+unfolding expand-pairs
 pair-new t m o m₁ o₁ j w x y z e q p r g = record {
   answer = g .answer;
   shows = λ d seen f n s.
@@ -360,7 +359,7 @@ pair-new t m o m₁ o₁ j w x y z e q p r g = record {
 }
 
 pub pair-known : (t m o : List ℕ) (j w : ℕ) → Explaining t m o → EqualPair t j → w ≡ word m j → (w ≡ 0 → ⊥) → Goes t m o m o (pairs-age (merges t) (pair-at t j ∷ [])) (expand-pairs (merges t) (pair-at t j ∷ []))
-unfolding expand-pairs pair-at
+unfolding expand-pairs
 pair-known t m o j w z k e q = record {
   answer = z .answer;
   shows = λ d seen f n s.
@@ -390,18 +389,18 @@ interface-labels t zero h v e p q = absurd (p refl)
 interface-labels t (suc zero) h v e p q = absurd (q refl)
 interface-labels t (suc (suc k)) h v e p q = refl
 
-pub edge-literal : (t : List ℕ) (i k v : ℕ) → k ≡ kind-word t i → v ≡ value-word t i → k / 65536 % 4 ≡ 0 → Labels (just-at t i) (leaf-of 0 v)
+pub edge-literal : (t : List ℕ) (i k v : ℕ) → k ≡ label-word t i → v ≡ value-word t i → k / 65536 % 4 ≡ 0 → Labels (just-at t i) (leaf-of 0 v)
 unfolding just-at
 edge-literal t i k v e q h =
-    subst (λ (n : ℕ). Labels (just-at t i) (leaf-of 0 n)) (sym q) (literal-labels t (kind-of t i) (kind-word t i % 65536) (value-word t i) (after-word t i) (sym (ap (λ (n : ℕ). n / 65536 % 4) e) ∙ h))
+    subst (λ (n : ℕ). Labels (just-at t i) (leaf-of 0 n)) (sym q) (literal-labels t (kind-of t i) (label-word t i % 65536) (value-word t i) (after-word t i) (sym (ap (λ (n : ℕ). n / 65536 % 4) e) ∙ h))
 
-pub edge-interface : (t : List ℕ) (i k v : ℕ) → k ≡ kind-word t i → v ≡ value-word t i → (k / 65536 % 4 ≡ 0 → ⊥) → (k / 65536 % 4 ≡ 1 → ⊥) → Labels (just-at t i) (leaf-of (1 + k % 65536) v)
+pub edge-interface : (t : List ℕ) (i k v : ℕ) → k ≡ label-word t i → v ≡ value-word t i → (k / 65536 % 4 ≡ 0 → ⊥) → (k / 65536 % 4 ≡ 1 → ⊥) → Labels (just-at t i) (leaf-of (1 + k % 65536) v)
 unfolding just-at
 edge-interface t i k v e q h g =
-    let r : suc (kind-word t i % 65536) ≡ 1 + k % 65536 = let w = ap (λ (n : ℕ). n % 65536) e in omega arith in
+    let r : suc (label-word t i % 65536) ≡ 1 + k % 65536 = let w = ap (λ (n : ℕ). n % 65536) e in omega arith in
     subst (λ (n : ℕ). Labels (just-at t i) (leaf-of n v)) r
-    (subst (λ (n : ℕ). Labels (just-at t i) (leaf-of (suc (kind-word t i % 65536)) n)) (sym q)
-    (interface-labels t (kind-of t i) (kind-word t i % 65536) (value-word t i) (after-word t i) (λ w. h (ap (λ (n : ℕ). n / 65536 % 4) e ∙ w)) (λ w. g (ap (λ (n : ℕ). n / 65536 % 4) e ∙ w))))
+    (subst (λ (n : ℕ). Labels (just-at t i) (leaf-of (suc (label-word t i % 65536)) n)) (sym q)
+    (interface-labels t (kind-of t i) (label-word t i % 65536) (value-word t i) (after-word t i) (λ w. h (ap (λ (n : ℕ). n / 65536 % 4) e ∙ w)) (λ w. g (ap (λ (n : ℕ). n / 65536 % 4) e ∙ w))))
 
 module _ (t o : List ℕ) (i : ℕ) (l : EqLeaf) (z : Sound t) (y : AnswerSound (merges t) o) (h : i < merges# t) (k : Labels (just-at t i) l) where
   label-cites : Cites (merges t) l
@@ -428,18 +427,18 @@ module _ (t o : List ℕ) (i : ℕ) (l : EqLeaf) (z : Sound t) (y : AnswerSound 
   }
 
 -- the label of a congruence
-edge-is : (t : List ℕ) (i k v a : ℕ) → k ≡ kind-word t i → v ≡ value-word t i → a ≡ after-word t i → k / 65536 % 4 ≡ 1 → just-at t i ≡ Congruence (pairs-from t v a)
+edge-is : (t : List ℕ) (i k v a : ℕ) → k ≡ label-word t i → v ≡ value-word t i → a ≡ after-word t i → k / 65536 % 4 ≡ 1 → just-at t i ≡ Congruence (pairs-from t v a)
 unfolding just-at label pairs-from
 edge-is t i k v a e q r h =
-    ap (λ (n : ℕ). label t n (kind-word t i % 65536) (value-word t i) (after-word t i)) (sym (ap (λ (n : ℕ). n / 65536 % 4) e) ∙ h)
+    ap (λ (n : ℕ). label t n (label-word t i % 65536) (value-word t i) (after-word t i)) (sym (ap (λ (n : ℕ). n / 65536 % 4) e) ∙ h)
     ∙ ap₂ (λ (x y : ℕ). Congruence (pairs-from t x y)) (sym q) (sym r)
 
-pub edge-goes : (t m o m₁ o₁ : List ℕ) (i k v a : ℕ) → k ≡ kind-word t i → v ≡ value-word t i → a ≡ after-word t i → k / 65536 % 4 ≡ 1 → Goes t m o m₁ o₁ (pairs-age (merges t) (pairs-from t v a)) (expand-pairs (merges t) (pairs-from t v a)) → Goes t m o m₁ o₁ (pairs-age (merges t) (pairs-of (just-at t i))) (expand-label (merges t) (just-at t i))
+pub edge-goes : (t m o m₁ o₁ : List ℕ) (i k v a : ℕ) → k ≡ label-word t i → v ≡ value-word t i → a ≡ after-word t i → k / 65536 % 4 ≡ 1 → Goes t m o m₁ o₁ (pairs-age (merges t) (pairs-from t v a)) (expand-pairs (merges t) (pairs-from t v a)) → Goes t m o m₁ o₁ (pairs-age (merges t) (pairs-of (just-at t i))) (expand-label (merges t) (just-at t i))
 unfolding pairs-of expand-label expand-edge expand-pairs
 edge-goes t m o m₁ o₁ i k v a e q r h g =
     subst (λ (j : EqJust). Goes t m o m₁ o₁ (pairs-age (merges t) (pairs-of j)) (expand-label (merges t) j)) (sym (edge-is t i k v a e q r h)) g
 
-pub edge-age : (t : List ℕ) (i k v a : ℕ) → k ≡ kind-word t i → v ≡ value-word t i → a ≡ after-word t i → k / 65536 % 4 ≡ 1 → pairs-age (merges t) (pairs-of (just-at t i)) ≡ pairs-age (merges t) (pairs-from t v a)
+pub edge-age : (t : List ℕ) (i k v a : ℕ) → k ≡ label-word t i → v ≡ value-word t i → a ≡ after-word t i → k / 65536 % 4 ≡ 1 → pairs-age (merges t) (pairs-of (just-at t i)) ≡ pairs-age (merges t) (pairs-from t v a)
 unfolding pairs-of
 edge-age t i k v a e q r h = ap (λ (j : EqJust). pairs-age (merges t) (pairs-of j)) (edge-is t i k v a e q r h)
 
@@ -456,8 +455,8 @@ pairs-same : (ms : List Merge) → Justified ms → (m : Merge) → In m ms → 
 pairs-same [] J m i p j = absurd i
 pairs-same (n ∷ r) J m i p j = same-kept n r (p .0) (p .1) (pairs-before n r J m i p j)
 
-pub edge-ready : (t : List ℕ) (i k v a : ℕ) → Sound t → i < merges# t → k ≡ kind-word t i → v ≡ value-word t i → a ≡ after-word t i → k / 65536 % 4 ≡ 1 → (v ≤ a) × ((j : ℕ) → v ≤ j → j < a → EqualPair t j)
-unfolding value-start merges merge-at pair-at
+pub edge-ready : (t : List ℕ) (i k v a : ℕ) → Sound t → i < merges# t → k ≡ label-word t i → v ≡ value-word t i → a ≡ after-word t i → k / 65536 % 4 ≡ 1 → (v ≤ a) × ((j : ℕ) → v ≤ j → j < a → EqualPair t j)
+unfolding pairs-start merges merge-at
 edge-ready t i k v a z h e q r w =
     let f = z .pairs-fit i h .0 in
     let s = begins-by (kind-of t i) (value-word t i) (after-word t i) (sym (ap (λ (n : ℕ). n / 65536 % 4) e) ∙ w) in

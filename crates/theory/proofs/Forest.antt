@@ -13,11 +13,16 @@ use lib.ListN.{length}
 use borrow.Author.Tests.{eq-eqb, ne-eqb}
 use Rattle.core.specs.Lists.{first, mem}
 use Rattle.core.proofs.Lists.{In, any-in}
-pub use Rattle.theory.specs.Table.{Joins, end}
+pub use Rattle.theory.specs.Table.{end}
 pub use Rattle.theory.specs.Steps.{On}
-use Rattle.theory.specs.EqEngine.{Merge, Step, classes, find, before, turned, nodes, common, rehung, way, path}
+use Rattle.theory.specs.EqEngine.{Merge, Step, classes, find, are-equal, before, turned, nodes, common, rehung, way, path}
 use Rattle.theory.proofs.Members.{in-left, in-right, in-either, in-any, Apart}
 use Rattle.theory.proofs.Classes.{Same, same-alone, same?, BothSides, turned-sides, unequal, Across, same-split, same-kept, same-sides, Suffix, same-suffix}
+
+-- each merge joined two classes
+abbrev pub Joins : List Merge → Type 0
+Joins [] = Unit {0}
+Joins (m ∷ ms) = (are-equal ms (m .a) (m .b) ≡ false) × Joins ms
 
 -- ---- steps
 

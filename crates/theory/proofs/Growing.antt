@@ -11,9 +11,9 @@ use lib.Dec.{eqb, leb}
 use lib.ListN.{length, set}
 use Rattle.core.specs.Lists.{In}
 use Rattle.core.specs.Table.{word}
-use Rattle.theory.specs.EqEngine.{Merge, classes, find, are-equal, pairs-of, pairs-in-force, Step, before, way}
-use Rattle.theory.specs.Table.{merges#, level-word, parent-word, size-word, fparent-word, fedge-word, a-word, b-word, kind-word, value-word, low-word, froot-word, after-word, label, begins, just-at, merge-at, value-start, merges-below, merges, low-root, high-root, parent, end, BothSides, FirstEdge, Justified, EqualPairs, Sound}
-use Rattle.theory.specs.Steps.{SameLog, Spliced, United, lower, higher, Logged, Joinable}
+use Rattle.theory.specs.EqEngine.{Merge, lower, higher, classes, find, are-equal, pairs-of, pairs-in-force, Step, before, way}
+use Rattle.theory.specs.Table.{merges#, level-word, parent-word, size-word, fparent-word, fedge-word, a-word, b-word, label-word, value-word, low-word, froot-word, after-word, label, begins, just-at, merge-at, pairs-start, merges-below, merges, low-root, high-root, parent, end, BothSides, FirstEdge, Justified, EqualPairs, Sound}
+use Rattle.theory.specs.Steps.{SameLog, Spliced, United, Logged, Joinable}
 use Rattle.theory.proofs.Members.{in-right}
 use Rattle.theory.proofs.Classes.{turned-sides}
 use Rattle.theory.proofs.Explain.{justified-joins}
@@ -48,8 +48,8 @@ pub record Grown (t u : List ℕ) (m : Merge) : Type 0 where
   pub pairs : EqualPairs (merges t) (pairs-of (m .just))
   pub low : low-word u (merges# t) ≡ low-root (merges t) m
   pub froot : froot-word u (merges# t) ≡ end (m .a) (way (merges t) (m .a))
-  pub start : value-start u (merges# t) ≡ pairs-in-force (merges t)
-  pub fit : (value-start u (merges# t) ≤ after-word u (merges# t)) × (after-word u (merges# t) ≤ 2048)
+  pub start : pairs-start u (merges# t) ≡ pairs-in-force (merges t)
+  pub fit : (pairs-start u (merges# t) ≤ after-word u (merges# t)) × (after-word u (merges# t) ≤ 2048)
   pub parents : (x : ℕ) → x < 1024 → parent-word u x ≡ parent (m ∷ merges t) x
   pub sizes : (x : ℕ) → x < 1024 → size-word u x ≡ classes (m ∷ merges t) .size x
   pub forest : (x : ℕ) → x < 1024 → FirstEdge u x (way (m ∷ merges t) x)
@@ -70,7 +70,7 @@ module _ (t u : List ℕ) (m : Merge) (z : Sound t) (g : Grown t u m) where
   unfolding merges merges-below
   grown-merges = ap (merges-below u) (g .count) ∙ ap₂ (λ (x : Merge) (xs : List Merge). x ∷ xs) (g .new) rest
 
-  kind-now : kind-word u (merges# t) / 262144 ≡ level-word t
+  kind-now : label-word u (merges# t) / 262144 ≡ level-word t
   unfolding merge-at
   kind-now = ap (λ (x : Merge). x .level) (g .new) ∙ g .now
 
@@ -113,16 +113,16 @@ module _ (t u : List ℕ) (m : Merge) (z : Sound t) (g : Grown t u m) where
         (λ i h. g .log .entries i h .froot ∙ z .froot i h ∙ ap₂ (λ (ms : List Merge) (a : ℕ). end a (way ms a)) (sym (older i h)) (sym (g .log .entries i h .a)))
         (g .froot ∙ ap₂ (λ (ms : List Merge) (a : ℕ). end a (way ms a)) (sym rest) (sym side-a));
     levels-fit = let l = g .level in let f = z .levels-fit in omega arith;
-    levels = every-merge (λ i. kind-word u i / 262144 ≤ level-word u)
+    levels = every-merge (λ i. label-word u i / 262144 ≤ level-word u)
         (λ i h. let e = ap (λ (w : ℕ). w / 262144) (g .log .entries i h .kind) in let f = z .levels i h in let l = g .level in omega arith)
         (let e = kind-now in let l = g .level in omega arith);
-    levels-rise = λ i h. every-merge (λ j. suc i ≡ j → kind-word u i / 262144 ≤ kind-word u j / 262144)
+    levels-rise = λ i h. every-merge (λ j. suc i ≡ j → label-word u i / 262144 ≤ label-word u j / 262144)
         (λ j l q.
         let k : i < merges# t = omega arith in
         let a = ap (λ (w : ℕ). w / 262144) (g .log .entries i k .kind) in
         let b = ap (λ (w : ℕ). w / 262144) (g .log .entries j l .kind) in
         let f = z .levels-rise i (subst (λ (x : ℕ). x < merges# t) (sym q) l) in
-        let d = ap (λ (x : ℕ). kind-word t x / 262144) q in
+        let d = ap (λ (x : ℕ). label-word t x / 262144) q in
         omega arith)
         (λ q.
         let k : i < merges# t = omega arith in
@@ -131,10 +131,10 @@ module _ (t u : List ℕ) (m : Merge) (z : Sound t) (g : Grown t u m) where
         let f = z .levels i k in
         omega arith)
         (suc i) h refl;
-    starts = every-merge (λ i. value-start u i ≡ pairs-in-force (merges-below u i))
+    starts = every-merge (λ i. pairs-start u i ≡ pairs-in-force (merges-below u i))
         (λ i h. start-same t u i (g .log .entries i h) ∙ z .starts i h ∙ ap pairs-in-force (sym (older i h)))
         (g .start ∙ ap pairs-in-force (sym rest));
-    pairs-fit = every-merge (λ i. (value-start u i ≤ after-word u i) × (after-word u i ≤ 2048))
+    pairs-fit = every-merge (λ i. (pairs-start u i ≤ after-word u i) × (after-word u i ≤ 2048))
         (λ i h.
         let f = z .pairs-fit i h in
         let a = start-same t u i (g .log .entries i h) in
@@ -221,7 +221,7 @@ module _ (t s u : List ℕ) (m : Merge) (z : Sound t) (two : are-equal (merges t
 
 -- ---- all steps together
 
-module _ (t t₁ t₂ t₃ t₄ : List ℕ) (a b kind h v e ra rb : ℕ) (z : Sound t) (J : Joinable t a b kind h v e) (fa : ra ≡ find (merges t) a) (fb : rb ≡ find (merges t) b) (c₁ : Spliced t t₁ a b (merges# t)) (c₂ : United t₁ t₂ (lower t₁ ra rb) (higher t₁ ra rb) (merges# t)) (c₃ : Logged t₂ t₃ (merges# t) a b (262144 * level-word t + 65536 * kind + h) v e) (e₄ : t₄ ≡ set t₃ 0 (merges# t + 1)) where
+module _ (t t₁ t₂ t₃ t₄ : List ℕ) (a b kind h v e ra rb : ℕ) (z : Sound t) (J : Joinable t a b kind h v e) (fa : ra ≡ find (merges t) a) (fb : rb ≡ find (merges t) b) (c₁ : Spliced t t₁ a b (merges# t)) (c₂ : United t₁ t₂ (lower (size-word t₁) ra rb) (higher (size-word t₁) ra rb) (merges# t)) (c₃ : Logged t₂ t₃ (merges# t) a b (262144 * level-word t + 65536 * kind + h) v e) (e₄ : t₄ ≡ set t₃ 0 (merges# t + 1)) where
   m : Merge
   m = record { a = a; b = b; just = label t kind h v e; level = level-word t }
 
@@ -243,11 +243,11 @@ module _ (t t₁ t₂ t₃ t₄ : List ℕ) (a b kind h v e ra rb : ℕ) (z : So
   compared : leb (size-word t₁ rb) (size-word t₁ ra) ≡ leb (classes (merges t) .size (find (merges t) b)) (classes (merges t) .size (find (merges t) a))
   compared = ap₂ leb (size-then rb root-b ∙ ap (λ (k : ℕ). classes (merges t) .size k) fb) (size-then ra root-a ∙ ap (λ (k : ℕ). classes (merges t) .size k) fa)
 
-  lower-is : lower t₁ ra rb ≡ low-root (merges t) m
+  lower-is : lower (size-word t₁) ra rb ≡ low-root (merges t) m
   unfolding lower low-root find m
   lower-is = ap (λ (d : Bool). cond d rb ra) compared ∙ ap₂ (λ (x y : ℕ). cond (leb (classes (merges t) .size (find (merges t) b)) (classes (merges t) .size (find (merges t) a))) x y) fb fa
 
-  higher-is : higher t₁ ra rb ≡ high-root (merges t) m
+  higher-is : higher (size-word t₁) ra rb ≡ high-root (merges t) m
   unfolding higher high-root find m
   higher-is = ap (λ (d : Bool). cond d ra rb) compared ∙ ap₂ (λ (x y : ℕ). cond (leb (classes (merges t) .size (find (merges t) b)) (classes (merges t) .size (find (merges t) a))) x y) fa fb
 
@@ -258,7 +258,7 @@ module _ (t t₁ t₂ t₃ t₄ : List ℕ) (a b kind h v e ra rb : ℕ) (z : So
       (log-then t₁ t₂ t₄ (merges# t) (log-but t₁ t₂ 8256 (merges# t) refl (omega arith) f (λ k l d. c₂ .behind k (omega arith) d))
       (log-then t₂ t₃ t₄ (merges# t) (c₃ .older) (log-words t₃ t₄ (merges# t) (λ k l. last k (omega arith)))))
 
-  kind-then : kind-word t₄ (merges# t) ≡ w
+  kind-then : label-word t₄ (merges# t) ≡ w
   unfolding w
   kind-then = last (6208 + merges# t) (omega arith) ∙ c₃ .kind
 
@@ -273,7 +273,7 @@ module _ (t t₁ t₂ t₃ t₄ : List ℕ) (a b kind h v e ra rb : ℕ) (z : So
       let f = z .fewer in
       last k (omega arith) ∙ c₃ .pairs k l ∙ c₂ .behind k (omega arith) (λ q. absurd (omega arith)) ∙ c₁ .behind k (omega arith) (λ q. absurd (omega arith))
 
-  code : kind-word t₄ (merges# t) / 65536 % 4 ≡ kind
+  code : label-word t₄ (merges# t) / 65536 % 4 ≡ kind
   unfolding w
   code = ap (λ (k : ℕ). k / 65536 % 4) kind-then ∙ kind-kind (level-word t) kind h (J .known) (J .theory)
 
@@ -285,8 +285,8 @@ module _ (t t₁ t₂ t₃ t₄ : List ℕ) (a b kind h v e ra rb : ℕ) (z : So
       ∙ ap₂ (label t₄ kind h) value-then after-then
       ∙ label-same t t₄ kind h v e (λ j l. (pairs-then (11328 + j) (omega arith), pairs-then (13376 + j) (omega arith)))
 
-  start-then : value-start t₄ (merges# t) ≡ begins kind v e
-  unfolding value-start
+  start-then : pairs-start t₄ (merges# t) ≡ begins kind v e
+  unfolding pairs-start
   start-then = ap (λ (k : ℕ). begins k (value-word t₄ (merges# t)) (after-word t₄ (merges# t))) code ∙ ap₂ (begins kind) value-then after-then
 
   merge-then : merge-at t₄ (merges# t) ≡ m
@@ -295,7 +295,7 @@ module _ (t t₁ t₂ t₃ t₄ : List ℕ) (a b kind h v e ra rb : ℕ) (z : So
       let p : a-word t₄ (merges# t) ≡ a = last (4160 + merges# t) (omega arith) ∙ c₃ .sides .0 in
       let q : b-word t₄ (merges# t) ≡ b = last (5184 + merges# t) (omega arith) ∙ c₃ .sides .1 in
       let j = just-then in
-      let l : kind-word t₄ (merges# t) / 262144 ≡ level-word t = ap (λ (k : ℕ). k / 262144) kind-then ∙ kind-level (level-word t) kind h (J .known) (J .theory) in
+      let l : label-word t₄ (merges# t) / 262144 ≡ level-word t = ap (λ (k : ℕ). k / 262144) kind-then ∙ kind-level (level-word t) kind h (J .known) (J .theory) in
       λ n. record { a = p n; b = q n; just = j n; level = l n }
 
   count-then : merges# t₄ ≡ suc (merges# t)
@@ -348,7 +348,7 @@ module _ (t t₁ t₂ t₃ t₄ : List ℕ) (a b kind h v e ra rb : ℕ) (z : So
     nodes = J .nodes;
     two = J .two;
     pairs = J .pairs;
-    low = last (8256 + merges# t) (omega arith) ∙ c₃ .roots .0 ∙ c₂ .old-low ∙ lower-is;
+    low = last (8256 + merges# t) (omega arith) ∙ c₃ .roots .0 ∙ c₂ .low-noted ∙ lower-is;
     froot =
         last (9280 + merges# t) (omega arith) ∙ c₃ .roots .1
         ∙ c₂ .behind (9280 + merges# t) (omega arith) (λ q. absurd (omega arith)) ∙ c₁ .old-root;
@@ -364,11 +364,11 @@ module _ (t t₁ t₂ t₃ t₄ : List ℕ) (a b kind h v e ra rb : ℕ) (z : So
   joined = (grown-sound t t₄ m z grown, grown-merges t t₄ m z grown, grown .level)
 
 -- the same for the count and the level as they were read
-pub joined-at : (t t₁ t₂ t₃ t₄ : List ℕ) (a b kind h v e ra rb i l : ℕ) → Sound t → Joinable t a b kind h v e → i ≡ word t 0 → l ≡ word t 1 → ra ≡ find (merges t) a → rb ≡ find (merges t) b → Spliced t t₁ a b i → United t₁ t₂ (lower t₁ ra rb) (higher t₁ ra rb) i → Logged t₂ t₃ i a b (262144 * l + 65536 * kind + h) v e → t₄ ≡ set t₃ 0 (i + 1) → Sound t₄ × (merges t₄ ≡ record { a = a; b = b; just = label t kind h v e; level = level-word t } ∷ merges t) × (level-word t₄ ≡ level-word t)
+pub joined-at : (t t₁ t₂ t₃ t₄ : List ℕ) (a b kind h v e ra rb i l : ℕ) → Sound t → Joinable t a b kind h v e → i ≡ word t 0 → l ≡ word t 1 → ra ≡ find (merges t) a → rb ≡ find (merges t) b → Spliced t t₁ a b i → United t₁ t₂ (lower (size-word t₁) ra rb) (higher (size-word t₁) ra rb) i → Logged t₂ t₃ i a b (262144 * l + 65536 * kind + h) v e → t₄ ≡ set t₃ 0 (i + 1) → Sound t₄ × (merges t₄ ≡ record { a = a; b = b; just = label t kind h v e; level = level-word t } ∷ merges t) × (level-word t₄ ≡ level-word t)
 joined-at t t₁ t₂ t₃ t₄ a b kind h v e ra rb i l z J p q fa fb c₁ c₂ c₃ e₄ =
     joined t t₁ t₂ t₃ t₄ a b kind h v e ra rb z J fa fb
     (subst (Spliced t t₁ a b) p c₁)
-    (subst (United t₁ t₂ (lower t₁ ra rb) (higher t₁ ra rb)) p c₂)
+    (subst (United t₁ t₂ (lower (size-word t₁) ra rb) (higher (size-word t₁) ra rb)) p c₂)
     (subst (λ (k : ℕ). Logged t₂ t₃ k a b (262144 * level-word t + 65536 * kind + h) v e) p (subst (λ (k : ℕ). Logged t₂ t₃ i a b (262144 * k + 65536 * kind + h) v e) q c₃))
     (e₄ ∙ ap (λ (k : ℕ). set t₃ 0 (k + 1)) p)
 

@@ -14,7 +14,7 @@ use Rattle.theory.specs.declared.eq_engine.LabelWords as LabelWords
 use Rattle.theory.specs.EqEngine.{Merge, are-equal, merge, pairs-of, pairs-in-force, way}
 use Rattle.theory.specs.Table.{merges#, level-word, left-word, right-word, label, begins, merges, justIs, EqualPairs, Sound}
 use Rattle.theory.specs.Steps.{SameLog, Joinable, HoldsLabel, Copied}
-use Rattle.theory.proofs.Pairs.{after-within}
+use Rattle.theory.proofs.Pairs.{pairs-more, after-within}
 use Rattle.theory.proofs.Shorter.{edge-kept, Shortened, shorter-sound, shorter-merges}
 
 -- ---- the list
@@ -91,6 +91,29 @@ pub merged-label : (t u : List ℕ) (a b n : ℕ) (j : Given.EqJust) (w : LabelW
 merged-label t u a b n j w e h r = merged-two t u a b (label t (w .kind) (w .theory) (w .value) n) (justIs j) e (plain t n j w h .is) r
 
 -- ---- a label of pairs
+
+zip-length : (xs ys : List ℕ) → length xs ≡ length ys → length (zip xs ys) ≡ length xs
+unfolding zip
+zip-length [] ys e = refl
+zip-length (x ∷ xs) [] e = absurd (omega arith)
+zip-length (x ∷ xs) (y ∷ ys) e = ap suc (zip-length xs ys (omega arith))
+
+-- a merge whose pairs fit leaves room for them
+pub pairs-room : (ms : List Merge) (l a b start : ℕ) (xs ys : List ℕ) → are-equal ms a b ≡ false → pairs-in-force (merge ms l a b (Congruence (zip xs ys))) ≤ 2048 → length xs ≡ length ys → start ≡ pairs-in-force ms → start + length xs ≤ 2048
+unfolding pairs-of
+pairs-room ms l a b start xs ys two f e p =
+    let q = ap pairs-in-force (merge-two ms l a b (Congruence (zip xs ys)) two) ∙ pairs-more (record { a = a; b = b; just = Congruence (zip xs ys); level = l }) ms in
+    let z = zip-length xs ys e in
+    omega arith
+
+-- and pairs for which there is room fit
+pub pairs-fit-in : (ms : List Merge) (l a b : ℕ) (ps : List (ℕ × ℕ)) → pairs-in-force ms + length ps ≤ 2048 → pairs-in-force (merge ms l a b (Congruence ps)) ≤ 2048
+unfolding merge pairs-of
+pairs-fit-in ms l a b ps f = go (are-equal ms a b)
+  where
+    go : (d : Bool) → pairs-in-force (cond d ms (record { a = a; b = b; just = Congruence ps; level = l } ∷ ms)) ≤ 2048
+    go true = omega arith
+    go false = omega (arith, pairs-more (record { a = a; b = b; just = Congruence ps; level = l }) ms)
 
 -- pairs by their places
 module _ (f g : ℕ → ℕ) where

@@ -8,7 +8,7 @@ use Rattle.core.specs.Table.{word}
 use Rattle.core.proofs.Lists.{map-range-cong}
 use Rattle.theory.specs.Types.{Congruence}
 use Rattle.theory.specs.EqEngine.{Merge}
-use Rattle.theory.specs.Table.{merges#, kind-word, value-word, after-word, left-word, right-word, label, begins, kind-of, just-at, merge-at, value-start, merges-below, merges}
+use Rattle.theory.specs.Table.{merges#, label-word, value-word, after-word, left-word, right-word, label, begins, kind-of, just-at, merge-at, pairs-start, merges-below, merges}
 use Rattle.theory.specs.Steps.{SameEntry, SamePairs, SameLog}
 
 pub label-same : (t u : List ℕ) (k h v e : ℕ) → SamePairs t u e → label u k h v e ≡ label t k h v e
@@ -23,8 +23,8 @@ pub just-same : (t u : List ℕ) (i : ℕ) → SameEntry t u i → SamePairs t u
 unfolding just-at
 just-same t u i s p =
     ap (λ (w : ℕ). label u (w / 65536 % 4) (w % 65536) (value-word u i) (after-word u i)) (s .kind)
-    ∙ ap₂ (label u (kind-of t i) (kind-word t i % 65536)) (s .value) (s .after)
-    ∙ label-same t u (kind-of t i) (kind-word t i % 65536) (value-word t i) (after-word t i) p
+    ∙ ap₂ (label u (kind-of t i) (label-word t i % 65536)) (s .value) (s .after)
+    ∙ label-same t u (kind-of t i) (label-word t i % 65536) (value-word t i) (after-word t i) p
 
 pub merge-same : (t u : List ℕ) (i : ℕ) → SameEntry t u i → SamePairs t u (after-word t i) → merge-at u i ≡ merge-at t i
 unfolding merge-at
@@ -35,8 +35,8 @@ merge-same t u i s p =
     let k = ap (λ (w : ℕ). w / 262144) (s .kind) in
     λ n. record { a = a n; b = b n; just = j n; level = k n }
 
-pub start-same : (t u : List ℕ) (i : ℕ) → SameEntry t u i → value-start u i ≡ value-start t i
-unfolding value-start
+pub start-same : (t u : List ℕ) (i : ℕ) → SameEntry t u i → pairs-start u i ≡ pairs-start t i
+unfolding pairs-start
 start-same t u i s = ap (λ (w : ℕ). begins (w / 65536 % 4) (value-word u i) (after-word u i)) (s .kind) ∙ ap₂ (begins (kind-of t i)) (s .value) (s .after)
 
 pub log-shorter : (t u : List ℕ) (n m : ℕ) → m ≤ n → SameLog t u n → SameLog t u m

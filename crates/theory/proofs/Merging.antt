@@ -11,9 +11,9 @@ use lib.ListN.{length, set}
 use borrow.Author.Tests.{eq-eqb, ne-eqb, le-leb, lt-leb}
 use Rattle.core.specs.Lists.{In}
 use Rattle.core.specs.Table.{word}
-use Rattle.theory.specs.EqEngine.{Step, before, way}
+use Rattle.theory.specs.EqEngine.{lower, higher, Step, before, way}
 use Rattle.theory.specs.Table.{parent-word, size-word, merges, end, Sound}
-use Rattle.theory.specs.Steps.{On, Rerooted, Spliced, United, lower, higher, Logged}
+use Rattle.theory.specs.Steps.{On, Rerooted, Spliced, United, Logged}
 use Rattle.theory.proofs.Forest.{before-end, apart}
 use Rattle.theory.proofs.Walks.{sound-forest, way-within}
 use Rattle.theory.proofs.Turning.{in-ups}
@@ -116,16 +116,16 @@ module _ (t t₁ t₂ t₃ : List ℕ) (low high i n : ℕ) (l : 16384 ≤ lengt
         behind = λ m h d. other m (λ r. absurd (omega arith)) (λ r. absurd (omega arith)) d;
         parents = λ x h. parent-now x h (ℕ-discrete x low);
         sizes = λ x h. size-now x h (ℕ-discrete x high);
-        old-low = word-put t₂ t₃ (8256 + i) low e₃ (omega arith);
+        low-noted = word-put t₂ t₃ (8256 + i) low e₃ (omega arith);
       }
 
 -- the two roots by the test of their sizes
-pub united-second : (t u : List ℕ) (ra rb i x y : ℕ) → x ≡ size-word t rb → y ≡ size-word t ra → x ≤ y → United t u rb ra i → United t u (lower t ra rb) (higher t ra rb) i
+pub united-second : (t u : List ℕ) (ra rb i x y : ℕ) → x ≡ size-word t rb → y ≡ size-word t ra → x ≤ y → United t u rb ra i → United t u (lower (size-word t) ra rb) (higher (size-word t) ra rb) i
 unfolding lower higher
 united-second t u ra rb i x y p q h c =
     subst (λ (v : Bool). United t u (cond v rb ra) (cond v ra rb) i) (sym (le-leb (size-word t rb) (size-word t ra) (omega arith))) c
 
-pub united-first : (t u : List ℕ) (ra rb i x y : ℕ) → x ≡ size-word t rb → y ≡ size-word t ra → y < x → United t u ra rb i → United t u (lower t ra rb) (higher t ra rb) i
+pub united-first : (t u : List ℕ) (ra rb i x y : ℕ) → x ≡ size-word t rb → y ≡ size-word t ra → y < x → United t u ra rb i → United t u (lower (size-word t) ra rb) (higher (size-word t) ra rb) i
 unfolding lower higher
 united-first t u ra rb i x y p q h c =
     subst (λ (v : Bool). United t u (cond v rb ra) (cond v ra rb) i) (sym (lt-leb (size-word t rb) (size-word t ra) (omega arith))) c

@@ -7,7 +7,8 @@ use native.Mathlib.Omega.{arith}
 use Rattle.core.specs.Table.{word}
 use Rattle.core.proofs.Lists.{In}
 use Rattle.theory.specs.EqEngine.{Merge, find}
-use Rattle.theory.specs.Table.{merges#, merge-at, merges-below, merges, parent, Joins, Sound}
+use Rattle.theory.specs.Table.{merges#, merge-at, merges-below, merges, parent, Sound}
+use Rattle.theory.proofs.Forest.{Joins}
 use Rattle.theory.proofs.Sizes.{Within}
 use Rattle.theory.proofs.Explain.{justified-joins}
 use Rattle.theory.proofs.UnionFind.{Up, up, depth, parent-within}

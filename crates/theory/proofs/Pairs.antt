@@ -9,9 +9,9 @@ use Rattle.core.specs.Lists.{total}
 use Rattle.core.specs.Table.{word}
 use Rattle.core.proofs.Lists.{length-map-range}
 use Rattle.theory.specs.EqEngine.{Merge, pairs-of, pairs-in-force}
-use Rattle.theory.specs.Table.{merges#, kind-word, value-word, after-word, left-word, right-word, label, begins, kind-of, just-at, merge-at, value-start, merges-below, merges, Sound}
+use Rattle.theory.specs.Table.{merges#, label-word, value-word, after-word, left-word, right-word, label, begins, kind-of, just-at, merge-at, pairs-start, merges-below, merges, Sound}
 
-pairs-more : (m : Merge) (ms : List Merge) → pairs-in-force (m ∷ ms) ≡ length (pairs-of (m .just)) + pairs-in-force ms
+pub pairs-more : (m : Merge) (ms : List Merge) → pairs-in-force (m ∷ ms) ≡ length (pairs-of (m .just)) + pairs-in-force ms
 unfolding pairs-in-force total
 pairs-more m ms = refl
 
@@ -22,10 +22,10 @@ label-length t (suc zero) h v e l = let q = length-map-range {A = ℕ × ℕ} (�
 label-length t (suc (suc k)) h v e l = omega arith
 
 after-is : (t : List ℕ) (i : ℕ) → Sound t → i < merges# t → after-word t i ≡ pairs-in-force (merges-below t (suc i))
-unfolding merges-below merge-at just-at value-start
+unfolding merges-below merge-at just-at pairs-start
 after-is t i z h =
     let s = z .starts i h in
-    let e = label-length t (kind-of t i) (kind-word t i % 65536) (value-word t i) (after-word t i) (z .pairs-fit i h .0) in
+    let e = label-length t (kind-of t i) (label-word t i % 65536) (value-word t i) (after-word t i) (z .pairs-fit i h .0) in
     let p = pairs-more (merge-at t i) (merges-below t i) in
     omega arith
 

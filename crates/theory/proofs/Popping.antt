@@ -10,7 +10,7 @@ use lib.ListN.{length, set}
 use borrow.Author.Tests.{ltb-true, ltb-false, le-ltb, le-leb, lt-leb}
 use Rattle.core.specs.Table.{word}
 use Rattle.theory.specs.EqEngine.{Merge, pop-merges}
-use Rattle.theory.specs.Table.{merges#, level-word, kind-word, merge-at, merges-below, merges, Sound}
+use Rattle.theory.specs.Table.{merges#, level-word, label-word, merge-at, merges-below, merges, Sound}
 use Rattle.theory.specs.Steps.{newest-above}
 use Rattle.theory.proofs.Puts.{word-put, word-kept, length-put}
 use Rattle.theory.proofs.Shorter.{level-changed}
@@ -87,22 +87,22 @@ popping-done t₀ t k c e = (c .sound, sym (pop-rests k (merges t) e) ∙ c .res
 -- ---- the level
 
 -- levels rise up to that of the newest merge
-level-newest : (t : List ℕ) (n : ℕ) → Sound t → n < merges# t → (i : ℕ) → i ≤ n → kind-word t i / 262144 ≤ kind-word t n / 262144
-level-newest t zero z h i l = let e : i ≡ 0 = omega arith in let q = ap (λ (j : ℕ). kind-word t j / 262144) e in omega arith
+level-newest : (t : List ℕ) (n : ℕ) → Sound t → n < merges# t → (i : ℕ) → i ≤ n → label-word t i / 262144 ≤ label-word t n / 262144
+level-newest t zero z h i l = let e : i ≡ 0 = omega arith in let q = ap (λ (j : ℕ). label-word t j / 262144) e in omega arith
 level-newest t (suc n) z h i l = go (decLe i n) (level-newest t n z (omega arith) i)
   where
-    go : Dec (i ≤ n) → (i ≤ n → kind-word t i / 262144 ≤ kind-word t n / 262144) → kind-word t i / 262144 ≤ kind-word t (suc n) / 262144
+    go : Dec (i ≤ n) → (i ≤ n → label-word t i / 262144 ≤ label-word t n / 262144) → label-word t i / 262144 ≤ label-word t (suc n) / 262144
     go (yes g) f = let a = f g in let b = z .levels-rise n h in omega arith
-    go (no g) f = let e : i ≡ suc n = omega arith in let q = ap (λ (j : ℕ). kind-word t j / 262144) e in omega arith
+    go (no g) f = let e : i ≡ suc n = omega arith in let q = ap (λ (j : ℕ). label-word t j / 262144) e in omega arith
 
 -- with no merge above k in front, none is above k
-all-below : (t : List ℕ) (k : ℕ) → Sound t → newest-above k (merges t) ≡ false → (i : ℕ) → i < merges# t → kind-word t i / 262144 ≤ k
+all-below : (t : List ℕ) (k : ℕ) → Sound t → newest-above k (merges t) ≡ false → (i : ℕ) → i < merges# t → label-word t i / 262144 ≤ k
 unfolding merges merges-below merge-at newest-above
 all-below t k z e i h = go (merges# t) refl e
   where
-    go : (n : ℕ) → merges# t ≡ n → newest-above k (merges-below t n) ≡ false → kind-word t i / 262144 ≤ k
+    go : (n : ℕ) → merges# t ≡ n → newest-above k (merges-below t n) ≡ false → label-word t i / 262144 ≤ k
     go zero q f = absurd (omega arith)
-    go (suc n) q f = let a = ltb-false k (kind-word t n / 262144) f in let b = level-newest t n z (omega arith) i (omega arith) in omega arith
+    go (suc n) q f = let a = ltb-false k (label-word t n / 262144) f in let b = level-newest t n z (omega arith) i (omega arith) in omega arith
 
 -- what a pop asks of the table after it
 abbrev pub Popped : List ℕ → List ℕ → ℕ → Type 0
@@ -115,7 +115,7 @@ none-above t k z l = go (merges# t) refl
   where
     go : (n : ℕ) → merges# t ≡ n → newest-above k (merges-below t n) ≡ false
     go zero q = refl
-    go (suc n) q = let a = z .levels n (omega arith) in le-ltb k (kind-word t n / 262144) (omega arith)
+    go (suc n) q = let a = z .levels n (omega arith) in le-ltb k (label-word t n / 262144) (omega arith)
 
 pub popped-none : (t : List ℕ) (k n : ℕ) → Sound t → n ≡ word t 1 → n ≤ k → Popped t t k
 popped-none t k n z e l = (

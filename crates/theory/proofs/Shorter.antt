@@ -10,7 +10,7 @@ use lib.ListN.{length, set}
 use Rattle.core.specs.Lists.{In}
 use Rattle.core.specs.Table.{word}
 use Rattle.theory.specs.EqEngine.{Merge, classes, pairs-in-force, Step, way}
-use Rattle.theory.specs.Table.{merges#, level-word, parent-word, size-word, fparent-word, fedge-word, kind-word, just-at, merge-at, merges-below, merges, low-root, parent, end, BothSides, FirstEdge, Justified, Sound}
+use Rattle.theory.specs.Table.{merges#, level-word, parent-word, size-word, fparent-word, fedge-word, label-word, just-at, merge-at, merges-below, merges, low-root, parent, end, BothSides, FirstEdge, Justified, Sound}
 use Rattle.theory.specs.Steps.{SameLog}
 use Rattle.theory.proofs.Classes.{Suffix, in-suffix}
 use Rattle.theory.proofs.Explain.{justified-suffix}
@@ -52,7 +52,7 @@ pub record Shortened (t u : List ℕ) (n : ℕ) : Type 0 where
   pub count : merges# u ≡ n
   pub log : SameLog t u n
   pub levels-fit : level-word u ≤ 64
-  pub levels : (i : ℕ) → i < n → kind-word t i / 262144 ≤ level-word u
+  pub levels : (i : ℕ) → i < n → label-word t i / 262144 ≤ level-word u
   pub parents : (x : ℕ) → x < 1024 → parent-word u x ≡ parent (merges-below t n) x
   pub sizes : (x : ℕ) → x < 1024 → size-word u x ≡ classes (merges-below t n) .size x
   pub forest : (x : ℕ) → x < 1024 → FirstEdge u x (way (merges-below t n) x)
@@ -94,8 +94,8 @@ module _ (t u : List ℕ) (n : ℕ) (z : Sound t) (s : Shortened t u n) where
     levels = λ i h. let k = there i h in subst (λ (w : ℕ). w / 262144 ≤ level-word u) (sym (s .log .entries i k .kind)) (s .levels i k);
     levels-rise = λ i h. let k = there (suc i) h in
         let j : i < n = omega arith in
-        subst (λ (w : ℕ). w / 262144 ≤ kind-word u (suc i) / 262144) (sym (s .log .entries i j .kind))
-        (subst (λ (w : ℕ). kind-word t i / 262144 ≤ w / 262144) (sym (s .log .entries (suc i) k .kind)) (z .levels-rise i (inside (suc i) k)));
+        subst (λ (w : ℕ). w / 262144 ≤ label-word u (suc i) / 262144) (sym (s .log .entries i j .kind))
+        (subst (λ (w : ℕ). label-word t i / 262144 ≤ w / 262144) (sym (s .log .entries (suc i) k .kind)) (z .levels-rise i (inside (suc i) k)));
     starts = λ i h. let k = there i h in
         start-same t u i (s .log .entries i k) ∙ z .starts i (inside i k) ∙ ap pairs-in-force (sym (older i k));
     pairs-fit = λ i h. let k = there i h in
@@ -115,7 +115,7 @@ module _ (t u : List ℕ) (z : Sound t) (l : length u ≡ length t) (k : (i : �
   same-log : SameLog t u (merges# t)
   same-log = log-words t u (merges# t) (λ i h. k i (λ e. absurd (omega arith)))
 
-  levelled : level-word u ≤ 64 → ((i : ℕ) → i < merges# t → kind-word t i / 262144 ≤ level-word u) → Shortened t u (merges# t)
+  levelled : level-word u ≤ 64 → ((i : ℕ) → i < merges# t → label-word t i / 262144 ≤ level-word u) → Shortened t u (merges# t)
   unfolding merges
   levelled f g = record {
     long = let m = z .long in omega arith;
@@ -129,7 +129,7 @@ module _ (t u : List ℕ) (z : Sound t) (l : length u ≡ length t) (k : (i : �
     forest = λ x h. edge-kept t u x (way (merges t) x) same-log (let c = k 0 (λ e. absurd (omega arith)) in omega arith) (k (2112 + x) (λ e. absurd (omega arith))) (k (3136 + x) (λ e. absurd (omega arith))) (z .forest x h);
   }
 
-  pub level-changed : level-word u ≤ 64 → ((i : ℕ) → i < merges# t → kind-word t i / 262144 ≤ level-word u) → Sound u × (merges u ≡ merges t)
+  pub level-changed : level-word u ≤ 64 → ((i : ℕ) → i < merges# t → label-word t i / 262144 ≤ level-word u) → Sound u × (merges u ≡ merges t)
   unfolding merges
   level-changed f g = (shorter-sound t u (merges# t) z (levelled f g), shorter-merges t u (merges# t) z (levelled f g))
 

@@ -12,11 +12,11 @@ use borrow.Author.Tests.{eq-eqb, ne-eqb}
 use Rattle.core.specs.Lists.{In}
 use Rattle.core.specs.Table.{word}
 use Rattle.theory.specs.EqEngine.{Merge, classes, find, Step, before, turned, way}
-use Rattle.theory.specs.Table.{merges#, level-word, parent-word, size-word, fparent-word, fedge-word, a-word, low-word, froot-word, merge-at, merges-below, merges, low-root, high-root, parent, end, BothSides, FirstEdge, Joins, Sound}
+use Rattle.theory.specs.Table.{merges#, level-word, parent-word, size-word, fparent-word, fedge-word, a-word, low-word, froot-word, merge-at, merges-below, merges, low-root, high-root, parent, end, BothSides, FirstEdge, Sound}
 use Rattle.theory.specs.Steps.{SameLog, On, Rerooted, Separated}
 use Rattle.theory.proofs.Members.{in-right}
 use Rattle.theory.proofs.Classes.{Same, unequal, turned-sides}
-use Rattle.theory.proofs.Forest.{Forest, Above, way-over, above?, split, apart, back, new-step, end-on, end-above, step-above, way-forest, step-same, before-skip, before-stop, turned-in, in-turned, turned-above, other-stays, other-root, from-old-root}
+use Rattle.theory.proofs.Forest.{Joins, Forest, Above, way-over, above?, split, apart, back, new-step, end-on, end-above, step-above, way-forest, step-same, before-skip, before-stop, turned-in, in-turned, turned-above, other-stays, other-root, from-old-root}
 use Rattle.theory.proofs.Sizes.{Within}
 use Rattle.theory.proofs.UnionFind.{size-more, low-within, high-within, roots-apart, low-parent, parent-low, parent-kept}
 use Rattle.theory.proofs.Nodes.{merges-within, sound-joins}
@@ -97,8 +97,8 @@ module _ (t : List ℕ) (i : ℕ) (z : Sound t) (N : merges# t ≡ suc i) where
   unfolding merge-at
   old-root = z .froot i in-log
 
-  old-low : low-word t i ≡ low-root ms m
-  old-low = z .low i in-log
+  low-noted : low-word t i ≡ low-root ms m
+  low-noted = z .low i in-log
 
   nodes : (m .a < 1024) × (m .b < 1024)
   unfolding merge-at
@@ -170,14 +170,14 @@ module _ (t : List ℕ) (i : ℕ) (z : Sound t) (N : merges# t ≡ suc i) where
   -- ---- classes
 
   pub low-node : low-word t i < 1024
-  low-node = subst (λ (k : ℕ). k < 1024) (sym old-low) (low-within 1024 m ms older-within nodes)
+  low-node = subst (λ (k : ℕ). k < 1024) (sym low-noted) (low-within 1024 m ms older-within nodes)
 
   high-node : high-root ms m < 1024
   high-node = high-within 1024 m ms older-within nodes
 
   -- what the word above the root that went under says
   high-is : parent-word t (low-word t i) ≡ high-root ms m
-  high-is = z .parents (low-word t i) low-node ∙ ap (λ (l : List Merge). parent l (low-word t i)) split-log ∙ parent-low m ms (low-word t i) old-low
+  high-is = z .parents (low-word t i) low-node ∙ ap (λ (l : List Merge). parent l (low-word t i)) split-log ∙ parent-low m ms (low-word t i) low-noted
 
   pub high-below : parent-word t (low-word t i) < 1024
   high-below = subst (λ (k : ℕ). k < 1024) (sym high-is) high-node
@@ -196,7 +196,7 @@ module _ (t : List ℕ) (i : ℕ) (z : Sound t) (N : merges# t ≡ suc i) where
       ∙ ap (λ (b : Bool). cond b (classes ms .size (low-root ms m) + classes ms .size (high-root ms m)) (classes ms .size x)) (ne-eqb x (high-root ms m) d)
 
   size-low : size-word t (low-word t i) ≡ classes ms .size (low-root ms m)
-  size-low = size-other (low-word t i) low-node (λ q. roots-apart m ms (joins .0) (sym old-low ∙ q)) ∙ ap (λ (k : ℕ). classes ms .size k) old-low
+  size-low = size-other (low-word t i) low-node (λ q. roots-apart m ms (joins .0) (sym low-noted ∙ q)) ∙ ap (λ (k : ℕ). classes ms .size k) low-noted
 
   pub low-smaller : size-word t (low-word t i) ≤ size-word t (parent-word t (low-word t i))
   low-smaller = let a = size-low in let b = ap (size-word t) high-is ∙ size-high in omega arith
@@ -228,11 +228,11 @@ module _ (t : List ℕ) (i : ℕ) (z : Sound t) (N : merges# t ≡ suc i) where
     parent-then : (x : ℕ) → x < 1024 → Dec (x ≡ low-root ms m) → parent-word t₃ x ≡ parent ms x
     parent-then x h (yes e) =
         last (64 + x) (omega arith) ∙ d .parents x h
-        ∙ ap (λ (b : Bool). cond b (low-word t i) (parent-word t₁ x)) (eq-eqb x (low-word t i) (e ∙ sym old-low))
-        ∙ old-low ∙ sym (low-parent m ms (joins .1)) ∙ ap (parent ms) (sym e)
+        ∙ ap (λ (b : Bool). cond b (low-word t i) (parent-word t₁ x)) (eq-eqb x (low-word t i) (e ∙ sym low-noted))
+        ∙ low-noted ∙ sym (low-parent m ms (joins .1)) ∙ ap (parent ms) (sym e)
     parent-then x h (no n) =
         last (64 + x) (omega arith) ∙ d .parents x h
-        ∙ ap (λ (b : Bool). cond b (low-word t i) (parent-word t₁ x)) (ne-eqb x (low-word t i) (λ q. n (q ∙ old-low)))
+        ∙ ap (λ (b : Bool). cond b (low-word t i) (parent-word t₁ x)) (ne-eqb x (low-word t i) (λ q. n (q ∙ low-noted)))
         ∙ c .before (64 + x) (omega arith) ∙ z .parents x h
         ∙ ap (λ (l : List Merge). parent l x) split-log ∙ parent-kept m ms x n
 

@@ -8,7 +8,7 @@ use native.Mathlib.Omega.{arith}
 use native.Mathlib.Decide.{ℕ-discrete}
 use lib.Dec.{eqb, leb}
 use borrow.Author.Tests.{eq-eqb, ne-eqb}
-use Rattle.theory.specs.EqEngine.{Merge, Classes, under, union, classes, find, are-equal}
+use Rattle.theory.specs.EqEngine.{Merge, Classes, under, lower, higher, union, classes, find, are-equal}
 use Rattle.theory.specs.Table.{low-root, high-root, parent}
 use Rattle.theory.proofs.Classes.{unequal, find-alone}
 use Rattle.theory.proofs.Forest.{Joins}
@@ -21,13 +21,13 @@ record Chosen (m : Merge) (ms : List Merge) (low high : ℕ) : Type 0 where
   is-under : classes (m ∷ ms) ≡ under (classes ms) low high
   rooted : ((low ≡ find ms (m .a)) × (high ≡ find ms (m .b))) ⊎ ((low ≡ find ms (m .b)) × (high ≡ find ms (m .a)))
 
-choose : (m : Merge) (ms : List Merge) (b : Bool) → union (classes ms) (m .a) (m .b) ≡ cond b (under (classes ms) (find ms (m .b)) (find ms (m .a))) (under (classes ms) (find ms (m .a)) (find ms (m .b))) → Chosen m ms (cond b (find ms (m .b)) (find ms (m .a))) (cond b (find ms (m .a)) (find ms (m .b)))
+choose : (m : Merge) (ms : List Merge) (b : Bool) → union (classes ms) (m .a) (m .b) ≡ under (classes ms) (cond b (find ms (m .b)) (find ms (m .a))) (cond b (find ms (m .a)) (find ms (m .b))) → Chosen m ms (cond b (find ms (m .b)) (find ms (m .a))) (cond b (find ms (m .a)) (find ms (m .b)))
 unfolding classes
 choose m ms true e = record { is-under = e; rooted = inr (refl, refl) }
 choose m ms false e = record { is-under = e; rooted = inl (refl, refl) }
 
 chosen : (m : Merge) (ms : List Merge) → Chosen m ms (low-root ms m) (high-root ms m)
-unfolding low-root high-root find union
+unfolding low-root high-root find union lower higher
 chosen m ms = choose m ms (leb (classes ms .size (classes ms .find (m .b))) (classes ms .size (classes ms .find (m .a)))) refl
 
 pub find-more : (m : Merge) (ms : List Merge) (x : ℕ) → find (m ∷ ms) x ≡ cond (eqb (find ms x) (low-root ms m)) (high-root ms m) (find ms x)

@@ -45,7 +45,7 @@ Labels (Interface h g) k = k ≡ InterfaceLeaf h g
 abbrev pub Cites : List Merge → EqLeaf → Type 0
 Cites ms l = (m : Merge) × In m ms × Labels (m .just) l
 
--- No leaf stands twice, and all but one label merges in force, of which there are fewer than 1,024.
+-- No leaf stands twice, and all but one label merges in force. Of a sound table there are fewer than 1,024 merges, so there is room.
 pub record AnswerSound (ms : List Merge) (o : List ℕ) : Type 0 where
   pub long : 2049 ≤ length o
   pub apart : Apart (leaves o)

@@ -33,12 +33,18 @@ under c low high = record {
   size = λ r. cond (eqb r high) (c .size low + c .size high) (c .size r);
 }
 
--- The smaller class goes under the larger; on a tie the first side's root stays.
+-- The smaller class goes under the larger; on a tie the first side's root stays. Of two roots, the one that goes under, and the other:
+unfoldable pub lower : (ℕ → ℕ) → ℕ → ℕ → ℕ
+lower size ra rb = cond (leb (size rb) (size ra)) rb ra
+
+unfoldable pub higher : (ℕ → ℕ) → ℕ → ℕ → ℕ
+higher size ra rb = cond (leb (size rb) (size ra)) ra rb
+
 unfoldable pub union : Classes → ℕ → ℕ → Classes
 union c a b =
     let ra = c .find a in
     let rb = c .find b in
-    cond (leb (c .size rb) (c .size ra)) (under c rb ra) (under c ra rb)
+    under c (lower (c .size) ra rb) (higher (c .size) ra rb)
 
 unfoldable pub classes : List Merge → Classes
 classes [] = singletons
@@ -148,7 +154,7 @@ expand-edge explain-pair (Interface h g) e = cite (InterfaceLeaf h g) e
 expand-edge explain-pair (Congruence ps) e = foldl (λ e′ (p : ℕ × ℕ). explain-pair (p .0) (p .1) e′) e ps
 
 -- Identical nodes add no leaf; an expanded pair, in either order, is skipped. The first number bounds the depth: the pairs of a
--- congruence were joined by older merges, so as many steps as there are merges are enough.
+-- congruence were joined by older merges, so one more than there are merges is enough.
 unfoldable pub explain-rec : ℕ → List Merge → ℕ → ℕ → Explained → Explained
 explain-rec zero ms x y e = e
 explain-rec (suc k) ms x y e =
@@ -170,5 +176,5 @@ unfoldable pub firsts : List EqLeaf → List EqLeaf
 firsts ls = firsts-after [] ls
 
 unfoldable pub engine-definitions : Unit {0}
-unfolding singletons under union classes find are-equal merge pop-merges pairs-of pairs-in-force before turned nodes common rehung way same-pair visit cite path expand-edge explain-rec explain firsts-after firsts
+unfolding singletons under lower higher union classes find are-equal merge pop-merges pairs-of pairs-in-force before turned nodes common rehung way same-pair visit cite path expand-edge explain-rec explain firsts-after firsts
 engine-definitions = tt

@@ -1,4 +1,4 @@
--- What the functions that explain an equality promise: the parts of an explanation and their ages, and how marks and the answer
+-- What the private functions that explain an equality promise one another; a caller of the crate needs none of it: the parts of an explanation and their ages, and how marks and the answer
 -- table stand for the pairs expanded and the leaves met.
 use Prim.Native.Nat.{ℕ, zero, suc, _-_, _≤_, _<_}
 use mathlib.Core.Path.{_≡_}
@@ -10,7 +10,7 @@ use Rattle.core.specs.Lists.{any, range}
 use Rattle.core.specs.Table.{word}
 use Rattle.theory.specs.Types.{EqJust, EqLeaf}
 use Rattle.theory.specs.EqEngine.{Merge, Step, Explained, are-equal, pairs-of, pairs-in-force, path, same-pair, visit, expand-edge, explain-rec, firsts-after}
-use Rattle.theory.specs.Table.{left-word, right-word, merges, Sound}
+use Rattle.theory.specs.Table.{left-word, right-word, pair-at, merges, Sound}
 use Rattle.theory.specs.Answer.{leaves, AnswerSound}
 
 -- ---- the parts of an explanation, at a depth
@@ -32,12 +32,9 @@ unfoldable pub expand-new : List Merge → ℕ → ℕ → ℕ → Explained →
 expand-new ms x y zero e = e
 expand-new ms x y (suc d) e = let r = expand-steps ms (path ms x y) d (visit x y e) in cond (eqb x y) e r
 
--- argument pair j of a table, and the pairs from one number up to another
-unfoldable pub pair-at : List ℕ → ℕ → ℕ × ℕ
-pair-at t j = (left-word t j, right-word t j)
-
+-- the argument pairs of a table from one number up to another
 unfoldable pub pairs-from : List ℕ → ℕ → ℕ → List (ℕ × ℕ)
-pairs-from t from to = map (λ j. (left-word t j, right-word t j)) (range from (to - from))
+pairs-from t from to = map (pair-at t) (range from (to - from))
 
 -- ---- ages
 
@@ -78,7 +75,7 @@ pub record Explaining (t marks out : List ℕ) : Type 0 where
   pub answer : AnswerSound (merges t) out
   pub long : 2048 ≤ length marks
 
--- From the tables before to those after, an explanation goes on by f, at each depth from k on.
+-- If the tables before show an explanation e, those after show f d e, for every depth d from k on.
 pub record Goes (t marks out marks′ out′ : List ℕ) (k : ℕ) (f : ℕ → Explained → Explained) : Type 0 where
   pub answer : AnswerSound (merges t) out′
   pub shows : (d : ℕ) (seen : List EqLeaf) (e : Explained) → k ≤ d → Shows t marks out seen e → Shows t marks′ out′ seen (f d e)

@@ -3,14 +3,14 @@ use Prim.Native.Nat.{ℕ, _+_, _-_, _≤_, _<_}
 use mathlib.Core.Path.{_≡_}
 use mathlib.Core.Bool.{Bool, false, cond}
 use mathlib.Core.List.{List, [], _∷_, map}
-use lib.Dec.{eqb, leb, ltb}
+use lib.Dec.{eqb, ltb}
 use lib.ListN.{length}
 use Rattle.core.specs.Lists.{In}
 use Rattle.core.specs.Table.{word}
 use Rattle.theory.specs.declared.types.EqJust as Given
 use Rattle.theory.specs.declared.eq_engine.LabelWords as LabelWords
 use Rattle.theory.specs.EqEngine.{Merge, are-equal, pairs-of, pairs-in-force, Step, way}
-use Rattle.theory.specs.Table.{parent-word, size-word, fparent-word, fedge-word, a-word, b-word, kind-word, value-word, low-word, froot-word, after-word, left-word, right-word, label, begins, merges, end, EqualPairs}
+use Rattle.theory.specs.Table.{parent-word, size-word, fparent-word, fedge-word, a-word, b-word, label-word, value-word, low-word, froot-word, after-word, left-word, right-word, label, begins, merges, end, EqualPairs}
 
 -- ---- the log
 
@@ -18,7 +18,7 @@ use Rattle.theory.specs.Table.{parent-word, size-word, fparent-word, fed
 pub record SameEntry (t u : List ℕ) (i : ℕ) : Type 0 where
   pub a : a-word u i ≡ a-word t i
   pub b : b-word u i ≡ b-word t i
-  pub kind : kind-word u i ≡ kind-word t i
+  pub kind : label-word u i ≡ label-word t i
   pub value : value-word u i ≡ value-word t i
   pub low : low-word u i ≡ low-word t i
   pub froot : froot-word u i ≡ froot-word t i
@@ -67,14 +67,7 @@ pub record United (t u : List ℕ) (low high i : ℕ) : Type 0 where
   pub behind : (k : ℕ) → 2112 ≤ k → (k ≡ 8256 + i → ⊥) → word u k ≡ word t k
   pub parents : (x : ℕ) → x < 1024 → parent-word u x ≡ cond (eqb x low) high (parent-word t x)
   pub sizes : (x : ℕ) → x < 1024 → size-word u x ≡ cond (eqb x high) (size-word t low + size-word t high) (size-word t x)
-  pub old-low : low-word u i ≡ low
-
--- of two roots, the one that goes under: the smaller class, on a tie the second
-unfoldable pub lower : List ℕ → ℕ → ℕ → ℕ
-lower t ra rb = cond (leb (size-word t rb) (size-word t ra)) rb ra
-
-unfoldable pub higher : List ℕ → ℕ → ℕ → ℕ
-higher t ra rb = cond (leb (size-word t rb) (size-word t ra)) ra rb
+  pub low-noted : low-word u i ≡ low
 
 -- ---- a new entry of the log
 
@@ -85,7 +78,7 @@ pub record Logged (t u : List ℕ) (i a b w v e : ℕ) : Type 0 where
   pub older : SameLog t u i
   pub pairs : (k : ℕ) → 11328 ≤ k → word u k ≡ word t k
   pub sides : (a-word u i ≡ a) × (b-word u i ≡ b)
-  pub kind : kind-word u i ≡ w
+  pub kind : label-word u i ≡ w
   pub value : value-word u i ≡ v
   pub after : after-word u i ≡ e
   pub roots : (low-word u i ≡ low-word t i) × (froot-word u i ≡ froot-word t i)

@@ -13,16 +13,16 @@ ghost use lib.Dec.{eqb, leb};
 ghost use lib.ListN.{length, set};
 ghost use Rattle.core.specs.Lists.{In, zip};
 ghost use Rattle.theory.specs.Types.{Congruence};
-ghost use Rattle.theory.specs.EqEngine.{find, are-equal, merge, pop-merges, pairs-of, pairs-in-force, nodes, before, common, way, same-pair, explain, firsts-after};
-ghost use Rattle.theory.specs.Table.{merges#, level-word, parent-word, size-word, left-word, right-word, label, just-at, merges-below, merges, end, justIs, EqualPairs, Sound};
+ghost use Rattle.theory.specs.EqEngine.{lower, higher, find, are-equal, merge, pop-merges, pairs-of, pairs-in-force, nodes, before, common, way, same-pair, explain, firsts-after};
+ghost use Rattle.theory.specs.Table.{merges#, parent-word, size-word, left-word, right-word, pair-at, label, just-at, merges-below, merges, end, justIs, EqualPairs, level, Sound, Engine};
 ghost use Rattle.theory.specs.Answer.{leaves, AnswerSound};
-ghost use Rattle.theory.specs.Steps.{On, Rerooted, Spliced, United, lower, higher, Logged, Joinable, HoldsLabel, Copied, Separated, newest-above};
-ghost use Rattle.theory.specs.Explaining.{expand-label, expand-steps, expand-pairs, expand-new, pair-at, pairs-from, age, pairs-age, steps-age, Explaining, Goes, MarksPair, EqualPair};
+ghost use Rattle.theory.specs.Steps.{On, Rerooted, Spliced, United, Logged, Joinable, HoldsLabel, Copied, Separated, newest-above};
+ghost use Rattle.theory.specs.Explaining.{expand-label, expand-steps, expand-pairs, expand-new, pairs-from, age, pairs-age, steps-age, Explaining, Goes, MarksPair, EqualPair};
 
 // ---- classes
 
-// Class representative: up the parents to the root.
-fn find(t: &[u32], node: usize) -> usize
+// Up the parents to the root of a class.
+fn root(t: &[u32], node: usize) -> usize
     requires { ⌜ Sound (now t) × (node < 1024) ⌝ }
     ensures { λ r. ⌜ (r ≡ find (merges (now (t .entry))) node) × (r < 1024) ⌝ }
 {
@@ -35,13 +35,21 @@ fn find(t: &[u32], node: usize) -> usize
     n
 }
 
+// Class representative.
+pub fn find(t: &[u32], n: TermId) -> TermId
+    requires { ⌜ Sound (now t) × (n .0 < 1024) ⌝ }
+    ensures { λ r. ⌜ (r .0 ≡ find (merges (now (t .entry))) (n .0)) × (r .0 < 1024) ⌝ }
+{
+    TermId(root(t, n.0 as usize) as u32)
+}
+
 pub fn are_equal(t: &[u32], a: TermId, b: TermId) -> bool
     requires { ⌜ Sound (now t) × (a .0 < 1024) × (b .0 < 1024) ⌝ }
     ensures { λ r. ⌜ r ≡ are-equal (merges (now (t .entry))) (a .0) (b .0) ⌝ }
 {
     let x = a.0 as usize;
     let y = b.0 as usize;
-    find(t, x) == find(t, y)
+    root(t, x) == root(t, y)
 }
 
 // One node alone: its own parent, in the forest too, in a class of one.
@@ -57,7 +65,7 @@ fn alone(t: &mut [u32], n: usize)
 // Whatever the table held, no merge is in force now, at level 0.
 pub fn clear(t: &mut [u32])
     requires { ⌜ 16384 ≤ length (now t) ⌝ }
-    ensures { λ _. ⌜ Sound (now (t .exit)) × (merges (now (t .exit)) ≡ []) × (level-word (now (t .exit)) ≡ 0) ⌝ }
+    ensures { λ _. ⌜ Engine (now (t .exit)) [] 0 ⌝ }
 {
     put(t, 0, 0);
     put(t, 1, 0);
@@ -68,9 +76,19 @@ pub fn clear(t: &mut [u32])
     }
 }
 
+// ---- levels
+
+// How many pushes are open.
+pub fn level(t: &[u32]) -> usize
+    requires { ⌜ Sound (now t) ⌝ }
+    ensures { λ r. ⌜ (r ≡ level (now (t .entry))) × (r ≤ 64) ⌝ }
+{
+    get(t, 1)
+}
+
 pub fn push(t: &mut [u32])
-    requires { ⌜ Sound (now t) × (level-word (now t) < 64) ⌝ }
-    ensures { λ _. ⌜ Sound (now (t .exit)) × (merges (now (t .exit)) ≡ merges (now (t .entry))) × (level-word (now (t .exit)) ≡ suc (level-word (now (t .entry)))) ⌝ }
+    requires { ⌜ Sound (now t) × (level (now t) < 64) ⌝ }
+    ensures { λ _. ⌜ Engine (now (t .exit)) (merges (now (t .entry))) (suc (level (now (t .entry)))) ⌝ }
 {
     let n = get(t, 1);
     put(t, 1, n + 1);
@@ -152,7 +170,7 @@ fn put_under(t: &mut [u32], low: usize, high: usize, i: usize)
 // The smaller class goes under the larger; on a tie the first side's root stays.
 fn union(t: &mut [u32], ra: usize, rb: usize, i: usize)
     requires { ⌜ (16384 ≤ length (now t)) × (ra < 1024) × (rb < 1024) × (i < 1024) × (size-word (now t) ra + size-word (now t) rb < 4294967296) ⌝ }
-    ensures { λ _. ⌜ United (now (t .entry)) (now (t .exit)) (lower (now (t .entry)) ra rb) (higher (now (t .entry)) ra rb) i ⌝ }
+    ensures { λ _. ⌜ United (now (t .entry)) (now (t .exit)) (lower (size-word (now (t .entry))) ra rb) (higher (size-word (now (t .entry))) ra rb) i ⌝ }
 {
     if get(t, 1088 + rb) <= get(t, 1088 + ra) {
         put_under(t, rb, ra, i);
@@ -173,15 +191,15 @@ fn log(t: &mut [u32], i: usize, a: usize, b: usize, kind: usize, value: usize, a
     put(t, 10304 + i, after);
 }
 
-// Joins two classes under a label of the level of now.
+// Joins two classes under a label of the present level.
 fn join(t: &mut [u32], a: usize, b: usize, kind: usize, theory: usize, value: usize, after: usize)
     requires { ⌜ Sound (now t) × Joinable (now t) a b kind theory value after ⌝ }
-    ensures { λ _. ⌜ Sound (now (t .exit)) × (merges (now (t .exit)) ≡ record { a = a; b = b; just = label (now (t .entry)) kind theory value after; level = level-word (now (t .entry)) } ∷ merges (now (t .entry))) × (level-word (now (t .exit)) ≡ level-word (now (t .entry))) ⌝ }
+    ensures { λ _. ⌜ Engine (now (t .exit)) (record { a = a; b = b; just = label (now (t .entry)) kind theory value after; level = level (now (t .entry)) } ∷ merges (now (t .entry))) (level (now (t .entry))) ⌝ }
 {
     let i = get(t, 0);
     let level = get(t, 1);
-    let ra = find(t, a);
-    let rb = find(t, b);
+    let ra = root(t, a);
+    let rb = root(t, b);
     splice(t, a, b, i);
     union(t, ra, rb, i);
     log(
@@ -220,10 +238,10 @@ fn label_words(j: EqJust) -> LabelWords
     }
 }
 
-// Merging within one class does nothing.
+// Joins the classes of two terms under a label; within one class it does nothing.
 pub fn merge(t: &mut [u32], a: TermId, b: TermId, j: EqJust)
     requires { ⌜ Sound (now t) × (a .0 < 1024) × (b .0 < 1024) ⌝ }
-    ensures { λ _. ⌜ Sound (now (t .exit)) × (merges (now (t .exit)) ≡ merge (merges (now (t .entry))) (level-word (now (t .entry))) (a .0) (b .0) (justIs j)) × (level-word (now (t .exit)) ≡ level-word (now (t .entry))) ⌝ }
+    ensures { λ _. ⌜ Engine (now (t .exit)) (merge (merges (now (t .entry))) (level (now (t .entry))) (a .0) (b .0) (justIs j)) (level (now (t .entry))) ⌝ }
 {
     if are_equal(t, a, b) {
         return;
@@ -253,8 +271,8 @@ fn copy_pairs(t: &mut [u32], start: usize, xs: &[u32], ys: &[u32])
 
 // Like `merge`, but the label is all argument pairs of the two applications, in order. Within one class no pairs are taken.
 pub fn merge_congruence(t: &mut [u32], a: TermId, b: TermId, xs: &[u32], ys: &[u32])
-    requires { ⌜ Sound (now t) × (a .0 < 1024) × (b .0 < 1024) × (length (now xs) ≡ length (now ys)) × (pairs-in-force (merges (now t)) + length (now xs) ≤ 2048) × EqualPairs (merges (now t)) (zip (now xs) (now ys)) ⌝ }
-    ensures { λ _. ⌜ Sound (now (t .exit)) × (merges (now (t .exit)) ≡ merge (merges (now (t .entry))) (level-word (now (t .entry))) (a .0) (b .0) (Congruence (zip (now (xs .entry)) (now (ys .entry))))) × (level-word (now (t .exit)) ≡ level-word (now (t .entry))) ⌝ }
+    requires { ⌜ Sound (now t) × (a .0 < 1024) × (b .0 < 1024) × (length (now xs) ≡ length (now ys)) × EqualPairs (merges (now t)) (zip (now xs) (now ys)) × (pairs-in-force (merge (merges (now t)) (level (now t)) (a .0) (b .0) (Congruence (zip (now xs) (now ys)))) ≤ 2048) ⌝ }
+    ensures { λ _. ⌜ Engine (now (t .exit)) (merge (merges (now (t .entry))) (level (now (t .entry))) (a .0) (b .0) (Congruence (zip (now (xs .entry)) (now (ys .entry))))) (level (now (t .entry))) ⌝ }
 {
     if are_equal(t, a, b) {
         return;
@@ -262,8 +280,9 @@ pub fn merge_congruence(t: &mut [u32], a: TermId, b: TermId, xs: &[u32], ys: &[u
     let x = a.0 as usize;
     let y = b.0 as usize;
     let start = pairs_in_force(t);
+    let after = start + xs.len();
     copy_pairs(t, start, xs, ys);
-    join(t, x, y, 1, 0, start, start + xs.len());
+    join(t, x, y, 1, 0, start, after);
 }
 
 // ---- undoing
@@ -274,7 +293,8 @@ fn separate(t: &mut [u32], low: usize)
     ensures { λ _. ⌜ Separated (now (t .entry)) (now (t .exit)) low (parent-word (now (t .entry)) low) ⌝ }
 {
     let high = get(t, 64 + low);
-    let rest = get(t, 1088 + high) - get(t, 1088 + low);
+    let both = get(t, 1088 + high);
+    let rest = both - get(t, 1088 + low);
     put(t, 1088 + high, rest);
     put(t, 64 + low, low);
 }
@@ -282,7 +302,7 @@ fn separate(t: &mut [u32], low: usize)
 // The newest merge is taken back: the way from the old root of the first side's tree is turned again.
 fn undo(t: &mut [u32])
     requires { ⌜ Sound (now t) × (0 < merges# (now t)) ⌝ }
-    ensures { λ _. ⌜ Sound (now (t .exit)) × (suc (merges# (now (t .exit))) ≡ merges# (now (t .entry))) × (merges (now (t .exit)) ≡ merges-below (now (t .entry)) (merges# (now (t .exit)))) × (level-word (now (t .exit)) ≡ level-word (now (t .entry))) ⌝ }
+    ensures { λ _. ⌜ Sound (now (t .exit)) × (suc (merges# (now (t .exit))) ≡ merges# (now (t .entry))) × (merges (now (t .exit)) ≡ merges-below (now (t .entry)) (merges# (now (t .exit)))) × (level (now (t .exit)) ≡ level (now (t .entry))) ⌝ }
 {
     let i = get(t, 0) - 1;
     let a = get(t, 4160 + i);
@@ -304,25 +324,25 @@ fn newest_above(t: &[u32], level: usize) -> bool
     level < get(t, 6207 + n) / 262144
 }
 
-fn undo_above(t: &mut [u32], level: usize)
+fn undo_above(t: &mut [u32], to: usize)
     requires { ⌜ Sound (now t) ⌝ }
-    ensures { λ _. ⌜ Sound (now (t .exit)) × (merges (now (t .exit)) ≡ pop-merges level (merges (now (t .entry)))) × (newest-above level (merges (now (t .exit))) ≡ false) × (level-word (now (t .exit)) ≡ level-word (now (t .entry))) ⌝ }
+    ensures { λ _. ⌜ Sound (now (t .exit)) × (merges (now (t .exit)) ≡ pop-merges to (merges (now (t .entry)))) × (newest-above to (merges (now (t .exit))) ≡ false) × (level (now (t .exit)) ≡ level (now (t .entry))) ⌝ }
 {
-    while newest_above(t, level) {
+    while newest_above(t, to) {
         undo(t);
     }
 }
 
-// Back to a level: classes, sizes, forest and pairs as they were. At or above the level of now nothing changes.
-pub fn pop(t: &mut [u32], level: usize)
+// Back to a level: classes, sizes, forest and pairs as they were. At or above the present level nothing changes.
+pub fn pop(t: &mut [u32], to: usize)
     requires { ⌜ Sound (now t) ⌝ }
-    ensures { λ _. ⌜ Sound (now (t .exit)) × (merges (now (t .exit)) ≡ pop-merges level (merges (now (t .entry)))) × (level-word (now (t .exit)) ≡ cond (leb (level-word (now (t .entry))) level) (level-word (now (t .entry))) level) × (level-word (now (t .entry)) ≤ level → now (t .exit) ≡ now (t .entry)) ⌝ }
+    ensures { λ _. ⌜ Sound (now (t .exit)) × (merges (now (t .exit)) ≡ pop-merges to (merges (now (t .entry)))) × (level (now (t .exit)) ≡ cond (leb (level (now (t .entry))) to) (level (now (t .entry))) to) × (level (now (t .entry)) ≤ to → now (t .exit) ≡ now (t .entry)) ⌝ }
 {
-    if get(t, 1) <= level {
+    if get(t, 1) <= to {
         return;
     }
-    undo_above(t, level);
-    put(t, 1, level);
+    undo_above(t, to);
+    put(t, 1, to);
 }
 
 // ---- explanation
@@ -343,7 +363,7 @@ fn forest_depth(t: &[u32], node: usize) -> usize
     d
 }
 
-// The nearest common ancestor of two equal nodes: the deeper one goes up until both are one.
+// The nearest common ancestor of two equal nodes: the deeper one goes up, at one depth the first, until both are one.
 fn forest_nca(t: &[u32], a: usize, b: usize) -> usize
     requires { ⌜ Sound (now t) × (a < 1024) × (b < 1024) × (are-equal (merges (now t)) a b ≡ true) ⌝ }
     ensures { λ r. ⌜ (r ≡ common a (way (merges (now (t .entry))) a) b (way (merges (now (t .entry))) b)) × (r < 1024) ⌝ }
@@ -440,15 +460,15 @@ fn expand_edge(t: &[u32], i: usize, marks: &mut [u32], out: &mut [u32])
     requires { ⌜ Explaining (now t) (now marks) (now out) × (i < merges# (now t)) ⌝ }
     ensures { λ _. ⌜ Goes (now (t .entry)) (now (marks .entry)) (now (out .entry)) (now (marks .exit)) (now (out .exit)) (pairs-age (merges (now (t .entry))) (pairs-of (just-at (now (t .entry)) i))) (expand-label (merges (now (t .entry))) (just-at (now (t .entry)) i)) ⌝ }
 {
-    let kind = get(t, 6208 + i);
+    let word = get(t, 6208 + i);
     let value = get(t, 7232 + i);
-    let sort = kind / 65536 % 4;
-    if sort == 0 {
+    let kind = word / 65536 % 4;
+    if kind == 0 {
         push_leaf(out, 0, value);
-    } else if sort == 1 {
+    } else if kind == 1 {
         expand_pairs(t, value, get(t, 10304 + i), marks, out);
     } else {
-        push_leaf(out, 1 + kind % 65536, value);
+        push_leaf(out, 1 + word % 65536, value);
     }
 }
 

@@ -11,15 +11,15 @@ cast-x c = search needs
 cast-y : tie.Need-cast-y
 cast-y c = search needs
 
-find-requires : tie.Need-find-requires
-find-requires c κs = search needs
+root-requires : tie.Need-root-requires
+root-requires c κs = search needs
 
-find-requires-2 : tie.Need-find-requires-2
-find-requires-2 c κs = search needs
+root-requires-2 : tie.Need-root-requires-2
+root-requires-2 c κs = search needs
 
 returns : tie.Need-returns
 unfolding find are-equal
-returns c = ap₂ eqb (c .before .find .ensures .0) (c .find2 .ensures .0)
+returns c = ap₂ eqb (c .before .root .ensures .0) (c .root2 .ensures .0)
 
 pub are-equal-spec : {M : Type 1} → statement M
-are-equal-spec = tie.close (tie.spec cast-x cast-y find-requires find-requires-2 returns)
+are-equal-spec = tie.close (tie.spec cast-x cast-y root-requires root-requires-2 returns)

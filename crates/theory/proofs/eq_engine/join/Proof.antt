@@ -10,17 +10,17 @@ get-requires c κs = search needs
 get-requires-2 : tie.Need-get-requires-2
 get-requires-2 c κs = search needs
 
-find-requires : tie.Need-find-requires
-find-requires c κs = search needs
+root-requires : tie.Need-root-requires
+root-requires c κs = search needs
 
-find-requires-2 : tie.Need-find-requires-2
-find-requires-2 c κs = search needs
+root-requires-2 : tie.Need-root-requires-2
+root-requires-2 c κs = search needs
 
 splice-requires : tie.Need-splice-requires
 splice-requires c κs = search needs
 
 union-requires : tie.Need-union-requires
-union-requires c κs = let z = c .before .before .before .before .before .before .before .before .before .before .before .before .before .before .pre .0 in let f = z .fewer in let i = c .before .before .before .before .before .before .before .before .before .before .before .get .ensures .0 in let l = z .long in let s = c .before .before .before .splice .kept .0 in (omega arith, c .before .before .before .before .before .before .before .find .ensures .1, c .before .before .before .before .before .find2 .ensures .1, omega arith, sizes-fit _ _ _ _ _ _ _ z (c .before .before .before .splice .ensures) (c .before .before .before .before .before .before .before .find .ensures .1) (c .before .before .before .before .before .find2 .ensures .1))
+union-requires c κs = let z = c .before .before .before .before .before .before .before .before .before .before .before .before .before .before .pre .0 in let f = z .fewer in let i = c .before .before .before .before .before .before .before .before .before .before .before .get .ensures .0 in let l = z .long in let s = c .before .before .before .splice .kept .0 in (omega arith, c .before .before .before .before .before .before .before .root .ensures .1, c .before .before .before .before .before .root2 .ensures .1, omega arith, sizes-fit _ _ _ _ _ _ _ z (c .before .before .before .splice .ensures) (c .before .before .before .before .before .before .before .root .ensures .1) (c .before .before .before .before .before .root2 .ensures .1))
 
 mul-log : tie.Need-mul-log
 mul-log c = search needs
@@ -47,7 +47,7 @@ same-length : tie.Need-same-length
 same-length c = search needs
 
 returns : tie.Need-returns
-returns c = let p = c .before .before .before .before .before .before .before .before .before .before .before .before .before .before .before .before .before .before .before .before .before .before .before .before .before .pre in joined-at _ _ _ _ _ _ _ _ _ _ _ _ _ _ _ (p .0) (p .1) (c .before .before .before .before .before .before .before .before .before .before .before .before .before .before .before .before .before .before .before .before .before .before .get .ensures .0) (c .before .before .before .before .before .before .before .before .before .before .before .before .before .before .before .before .before .before .before .before .get2 .ensures .0) (c .before .before .before .before .before .before .before .before .before .before .before .before .before .before .before .before .before .before .find .ensures .0) (c .before .before .before .before .before .before .before .before .before .before .before .before .before .before .before .before .find2 .ensures .0) (c .before .before .before .before .before .before .before .before .before .before .before .before .before .before .splice .ensures) (c .before .before .before .before .before .before .before .before .before .before .union .ensures) (c .before .before .before .before .before .before .log .ensures) (c .before .before .put .ensures)
+returns c = let p = c .before .before .before .before .before .before .before .before .before .before .before .before .before .before .before .before .before .before .before .before .before .before .before .before .before .pre in joined-at _ _ _ _ _ _ _ _ _ _ _ _ _ _ _ (p .0) (p .1) (c .before .before .before .before .before .before .before .before .before .before .before .before .before .before .before .before .before .before .before .before .before .before .get .ensures .0) (c .before .before .before .before .before .before .before .before .before .before .before .before .before .before .before .before .before .before .before .before .get2 .ensures .0) (c .before .before .before .before .before .before .before .before .before .before .before .before .before .before .before .before .before .before .root .ensures .0) (c .before .before .before .before .before .before .before .before .before .before .before .before .before .before .before .before .root2 .ensures .0) (c .before .before .before .before .before .before .before .before .before .before .before .before .before .before .splice .ensures) (c .before .before .before .before .before .before .before .before .before .before .union .ensures) (c .before .before .before .before .before .before .log .ensures) (c .before .before .put .ensures)
 
 pub join-spec : {M : Type 1} → statement M
 join-spec =
@@ -55,8 +55,8 @@ join-spec =
     (tie.spec
     get-requires
     get-requires-2
-    find-requires
-    find-requires-2
+    root-requires
+    root-requires-2
     splice-requires
     union-requires
     mul-log

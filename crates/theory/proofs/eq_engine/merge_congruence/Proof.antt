@@ -1,6 +1,5 @@
-use native.Mathlib.Omega.{arith}
 use mathlib.Core.Path.{refl, sym, _∙_}
-use Rattle.theory.proofs.Joining.{merged-one, copied-sound, joinable-pairs, merged-pairs}
+use Rattle.theory.proofs.Joining.{merged-one, pairs-room, copied-sound, joinable-pairs, merged-pairs}
 use borrow.Author.Needs.{needs}
 use Rattle.theory.proofs.eq_engine.merge_congruence.Statement.{statement}
 use Rattle.theory.proofs.eq_engine.merge_congruence.Tie as tie
@@ -23,14 +22,14 @@ cast-y c = search needs
 pairs-in-force-requires : tie.Need-pairs-in-force-requires
 pairs-in-force-requires c κs = search needs
 
-copy-pairs-requires : tie.Need-copy-pairs-requires
-copy-pairs-requires c κs = search needs
+add-after : tie.Need-add-after
+add-after c = search needs
 
-add-join : tie.Need-add-join
-add-join c = search needs
+copy-pairs-requires : tie.Need-copy-pairs-requires
+copy-pairs-requires c κs = let p = c .before .before .before .before .before .before .before .before .before .before .before .pre in (p .0 .long, p .3, pairs-room _ _ _ _ _ _ _ (sym (c .before .before .before .before .before .before .are-equal .ensures) ∙ c .before .before .before .before .before .if1 .left) (p .5) (p .3) (c .before .pairs-in-force .ensures .0))
 
 join-requires : tie.Need-join-requires
-join-requires c κs = let p = c .before .before .before .before .before .before .before .before .before .before .before .before .before .before .before .pre in let s = c .before .before .before .before .before .pairs-in-force .ensures .0 in let f = p .4 in (copied-sound _ _ _ _ _ (p .0) (c .before .before .before .before .before .pairs-in-force .ensures .0) (c .before .before .before .copy-pairs .ensures), joinable-pairs _ _ _ _ _ (p .0) (c .before .before .before .before .before .pairs-in-force .ensures .0) (c .before .before .before .copy-pairs .ensures) _ _ _ (p .1) (p .2) (sym (c .before .before .before .before .before .before .before .before .before .before .are-equal .ensures) ∙ c .before .before .before .before .before .before .before .before .before .if1 .left) refl (p .3) (omega arith) (p .5))
+join-requires c κs = let p = c .before .before .before .before .before .before .before .before .before .before .before .before .before .before .before .pre in let s = c .before .before .before .before .before .pairs-in-force .ensures .0 in let two = sym (c .before .before .before .before .before .before .before .before .before .before .are-equal .ensures) ∙ c .before .before .before .before .before .before .before .before .before .if1 .left in (copied-sound _ _ _ _ _ (p .0) s (c .before .before .before .copy-pairs .ensures), joinable-pairs _ _ _ _ _ (p .0) s (c .before .before .before .copy-pairs .ensures) _ _ _ (p .1) (p .2) two refl (p .3) (pairs-room _ _ _ _ _ _ _ two (p .5) (p .3) s) (p .4))
 
 same-length-2 : tie.Need-same-length-2
 same-length-2 c = search needs
@@ -48,8 +47,8 @@ merge-congruence-spec =
     cast-x
     cast-y
     pairs-in-force-requires
+    add-after
     copy-pairs-requires
-    add-join
     join-requires
     same-length-2
     returns-2)

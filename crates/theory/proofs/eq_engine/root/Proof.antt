@@ -3,8 +3,8 @@ use Rattle.theory.specs.Table.{merges}
 use Rattle.theory.proofs.UnionFind.{depth}
 use Rattle.theory.proofs.Nodes.{Climb, climb-first, climb-within, climb-next, climb-less, climb-done}
 use borrow.Author.Needs.{needs}
-use Rattle.theory.proofs.eq_engine.find.Statement.{statement}
-use Rattle.theory.proofs.eq_engine.find.Tie as tie
+use Rattle.theory.proofs.eq_engine.root.Statement.{statement}
+use Rattle.theory.proofs.eq_engine.root.Tie as tie
 
 abbrev Inv-loop : tie.InvT-loop
 Inv-loop t node n₀ up₀ n up = Climb t node n up
@@ -40,8 +40,8 @@ loop-again c = climb-next _ _ _ _ _ (c .before .before .before .before .before .
 returns : tie.Need-returns Inv-loop μ-loop
 returns c = climb-done _ _ _ _ (c .before .before .before .before .pre .0) (c .before .loop .inv) (c .loop-test .left)
 
-pub find-spec : {M : Type 1} → statement M
-find-spec =
+pub root-spec : {M : Type 1} → statement M
+root-spec =
     tie.close
     (tie.spec
     Inv-loop
