@@ -19,10 +19,10 @@ use Rattle.solver.specs.Rules as Rules
 use Rattle.solver.specs.Rules.{Phase, Conflict, Split}
 use Rattle.solver.specs.Check.{before-ring}
 use Rattle.session.specs.Line as Line
-use Rattle.session.specs.Line.{read-line}
+use Rattle.session.specs.Line.{Command, read-line}
 use Rattle.session.specs.Answer.{Refusal, Answer, TermIs, Checked, Refused}
 use Rattle.session.specs.Session.{Session, empty-session, Performed, step}
-use Rattle.session.specs.History.{History, TableOf, Accepted, LeafInForce, EqualNow, AllTrue, LemmaTrue, history-after}
+use Rattle.session.specs.History.{History, Makes, WellFormed, Accepted, LeafInForce, EqualNow, AllTrue, LemmaTrue, history-after}
 
 -- ---- conflicts and lemmas
 
@@ -100,8 +100,12 @@ pub record AtLine (s : Session) (line : List ℕ) (p : Performed) (h′ : Histor
 
 -- what ties the words of the claim to the lines
 pub record Tied (s : Session) (line : List ℕ) (p : Performed) (h′ : History) : Type 1 where
-  -- the table is one that the lines make, with what the rules appended at full checks
-  pub table : TableOf h′ (p .session .state .terms)
+  -- what the line makes of the table
+  pub table : (c : Command) → read-line line ≡ some c → ((q : Refusal) → p .answer ≢ Refused q) → Makes c (s .state .terms) (p .session .state .terms)
+  pub formed : WellFormed (p .session .state .terms)
+  -- marks are never taken back, and after a full check they are those that the rules before the ring leave
+  pub marks-stay : (t : ℕ) → T (mem t (s .state .dt .marks)) → T (mem t (p .session .state .dt .marks))
+  pub marks-made : read-line line ≡ some (Line.Check true) → ((q : Refusal) → p .answer ≢ Refused q) → p .session .state .dt .marks ≡ before-ring (s .state) .state .dt .marks
   -- the number that a `term` or `eq` line is answered is that of the term it names
   pub made : (f : ℕ) (ts : List ℕ) (n : ℕ) → read-line line ≡ some (Line.MkTerm f ts) → p .answer ≡ TermIs n → term (p .session .state .terms) n ≡ record { op = Uninterpreted f; args = ts }
   pub made-eq : (t u n : ℕ) → read-line line ≡ some (Line.MkEq t u) → p .answer ≡ TermIs n → term (p .session .state .terms) n ≡ record { op = Eq; args = t ∷ u ∷ [] }
