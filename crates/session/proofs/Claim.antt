@@ -26,7 +26,7 @@ use Rattle.session.specs.History.{History, Makes, Accepted, EqualNow, ex
 use Rattle.session.specs.Claim.{AtLine, Tied, ClaimFrom, Claim}
 use Rattle.session.proofs.Invariant.{classes-agree, Inv}
 use Rattle.session.proofs.Steps.{empty-inv}
-use Rattle.session.proofs.Accepting.{answer-kind, Good, sort-good, ctor-good, fun-good, close-good, push-good, pop-good, register-good, term-good, eq-good, check-good, assert-good}
+use Rattle.session.proofs.Accepting.{answer-kind, Good, sort-good, ctor-good, fun-good, close-good, push-good, pop-good, register-good, term-good, eq-good, full-good, idle-good, assert-good}
 use Rattle.session.proofs.Tables.{perform-table, well-formed, perform-marks, check-marks, closed-by}
 use Rattle.session.proofs.Joins.{equate-good, cong-good, iface-good}
 
@@ -83,7 +83,8 @@ accept s h I (Assert l) e =
     assert-good s h l I (unfold var-exists in no-refusal (exist (var-exists s l)) [] e₁ .0)
 accept s h I Push e = push-good s h I
 accept s h I (Pop k) e = pop-good s h k I
-accept s h I (Line.Check full) e = check-good s h full I (no-refusal (after-close s) [] e .0)
+accept s h I (Line.Check true) e = full-good s h I (no-refusal (after-close s) [] e .0)
+accept s h I (Line.Check false) e = idle-good s h I (no-refusal (after-close s) [] e .0)
 
 -- ---- what ties a session to its lines
 
@@ -110,7 +111,10 @@ unfolding refused answer-kind
 line-refused s h line q I W = record {
   at = record {
     conflict = λ ls e. let w : _≡_ {A = ℕ} 3 2 = ap answer-kind e in absurd (omega arith);
+    cause = λ ls e. let w : _≡_ {A = ℕ} 3 2 = ap answer-kind e in absurd (omega arith);
     lemma = λ as′ gs ps e. let w : _≡_ {A = ℕ} 3 2 = ap answer-kind e in absurd (omega arith);
+    sat = λ e w. let z : _≡_ {A = ℕ} 3 2 = ap answer-kind w in absurd (omega arith);
+    unknown = λ e. let w : _≡_ {A = ℕ} 3 2 = ap answer-kind e in absurd (omega arith);
     ring = λ e n b. absurd (n q refl);
     refused = λ r e. refl;
   };
@@ -132,7 +136,10 @@ line-accepted : (s : Session) (h : History) (line : List ℕ) (c : Command) → 
 line-accepted s h line c I W e G = record {
   at = record {
     conflict = G .conflict;
+    cause = G .cause;
     lemma = G .lemma;
+    sat = λ w q. G .sat (is (Line.Check true) w) q;
+    unknown = G .unknown;
     ring = λ w n b. G .ring (is (Line.Check true) w) b;
     refused = λ q w. absurd (G .spoken q w);
   };

@@ -23,7 +23,7 @@ use Rattle.solver.proofs.Basics.{mem-in}
 use Rattle.solver.proofs.Terms.{Agrees, Formed}
 use Rattle.solver.proofs.Collection.{children-lower, new-var-marks}
 use Rattle.solver.proofs.Clash.{Ready}
-use Rattle.solver.proofs.Answers.{check-well}
+use Rattle.solver.proofs.Answers.{full-check-well}
 use Rattle.session.specs.Line as Line
 use Rattle.session.specs.Line.{Command, DeclareSort, DeclareCtor, DeclareFun, Close, MkTerm, MkEq, Register, Equate, Cong, Iface, Assert, Push, Pop}
 use Rattle.session.specs.Session.{Session, done, numbered, merged, merge-sides, pop-to, perform, atom-of}
@@ -88,7 +88,7 @@ perform-table s (Iface t u h g) R = refl
 perform-table s (Assert l) R = assert-same (s .state) l .terms
 perform-table s Push R = refl
 perform-table s (Pop k) R = pop-same (s .state) k .terms
-perform-table s (Line.Check true) R = check-well (s .state) R true .follows .extends
+perform-table s (Line.Check true) R = full-check-well (s .state) R .follows .extends
 perform-table s (Line.Check false) R = refl
 
 -- the statement's words for a formed table
@@ -110,7 +110,7 @@ same-marks s s′ E t i = subst⁻¹ (λ (ms : List ℕ). In t ms) (E .marks) i
 
 -- marks are never taken back
 pub perform-marks : (s : Session) (c : Command) → Ready (s .state) → (t : ℕ) → In t (s .state .dt .marks) → In t (perform s c .session .state .dt .marks)
-unfolding perform done numbered merged with-terms with-eq with-level with-atoms
+unfolding perform done numbered merged with-terms with-eq with-level with-atoms Check.check
 perform-marks s (DeclareSort n) R t i = i
 perform-marks s (DeclareCtor dt fs) R t i = i
 perform-marks s (DeclareFun r as′) R t i = i
@@ -124,7 +124,8 @@ perform-marks s (Iface u v h g) R t i = i
 perform-marks s (Assert l) R t i = same-marks (s .state) (Records.assert (s .state) l .state) (assert-same (s .state) l) t i
 perform-marks s Push R t i = i
 perform-marks s (Pop k) R t i = same-marks (s .state) (pop-to (s .state) k) (pop-same (s .state) k) t i
-perform-marks s (Line.Check full) R t i = check-well (s .state) R full .follows .marks t i
+perform-marks s (Line.Check true) R t i = full-check-well (s .state) R .follows .marks t i
+perform-marks s (Line.Check false) R t i = i
 
 -- a full check leaves the marks that the rules before the ring leave
 pub check-marks : (s : Session) → perform s (Line.Check true) .session .state .dt .marks ≡ Check.before-ring (s .state) .state .dt .marks

@@ -9,8 +9,9 @@ use mathlib.Core.List.{List, [], _∷_}
 use mathlib.Core.Option.{none, some}
 use lib.Dec.{T}
 use Rattle.core.specs.Lists.{mem}
+use Rattle.core.specs.Ids.{is-positive}
 use Rattle.core.specs.Term.{Eq, Uninterpreted}
-use Rattle.core.specs.Context.{Context, term, ctor-app, is-datatype-sort, sort-of, children}
+use Rattle.core.specs.Context.{Context, TesterApp, term, ctor-app, tester-app, is-datatype-sort, sort-of, children}
 use Rattle.core.specs.Reading.{Reading}
 use Rattle.theory.specs.Types.{EqLeaf}
 use Rattle.solver.specs.State.{equal}
@@ -22,7 +23,7 @@ use Rattle.session.specs.Line as Line
 use Rattle.session.specs.Line.{Command, read-line}
 use Rattle.session.specs.Answer.{Refusal, Answer, TermIs, Checked, Refused}
 use Rattle.session.specs.Session.{Session, empty-session, Performed, step}
-use Rattle.session.specs.History.{History, Makes, WellFormed, Accepted, LeafInForce, EqualNow, AllTrue, LemmaTrue, history-after}
+use Rattle.session.specs.History.{History, Makes, WellFormed, Accepted, HoldsNow, LeafInForce, IsAtom, EqualNow, AllTrue, LemmaTrue, history-after}
 
 -- ---- conflicts and lemmas
 
@@ -82,6 +83,33 @@ module _ (cx : Context) (marks : List ℕ) (h : History) where
   abbrev pub Ring : Type 0
   Ring = (t c d : ℕ) × Watched t × Lowest t c × ((m : ℕ) × Leads m c d) × ((n : ℕ) × Leads (suc n) d d)
 
+  -- 01: marked constructor applications in one class with different constructors
+  abbrev pub ConstructorClash : Type 0
+  ConstructorClash = (c d : ℕ) × MarkedCtor c × MarkedCtor d × EqualNow cx h c d × (term cx c .op ≢ term cx d .op)
+
+  -- 01: an asserted tester whose term's class has a lowest marked application of another constructor
+  abbrev pub TesterClash : Type 0
+  TesterClash =
+      (l a c : ℕ) × (x : TesterApp) × HoldsNow h (Line.Assert l) × T (is-positive l) × IsAtom h l a × (tester-app cx a ≡ some x)
+      × Lowest (x .arg) c × (term cx c .op ≢ Uninterpreted (x .ctor))
+
+  abbrev pub Cause : Type 0
+  Cause = ConstructorClash ⊎ (TesterClash ⊎ Ring)
+
+  -- each watched class has a marked constructor application, or one has none
+  abbrev pub Determined : Type 0
+  Determined = (t : ℕ) → Watched t → (c : ℕ) × Lowest t c
+
+  abbrev pub Undetermined : Type 0
+  Undetermined = (t : ℕ) × Watched t × ((c : ℕ) → Lowest t c → ⊥)
+
+-- such a notion of the table and the marks that a line leaves
+abbrev pub After : (Context → List ℕ → History → Type 0) → Performed → History → Type 0
+After N p h = N (p .session .state .terms) (p .session .state .dt .marks) h
+
+abbrev pub NotRefused : Answer → Type 0
+NotRefused a = (q : Refusal) → a ≢ Refused q
+
 abbrev pub SaysConflict : Answer → Type 0
 SaysConflict a = (ls : List EqLeaf) × (a ≡ Checked (Conflict ls))
 
@@ -91,21 +119,27 @@ SaysConflict a = (ls : List EqLeaf) × (a ≡ Checked (Conflict ls))
 pub record AtLine (s : Session) (line : List ℕ) (p : Performed) (h′ : History) : Type 1 where
   -- each cited leaf is in force, a conflict's leaves are true together in no reading, and a conflict is not empty
   pub conflict : (ls : List EqLeaf) → p .answer ≡ Checked (Conflict ls) → AllInForce h′ ls × Impossible (p .session .state .terms) h′ ls × (ls ≢ [])
+  -- a conflict has a cause: a constructor clash, a tester clash or a ring
+  pub cause : (ls : List EqLeaf) → p .answer ≡ Checked (Conflict ls) → After Cause p h′
   -- each lemma is true in all readings
   pub lemma : (atoms guards : List ℕ) (phases : List Phase) → p .answer ≡ Checked (Split atoms guards phases) → Valid (p .session .state .terms) h′ atoms guards
+  -- a full check says sat only if there is no ring and each watched class has a marked constructor application
+  pub sat : read-line line ≡ some (Line.Check true) → p .answer ≡ Checked Rules.Sat → (After Ring p h′ → ⊥) × After Determined p h′
+  -- unknown is said only if a watched class has none
+  pub unknown : p .answer ≡ Checked Rules.Unknown → After Undetermined p h′
   -- an accepted full check in which no rule before the ring answers says conflict exactly when there is a ring, else sat
-  pub ring : read-line line ≡ some (Line.Check true) → ((q : Refusal) → p .answer ≢ Refused q) → before-ring (s .state) .answer ≡ none → (Ring (p .session .state .terms) (p .session .state .dt .marks) h′ × SaysConflict (p .answer)) ⊎ ((Ring (p .session .state .terms) (p .session .state .dt .marks) h′ → ⊥) × (p .answer ≡ Checked Rules.Sat))
+  pub ring : read-line line ≡ some (Line.Check true) → NotRefused (p .answer) → before-ring (s .state) .answer ≡ none → (After Ring p h′ × SaysConflict (p .answer)) ⊎ ((After Ring p h′ → ⊥) × (p .answer ≡ Checked Rules.Sat))
   -- a refused line leaves the session as it was
   pub refused : (q : Refusal) → p .answer ≡ Refused q → p .session ≡ s
 
 -- what ties the words of the claim to the lines
 pub record Tied (s : Session) (line : List ℕ) (p : Performed) (h′ : History) : Type 1 where
   -- what the line makes of the table
-  pub table : (c : Command) → read-line line ≡ some c → ((q : Refusal) → p .answer ≢ Refused q) → Makes c (s .state .terms) (p .session .state .terms)
+  pub table : (c : Command) → read-line line ≡ some c → NotRefused (p .answer) → Makes c (s .state .terms) (p .session .state .terms)
   pub formed : WellFormed (p .session .state .terms)
   -- marks are never taken back, and after a full check they are those that the rules before the ring leave
   pub marks-stay : (t : ℕ) → T (mem t (s .state .dt .marks)) → T (mem t (p .session .state .dt .marks))
-  pub marks-made : read-line line ≡ some (Line.Check true) → ((q : Refusal) → p .answer ≢ Refused q) → p .session .state .dt .marks ≡ before-ring (s .state) .state .dt .marks
+  pub marks-made : read-line line ≡ some (Line.Check true) → NotRefused (p .answer) → p .session .state .dt .marks ≡ before-ring (s .state) .state .dt .marks
   -- the number that a `term` or `eq` line is answered is that of the term it names
   pub made : (f : ℕ) (ts : List ℕ) (n : ℕ) → read-line line ≡ some (Line.MkTerm f ts) → p .answer ≡ TermIs n → term (p .session .state .terms) n ≡ record { op = Uninterpreted f; args = ts }
   pub made-eq : (t u n : ℕ) → read-line line ≡ some (Line.MkEq t u) → p .answer ≡ TermIs n → term (p .session .state .terms) n ≡ record { op = Eq; args = t ∷ u ∷ [] }
