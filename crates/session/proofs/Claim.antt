@@ -1,19 +1,19 @@
 -- Demand 3: the claim over whole scripts, proved by induction over the list of lines.
 use Prim.Native.Nat.{ℕ}
 use mathlib.Core.Path.{_≡_, refl, sym, subst, subst⁻¹, ap, _∙_}
-use mathlib.Core.Logic.{_↔_}
+use mathlib.Core.Logic.{_⊎_, inl, inr, _↔_}
 use mathlib.Core.Bool.{Bool, true, false, cond, not, _&&_}
 use mathlib.Core.List.{List, [], _∷_, map}
 use mathlib.Core.Option.{Option, none, some}
 use native.Mathlib.Omega.{arith}
 use lib.Dec.{T, eqb, ltb, ltb→lt}
 use lib.ListN.{length}
-use Rattle.core.specs.Lists.{every, same-list}
+use Rattle.core.specs.Lists.{every, mem, same-list}
 use Rattle.core.specs.Ids as Ids
 use Rattle.core.specs.Term.{Eq, same-op}
 use Rattle.core.specs.Context.{term, sort-of, symbol, is-datatype-sort}
 use Rattle.core.specs.Reading.{Reading}
-use Rattle.core.proofs.Lists.{T-and}
+use Rattle.core.proofs.Lists.{In, T-and}
 use Rattle.core.proofs.Readings.{has-reading}
 use Rattle.solver.specs.State.{equal}
 use Rattle.solver.specs.Check.{before-ring}
@@ -23,11 +23,11 @@ use Rattle.session.specs.Line.{Command, DeclareSort, DeclareCtor, Declar
 use Rattle.session.specs.Answer.{Refusal, Unreadable, NoRoom, Answer, Ok, TermIs, Checked, Refused}
 use Rattle.session.specs.Session.{Session, empty-session, Performed, Asked, sort-exists, symbol-exists, term-exists, var-exists, atom-of, one-sort, argument-pairs, before-close, after-close, exist, agree, unregistered, equation, congruent, inhabited, questions, first-no, perform, fits, refused, if-fits, asked, answer-read, step}
 use Rattle.session.specs.History.{History, Makes, Accepted, EqualNow, extended, history-after}
-use Rattle.session.specs.Claim.{AtLine, Tied, ClaimFrom, Claim}
+use Rattle.session.specs.Claim.{Collected, After, AtLine, Tied, ClaimFrom, Claim}
 use Rattle.session.proofs.Invariant.{classes-agree, Inv}
 use Rattle.session.proofs.Steps.{empty-inv}
 use Rattle.session.proofs.Accepting.{answer-kind, Good, sort-good, ctor-good, fun-good, close-good, push-good, pop-good, register-good, term-good, eq-good, full-good, idle-good, assert-good}
-use Rattle.session.proofs.Tables.{perform-table, well-formed, perform-marks, check-marks, closed-by}
+use Rattle.session.proofs.Tables.{perform-table, well-formed, perform-marks, marks-back, check-marks, closed-by}
 use Rattle.session.proofs.Joins.{equate-good, cong-good, iface-good}
 
 -- ---- the questions answered yes
@@ -122,6 +122,7 @@ line-refused s h line q I W = record {
     table = λ c e n. absurd (n q refl);
     formed = well-formed (s .state .terms) (I .ready .formed);
     marks-stay = λ t m. m;
+    marks-from = λ t m. inl m;
     marks-made = λ e n. absurd (n q refl);
     made = λ f ts n e w. let z : _≡_ {A = ℕ} 3 1 = ap answer-kind w in absurd (omega arith);
     made-eq = λ t u n e w. let z : _≡_ {A = ℕ} 3 1 = ap answer-kind w in absurd (omega arith);
@@ -147,6 +148,7 @@ line-accepted s h line c I W e G = record {
     table = λ d w n. subst (λ (x : Command). Makes x (s .state .terms) (perform s c .session .state .terms)) (is d w) (perform-table s c (I .ready));
     formed = well-formed (perform s c .session .state .terms) (G .inv .ready .formed);
     marks-stay = λ t m. in-mem t (perform s c .session .state .dt .marks) (perform-marks s c (I .ready) t (mem-in t (s .state .dt .marks) m));
+    marks-from = λ t m. from t (marks-back s h c t (mem-in t (perform s c .session .state .dt .marks) m));
     marks-made = λ w n. subst⁻¹ (λ (x : Command). perform s x .session .state .dt .marks ≡ before-ring (s .state) .state .dt .marks) (is (Line.Check true) w) (check-marks s);
     made = λ f ts n w q. G .made f ts n (is (MkTerm f ts) w) q;
     made-eq = λ t u n w q. G .made-eq t u n (is (MkEq t u) w) q;
@@ -159,6 +161,11 @@ line-accepted s h line c I W e G = record {
   where
     is : (d : Command) → read-line line ≡ some d → c ≡ d
     is d w = some-is c d (sym e ∙ w)
+
+    from : (t : ℕ) → In t (s .state .dt .marks) ⊎ (After Collected (perform s c) (c ∷ h) t ⊎ (c ≡ Line.Check true)) → T (mem t (s .state .dt .marks)) ⊎ (After Collected (perform s c) (c ∷ h) t ⊎ (read-line line ≡ some (Line.Check true)))
+    from t (inl i) = inl (in-mem t (s .state .dt .marks) i)
+    from t (inr (inl w)) = inr (inl w)
+    from t (inr (inr w)) = inr (inr (e ∙ ap {B = Option Command} some w))
 
 -- a line that is not refused is the newest of the history
 remembered : (h : History) (c : Command) (a : Answer) → ((q : Refusal) → a ≡ Refused q → ⊥) → extended h (some c) a ≡ c ∷ h

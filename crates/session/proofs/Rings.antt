@@ -62,8 +62,12 @@ beneath-of : (cx : Context) (n a t : ℕ) → Claim.Below cx n a t → Beneath c
 beneath-of cx zero a t e = e
 beneath-of cx (suc n) a t (b, m, w) = (b, m, beneath-of cx n b t w)
 
+pub of-beneath : (cx : Context) (n a t : ℕ) → Beneath cx n a t → Claim.Below cx n a t
+of-beneath cx zero a t e = e
+of-beneath cx (suc n) a t (b, m, w) = (b, m, of-beneath cx n b t w)
+
 module _ (s : Session) (h : History) (I : Inv s h) where
-  pub marked-in : (t : ℕ) → Marked (s .state .terms) (s .state .dt .marks) h t → In t (s .state .dt .marks)
+  marked-in : (t : ℕ) → Marked (s .state .terms) (s .state .dt .marks) h t → In t (s .state .dt .marks)
   marked-in t (inl (v, a, n, w, b, r)) = I .marked v a n t w (beneath-of (s .state .terms) n a t b) r
   marked-in t (inr m) = mem-in t (s .state .dt .marks) m
 

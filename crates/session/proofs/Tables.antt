@@ -1,7 +1,7 @@
 -- What each line makes of the table of terms and of the marks, and when declarations are closed.
 use Prim.Native.Nat.{ℕ}
 use mathlib.Core.Path.{_≡_, refl, sym, subst, subst⁻¹, ap, _∙_}
-use mathlib.Core.Logic.{inl, inr}
+use mathlib.Core.Logic.{_⊎_, inl, inr}
 use mathlib.Core.Bool.{Bool, true, false, cond}
 use mathlib.Core.List.{List, [], _∷_, _++_}
 use mathlib.Core.Option.{Option, none, some}
@@ -21,13 +21,15 @@ use Rattle.solver.specs.Rules.{TCheck}
 use Rattle.solver.specs.Check as Check
 use Rattle.solver.proofs.Basics.{mem-in}
 use Rattle.solver.proofs.Terms.{Agrees, Formed}
-use Rattle.solver.proofs.Collection.{children-lower, new-var-marks}
+use Rattle.solver.proofs.Collection.{Beneath, children-lower, new-var-marks}
 use Rattle.solver.proofs.Clash.{Ready}
 use Rattle.solver.proofs.Answers.{full-check-well}
 use Rattle.session.specs.Line as Line
 use Rattle.session.specs.Line.{Command, DeclareSort, DeclareCtor, DeclareFun, Close, MkTerm, MkEq, Register, Equate, Cong, Iface, Assert, Push, Pop}
 use Rattle.session.specs.Session.{Session, done, numbered, merged, merge-sides, pop-to, perform, atom-of}
 use Rattle.session.specs.History.{History, Makes, Takes, WellFormed, Accepted}
+use Rattle.session.specs.Claim.{Collected, After}
+use Rattle.session.proofs.Rings.{of-beneath}
 use Rattle.session.proofs.Accepting.{line-kind}
 
 -- ---- lines that leave the table and the marks
@@ -126,6 +128,32 @@ perform-marks s Push R t i = i
 perform-marks s (Pop k) R t i = same-marks (s .state) (pop-to (s .state) k) (pop-same (s .state) k) t i
 perform-marks s (Line.Check true) R t i = full-check-well (s .state) R .follows .marks t i
 perform-marks s (Line.Check false) R t i = i
+
+same-marks-back : (s s′ : State) → Same s s′ → (t : ℕ) → In t (s′ .dt .marks) → In t (s .dt .marks)
+same-marks-back s s′ E t i = subst (λ (ms : List ℕ). In t ms) (E .marks) i
+
+-- a new mark is one of Collection, or one of a full check
+pub marks-back : (s : Session) (h : History) (c : Command) (t : ℕ) → In t (perform s c .session .state .dt .marks) → In t (s .state .dt .marks) ⊎ (After Collected (perform s c) (c ∷ h) t ⊎ (c ≡ Line.Check true))
+unfolding perform done numbered merged with-terms with-eq with-level with-atoms Check.check
+marks-back s h (DeclareSort n) t i = inl i
+marks-back s h (DeclareCtor dt fs) t i = inl i
+marks-back s h (DeclareFun r as′) t i = inl i
+marks-back s h Close t i = inl i
+marks-back s h (MkTerm f ts) t i = inl i
+marks-back s h (MkEq u v) t i = inl i
+marks-back s h (Register v u) t i = go (new-var-marks (with-atoms (s .state) (Atom.register (s .state .atoms) v u)) u .only t i)
+  where
+    go : In t (s .state .dt .marks) ⊎ ((n : ℕ) × Beneath (s .state .terms) n u t × T (Records.relevant (s .state .terms) t)) → In t (s .state .dt .marks) ⊎ (After Collected (perform s (Register v u)) (Register v u ∷ h) t ⊎ (Register v u ≡ Line.Check true))
+    go (inl j) = inl j
+    go (inr (n, w, r)) = unfold perform done Records.new-var with-atoms with-marks with-dt in inr (inl (v, u, n, inl refl, of-beneath (s .state .terms) n u t w, r))
+marks-back s h (Equate l) t i = inl (same-marks-back (s .state) (merge-sides s l (children (s .state .terms) (atom-of s l)) .session .state) (sides-same s l (children (s .state .terms) (atom-of s l))) t i)
+marks-back s h (Cong u v) t i = inl i
+marks-back s h (Iface u v j g) t i = inl i
+marks-back s h (Assert l) t i = inl (same-marks-back (s .state) (Records.assert (s .state) l .state) (assert-same (s .state) l) t i)
+marks-back s h Push t i = inl i
+marks-back s h (Pop k) t i = inl (same-marks-back (s .state) (pop-to (s .state) k) (pop-same (s .state) k) t i)
+marks-back s h (Line.Check true) t i = inr (inr refl)
+marks-back s h (Line.Check false) t i = inl i
 
 -- a full check leaves the marks that the rules before the ring leave
 pub check-marks : (s : Session) → perform s (Line.Check true) .session .state .dt .marks ≡ Check.before-ring (s .state) .state .dt .marks

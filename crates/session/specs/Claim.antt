@@ -1,6 +1,6 @@
 -- Demand 3: the claim over whole scripts, stated. For every list of lines from an empty session, unreadable and refused ones
 -- included, at each answer: each cited leaf is in force; a conflict's leaves are true together in no reading by finite trees;
--- each lemma is true in all readings; the ring clause.
+-- each lemma is true in all readings; a conflict has a cause; when a full check says sat or unknown; the ring clause.
 use Prim.Native.Nat.{ℕ, zero, suc, _≤_}
 use mathlib.Core.Path.{_≡_}
 use mathlib.Core.Logic.{_≢_, _⊎_, _↔_}
@@ -39,7 +39,7 @@ Impossible cx h ls = (r : Reading cx) → AllTrue r h ls → ⊥
 abbrev pub Valid : Context → History → List ℕ → List ℕ → Type 1
 Valid cx h atoms guards = (r : Reading cx) → LemmaTrue r h atoms guards
 
--- ---- rings, over a table of terms, the marks that the rules have made so far, and the lines of a history
+-- ---- rings and clashes, over a table of terms, the marks that the rules have made so far, and the lines of a history
 
 -- t stands n levels below a
 abbrev pub Below : Context → ℕ → ℕ → ℕ → Type 0
@@ -93,6 +93,7 @@ module _ (cx : Context) (marks : List ℕ) (h : History) where
       (l a c : ℕ) × (x : TesterApp) × HoldsNow h (Line.Assert l) × T (is-positive l) × IsAtom h l a × (tester-app cx a ≡ some x)
       × Lowest (x .arg) c × (term cx c .op ≢ Uninterpreted (x .ctor))
 
+  -- what a conflict comes from
   abbrev pub Cause : Type 0
   Cause = ConstructorClash ⊎ (TesterClash ⊎ Ring)
 
@@ -104,7 +105,7 @@ module _ (cx : Context) (marks : List ℕ) (h : History) where
   Undetermined = (t : ℕ) × Watched t × ((c : ℕ) → Lowest t c → ⊥)
 
 -- such a notion of the table and the marks that a line leaves
-abbrev pub After : (Context → List ℕ → History → Type 0) → Performed → History → Type 0
+abbrev pub After : {A : Type 1} → (Context → List ℕ → History → A) → Performed → History → A
 After N p h = N (p .session .state .terms) (p .session .state .dt .marks) h
 
 abbrev pub NotRefused : Answer → Type 0
@@ -137,8 +138,10 @@ pub record Tied (s : Session) (line : List ℕ) (p : Performed) (h′ : History)
   -- what the line makes of the table
   pub table : (c : Command) → read-line line ≡ some c → NotRefused (p .answer) → Makes c (s .state .terms) (p .session .state .terms)
   pub formed : WellFormed (p .session .state .terms)
-  -- marks are never taken back, and after a full check they are those that the rules before the ring leave
+  -- marks are never taken back; a mark is an older one, one of Collection, or one of a full check; and after a full check they are
+  -- those that the rules before the ring leave
   pub marks-stay : (t : ℕ) → T (mem t (s .state .dt .marks)) → T (mem t (p .session .state .dt .marks))
+  pub marks-from : (t : ℕ) → T (mem t (p .session .state .dt .marks)) → T (mem t (s .state .dt .marks)) ⊎ (After Collected p h′ t ⊎ (read-line line ≡ some (Line.Check true)))
   pub marks-made : read-line line ≡ some (Line.Check true) → NotRefused (p .answer) → p .session .state .dt .marks ≡ before-ring (s .state) .state .dt .marks
   -- the number that a `term` or `eq` line is answered is that of the term it names
   pub made : (f : ℕ) (ts : List ℕ) (n : ℕ) → read-line line ≡ some (Line.MkTerm f ts) → p .answer ≡ TermIs n → term (p .session .state .terms) n ≡ record { op = Uninterpreted f; args = ts }
