@@ -135,7 +135,7 @@ pub record AtLine (s : Session) (line : List ℕ) (p : Performed) (h′ : Histor
 
 -- what ties the words of the claim to the lines
 pub record Tied (s : Session) (line : List ℕ) (p : Performed) (h′ : History) : Type 1 where
-  -- what the line makes of the table
+  -- what the line makes of the table, in which each term is well formed
   pub table : (c : Command) → read-line line ≡ some c → NotRefused (p .answer) → Makes c (s .state .terms) (p .session .state .terms)
   pub formed : WellFormed (p .session .state .terms)
   -- marks are never taken back; a mark is an older one, one of Collection, or one of a full check; and after a full check they are

@@ -23,7 +23,7 @@ History = List Command
 -- ---- the table of sorts, symbols and terms
 
 -- what an accepted line makes of the table: `sort`, `ctor`, `fun` declare, `term` and `eq` make the term they name unless it is there,
--- a full check may append terms, and no other line changes it
+-- a full check may append terms, well formed as said below, and no other line changes it
 abbrev pub Makes : Command → Context → Context → Type 0
 Makes (DeclareSort n) cx cx′ = cx′ ≡ declare-sort cx n
 Makes (DeclareCtor dt fs) cx cx′ = cx′ ≡ dt-add-constructor cx dt fs
