@@ -32,19 +32,20 @@ use Rattle.solver.proofs.Terms.{Extends, extends-sorts, extends-symbols, Below,
 use Rattle.solver.proofs.Signature.{Signed, sort-signed, fun-signed, ctor-signed}
 use Rattle.solver.proofs.Apps.{tester-app-is}
 use Rattle.solver.proofs.Clash.{Refuted, Recorded, tester-refuted}
-use Rattle.solver.proofs.Moves.{Follows, AnswerHolds}
-use Rattle.solver.proofs.Answers.{CheckedWell, RingDecides, full-check-decides, check-well}
+use Rattle.solver.proofs.Moves.{Follows, follows-self, AnswerHolds}
+use Rattle.solver.proofs.Answers.{CheckedWell, RingDecides, full-check-decides, full-check-well}
 use Rattle.solver.proofs.Collection.{relevant-kept}
 use Rattle.session.specs.Line as Line
 use Rattle.session.specs.Line.{Command, DeclareSort, DeclareCtor, DeclareFun, Close, MkTerm, MkEq, Register, Equate, Cong, Iface, Assert, Push, Pop}
 use Rattle.session.specs.Answer.{Refusal, Answer, Ok, TermIs, Checked, Refused}
 use Rattle.session.specs.Session.{Session, Performed, term-exists, one-sort, perform, done, numbered, conflict-or-ok}
 use Rattle.session.specs.History.{History, level, level-after, HoldsNow, IsAtom}
-use Rattle.session.specs.Claim.{AllInForce, Impossible, Valid, Ring, SaysConflict}
+use Rattle.session.specs.Claim.{AllInForce, Impossible, Valid, Ring, Cause, Determined, Undetermined, After, SaysConflict}
 use Rattle.session.proofs.Forces.{kind}
 use Rattle.session.proofs.Invariant.{signature, declared, kept-self, kept-extends, kept-terms, registered-atom, Entry, Entries, entries-on, Inv}
 use Rattle.session.proofs.Truth.{two-terms, SaidNow, conflict-holds, lemma-holds}
 use Rattle.session.proofs.Rings.{ring-there, there-ring}
+use Rattle.session.proofs.Causes.{determined, undetermined, cause-now}
 use Rattle.session.proofs.Steps.{plain-kept, register-kept, pop-kept}
 
 -- ---- answers and lines told apart
@@ -71,16 +72,28 @@ line-kind Push = 11
 line-kind (Pop k) = 12
 line-kind (Line.Check e) = 13
 
+unfoldable pub check-kind : Answer → ℕ
+check-kind Ok = 0
+check-kind (TermIs t) = 0
+check-kind (Checked Rules.Sat) = 1
+check-kind (Checked (Conflict ls)) = 2
+check-kind (Checked (Split as′ gs ps)) = 3
+check-kind (Checked Rules.Unknown) = 4
+check-kind (Refused q) = 0
+
 -- conflict with a ring, sat without one
 abbrev pub RingClause : Performed → History → Type 0
-RingClause p h = (Ring (p .session .state .terms) (p .session .state .dt .marks) h × SaysConflict (p .answer)) ⊎ ((Ring (p .session .state .terms) (p .session .state .dt .marks) h → ⊥) × (p .answer ≡ Checked Rules.Sat))
+RingClause p h = (After Ring p h × SaysConflict (p .answer)) ⊎ ((After Ring p h → ⊥) × (p .answer ≡ Checked Rules.Sat))
 
 -- an accepted line c with what it does
 pub record Good (s : Session) (c : Command) (p : Performed) (h : History) : Type 1 where
   pub inv : Inv (p .session) (c ∷ h)
   pub spoken : (q : Refusal) → p .answer ≡ Refused q → ⊥
   pub conflict : (ls : List EqLeaf) → p .answer ≡ Checked (Conflict ls) → AllInForce (c ∷ h) ls × Impossible (p .session .state .terms) (c ∷ h) ls × (ls ≢ [])
+  pub cause : (ls : List EqLeaf) → p .answer ≡ Checked (Conflict ls) → After Cause p (c ∷ h)
   pub lemma : (atoms guards : List ℕ) (phases : List Phase) → p .answer ≡ Checked (Split atoms guards phases) → Valid (p .session .state .terms) (c ∷ h) atoms guards
+  pub sat : c ≡ Line.Check true → p .answer ≡ Checked Rules.Sat → (After Ring p (c ∷ h) → ⊥) × After Determined p (c ∷ h)
+  pub unknown : p .answer ≡ Checked Rules.Unknown → After Undetermined p (c ∷ h)
   pub ring : c ≡ Line.Check true → before-ring (s .state) .answer ≡ none → RingClause p (c ∷ h)
   pub made : (f : ℕ) (ts : List ℕ) (n : ℕ) → c ≡ MkTerm f ts → p .answer ≡ TermIs n → term (p .session .state .terms) n ≡ record { op = Term.Uninterpreted f; args = ts }
   pub made-eq : (t u n : ℕ) → c ≡ MkEq t u → p .answer ≡ TermIs n → term (p .session .state .terms) n ≡ record { op = Eq; args = t ∷ u ∷ [] }
@@ -92,7 +105,10 @@ good-ok s c p h a n I = record {
   inv = I;
   spoken = λ q e. let w : _≡_ {A = ℕ} 0 3 = ap answer-kind (sym a ∙ e) in omega arith;
   conflict = λ ls e. let w : _≡_ {A = ℕ} 0 2 = ap answer-kind (sym a ∙ e) in absurd (omega arith);
+  cause = λ ls e. let w : _≡_ {A = ℕ} 0 2 = ap answer-kind (sym a ∙ e) in absurd (omega arith);
   lemma = λ as′ gs ps e. let w : _≡_ {A = ℕ} 0 2 = ap answer-kind (sym a ∙ e) in absurd (omega arith);
+  sat = λ e. absurd (n (ap line-kind e));
+  unknown = λ e. let w : _≡_ {A = ℕ} 0 2 = ap answer-kind (sym a ∙ e) in absurd (omega arith);
   ring = λ e. absurd (n (ap line-kind e));
   made = λ f ts k e q. let w : _≡_ {A = ℕ} 0 1 = ap answer-kind (sym a ∙ q) in absurd (omega arith);
   made-eq = λ t u k e q. let w : _≡_ {A = ℕ} 0 1 = ap answer-kind (sym a ∙ q) in absurd (omega arith);
@@ -286,7 +302,10 @@ number-good s h d o as′ I c k l z n B A f g = record {
       (record { extends = M .extends; formed = mk-app-formed (s .state .terms) o as′ (I .ready .formed) B A; eq = refl; atoms = refl; level = refl; entries = refl; marks = λ t i. i; ascending = λ a. a });
   spoken = λ q e. let w : _≡_ {A = ℕ} 1 3 = ap answer-kind e in omega arith;
   conflict = λ ls e. let w : _≡_ {A = ℕ} 1 2 = ap answer-kind e in absurd (omega arith);
+  cause = λ ls e. let w : _≡_ {A = ℕ} 1 2 = ap answer-kind e in absurd (omega arith);
   lemma = λ xs gs ps e. let w : _≡_ {A = ℕ} 1 2 = ap answer-kind e in absurd (omega arith);
+  sat = λ e. absurd (n (ap line-kind e));
+  unknown = λ e. let w : _≡_ {A = ℕ} 1 2 = ap answer-kind e in absurd (omega arith);
   ring = λ e. absurd (n (ap line-kind e));
   made = λ x ts i e q. subst (λ (j : ℕ). term (m .context) j ≡ app (Term.Uninterpreted x) ts) (number-is i q) (M .made ∙ f x ts e);
   made-eq = λ t u i e q. subst (λ (j : ℕ). term (m .context) j ≡ app Eq (t ∷ u ∷ [])) (number-is i q) (M .made ∙ g t u e);
@@ -333,42 +352,67 @@ recorded-said s h I k t (e, i, p, q) =
     subst (λ (x : ℕ). HoldsNow h (Assert x) × IsAtom h x t × T (Ids.is-positive x)) p
     (subst (λ (x : ℕ). HoldsNow h (Assert (e .lit)) × IsAtom h (e .lit) x × T (Ids.is-positive (e .lit))) q ((e .level, E .force), E .atom, E .positive))
 
-pub check-good : (s : Session) (h : History) (full : Bool) → Inv s h → T (s .closed) → Good s (Line.Check full) (perform s (Line.Check full)) h
-unfolding perform done kind level level-after signature declared answer-kind line-kind
-check-good s h full I c = record {
+pub full-good : (s : Session) (h : History) → Inv s h → T (s .closed) → Good s (Line.Check true) (perform s (Line.Check true)) h
+unfolding perform done Check.check kind level level-after signature declared answer-kind
+full-good s h I c = record {
   inv = J;
   spoken = λ q e. let w : _≡_ {A = ℕ} 2 3 = ap answer-kind e in omega arith;
-  conflict = λ ls e. conflict-holds out (Line.Check full ∷ h) J (Recorded (k .state)) (recorded-said out (Line.Check full ∷ h) J) ls (subst (AnswerHolds (k .state)) (checked-is (Conflict ls) e) (W .holds));
-  lemma = λ as′ gs ps e. lemma-holds out (Line.Check full ∷ h) J as′ gs (subst (AnswerHolds (k .state)) (checked-is (Split as′ gs ps) e) (W .holds));
-  ring = λ e q. ring full refl e q;
+  conflict = λ ls e. conflict-holds out (Line.Check true ∷ h) J (Recorded (k .state)) said ls (holds (Conflict ls) e);
+  cause = λ ls e. cause-now out (Line.Check true ∷ h) J (Recorded (k .state)) said (holds (Conflict ls) e .cause);
+  lemma = λ as′ gs ps e. lemma-holds out (Line.Check true ∷ h) J as′ gs (holds (Split as′ gs ps) e);
+  sat = λ w e. let S = holds Rules.Sat e in (λ r. S .no-ring (ring-there out (Line.Check true ∷ h) J r), determined out (Line.Check true ∷ h) J (S .determined));
+  unknown = λ e. undetermined out (Line.Check true ∷ h) J (holds Rules.Unknown e .undetermined);
+  ring = λ e q. decided (full-check-decides (s .state) q);
   made = λ f ts n e q. let w : _≡_ {A = ℕ} 2 1 = ap answer-kind q in absurd (omega arith);
   made-eq = λ t u n e q. let w : _≡_ {A = ℕ} 2 1 = ap answer-kind q in absurd (omega arith);
 }
   where
     k : Check.Checked
-    k = Check.check full (s .state)
+    k = Check.full-check (s .state)
 
     W : CheckedWell (s .state) k
-    W = check-well (s .state) (I .ready) full
+    W = full-check-well (s .state) (I .ready)
 
     out : Session
     out = record { state = k .state; closed = s .closed }
 
-    J : Inv out (Line.Check full ∷ h)
-    J = follows-inv s h (Line.Check full) (k .state) I c refl refl refl (W .follows)
+    J : Inv out (Line.Check true ∷ h)
+    J = follows-inv s h (Line.Check true) (k .state) I c refl refl refl (W .follows)
+
+    said : SaidNow out (Line.Check true ∷ h) J (Recorded (k .state))
+    said = recorded-said out (Line.Check true ∷ h) J
 
     checked-is : (a : TCheck) → Checked (k .answer) ≡ Checked a → k .answer ≡ a
     checked-is a e = cc
 
-    full-is : (b : Bool) → Line.Check full ≡ Line.Check b → full ≡ b
+    holds : (a : TCheck) → Checked (k .answer) ≡ Checked a → AnswerHolds (k .state) a
+    holds a e = subst (AnswerHolds (k .state)) (checked-is a e) (W .holds)
+
+    decided : RingDecides k → RingClause (record { answer = Checked (k .answer); session = out }) (Line.Check true ∷ h)
+    decided (inl (r, (ls, e))) = inl (there-ring out (Line.Check true ∷ h) J r, (ls, ap Checked e))
+    decided (inr (n, e)) = inr (λ r. n (ring-there out (Line.Check true ∷ h) J r), ap Checked e)
+
+-- Not full: sat, nothing done.
+pub idle-good : (s : Session) (h : History) → Inv s h → T (s .closed) → Good s (Line.Check false) (perform s (Line.Check false)) h
+unfolding perform done Check.check kind level level-after signature declared answer-kind check-kind
+idle-good s h I c = record {
+  inv = follows-inv s h (Line.Check false) (s .state) I c refl refl refl (follows-self (s .state) (I .ready .formed));
+  spoken = λ q e. let w : _≡_ {A = ℕ} 2 3 = ap answer-kind e in omega arith;
+  conflict = λ ls e. let w : _≡_ {A = ℕ} 1 2 = ap check-kind e in absurd (omega arith);
+  cause = λ ls e. let w : _≡_ {A = ℕ} 1 2 = ap check-kind e in absurd (omega arith);
+  lemma = λ as′ gs ps e. let w : _≡_ {A = ℕ} 1 3 = ap check-kind e in absurd (omega arith);
+  sat = λ e. absurd (not-full e);
+  unknown = λ e. let w : _≡_ {A = ℕ} 1 4 = ap check-kind e in absurd (omega arith);
+  ring = λ e. absurd (not-full e);
+  made = λ f ts n e q. let w : _≡_ {A = ℕ} 2 1 = ap answer-kind q in absurd (omega arith);
+  made-eq = λ t u n e q. let w : _≡_ {A = ℕ} 2 1 = ap answer-kind q in absurd (omega arith);
+}
+  where
+    full-is : (b : Bool) → Line.Check false ≡ Line.Check b → false ≡ b
     full-is b e = cc
 
-    decided : RingDecides k → RingClause (record { answer = Checked (k .answer); session = out }) (Line.Check full ∷ h)
-    decided (inl (r, (ls, e))) = inl (there-ring out (Line.Check full ∷ h) J r, (ls, ap Checked e))
-    decided (inr (n, e)) = inr (λ r. n (ring-there out (Line.Check full ∷ h) J r), ap Checked e)
-
-    ring : (b : Bool) → full ≡ b → Line.Check full ≡ Line.Check true → before-ring (s .state) .answer ≡ none → RingClause (record { answer = Checked (k .answer); session = out }) (Line.Check full ∷ h)
-    ring b w e q = decided (subst⁻¹ (λ (x : Bool). RingDecides (Check.check x (s .state))) (full-is true e) (unfold Check.check in full-check-decides (s .state) q))
+    not-full : Line.Check false ≡ Line.Check true → ⊥
+    not-full e = false≢true (full-is true e)
 
 -- ---- assert
 
@@ -429,19 +473,15 @@ unfolding conflict-or-ok answer-kind
 never-number none n e = let w : _≡_ {A = ℕ} 0 1 = ap answer-kind e in omega arith
 never-number (some ks) n e = let w : _≡_ {A = ℕ} 2 1 = ap answer-kind e in omega arith
 
-check-kind : Answer → ℕ
-check-kind Ok = 0
-check-kind (TermIs t) = 0
-check-kind (Checked Rules.Sat) = 0
-check-kind (Checked (Conflict ls)) = 0
-check-kind (Checked (Split as′ gs ps)) = 1
-check-kind (Checked Rules.Unknown) = 0
-check-kind (Refused q) = 0
-
 never-split : (o : Option (List EqLeaf)) (as′ gs : List ℕ) (ps : List Phase) → conflict-or-ok o ≡ Checked (Split as′ gs ps) → ⊥
 unfolding conflict-or-ok check-kind
-never-split none as′ gs ps e = let w : _≡_ {A = ℕ} 0 1 = ap check-kind e in omega arith
-never-split (some ks) as′ gs ps e = let w : _≡_ {A = ℕ} 0 1 = ap check-kind e in omega arith
+never-split none as′ gs ps e = let w : _≡_ {A = ℕ} 0 3 = ap check-kind e in omega arith
+never-split (some ks) as′ gs ps e = let w : _≡_ {A = ℕ} 2 3 = ap check-kind e in omega arith
+
+never-unknown : (o : Option (List EqLeaf)) → conflict-or-ok o ≡ Checked Rules.Unknown → ⊥
+unfolding conflict-or-ok check-kind
+never-unknown none e = let w : _≡_ {A = ℕ} 0 4 = ap check-kind e in omega arith
+never-unknown (some ks) e = let w : _≡_ {A = ℕ} 2 4 = ap check-kind e in omega arith
 
 -- what an assertion leaves: notes about the atom t of the literal l
 record AssertWell (s : Session) (h : History) (l t : ℕ) (o : Records.Outcome) : Type 1 where
@@ -521,7 +561,10 @@ module _ (s : Session) (h : History) (l : ℕ) (I : Inv s h) (v : T (Atom.is-reg
     inv = noted-inv s h l (o .state) I (W .noted) (W .entries);
     spoken = λ q e. never-refused (o .conflict) q e;
     conflict = λ ls e. holds ls (W .refutes ls (conflict-is (o .conflict) ls e));
+    cause = λ ls e. why ls (W .refutes ls (conflict-is (o .conflict) ls e));
     lemma = λ as′ gs ps e. absurd (never-split (o .conflict) as′ gs ps e);
+    sat = λ e. let w : _≡_ {A = ℕ} 10 13 = ap line-kind e in absurd (omega arith);
+    unknown = λ e. absurd (never-unknown (o .conflict) e);
     ring = λ e. let w : _≡_ {A = ℕ} 10 13 = ap line-kind e in absurd (omega arith);
     made = λ f ts n e q. absurd (never-number (o .conflict) n q);
     made-eq = λ t u n e q. absurd (never-number (o .conflict) n q);
@@ -536,6 +579,12 @@ module _ (s : Session) (h : History) (l : ℕ) (I : Inv s h) (v : T (Atom.is-reg
       holds ls (p, R) =
           subst⁻¹ (λ (z : Context). AllInForce (Assert l ∷ h) ls × Impossible z (Assert l ∷ h) ls × (ls ≢ [])) (W .noted .terms)
           (conflict-holds s (Assert l ∷ h) unnoted (λ k u. (k ≡ l) × (u ≡ atom-t)) (said p) ls R)
+
+      why : (ls : List EqLeaf) → T (Ids.is-positive l) × Refuted (s .state) (λ k u. (k ≡ l) × (u ≡ atom-t)) ls → Cause (o .state .terms) (o .state .dt .marks) (Assert l ∷ h)
+      why ls (p, R) =
+          subst⁻¹ (λ (z : Context). Cause z (o .state .dt .marks) (Assert l ∷ h)) (W .noted .terms)
+          (subst⁻¹ (λ (ms : List ℕ). Cause (s .state .terms) ms (Assert l ∷ h)) (W .noted .marks)
+          (cause-now s (Assert l ∷ h) unnoted (λ k u. (k ≡ l) × (u ≡ atom-t)) (said p) (R .cause)))
 
   pub assert-good : Good s (Assert l) (perform s (Assert l)) h
   unfolding perform

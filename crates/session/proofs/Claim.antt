@@ -1,32 +1,33 @@
 -- Demand 3: the claim over whole scripts, proved by induction over the list of lines.
 use Prim.Native.Nat.{ℕ}
-use mathlib.Core.Path.{_≡_, refl, sym, subst⁻¹, ap, _∙_}
-use mathlib.Core.Logic.{_↔_}
+use mathlib.Core.Path.{_≡_, refl, sym, subst, subst⁻¹, ap, _∙_}
+use mathlib.Core.Logic.{_⊎_, inl, inr, _↔_}
 use mathlib.Core.Bool.{Bool, true, false, cond, not, _&&_}
 use mathlib.Core.List.{List, [], _∷_, map}
 use mathlib.Core.Option.{Option, none, some}
 use native.Mathlib.Omega.{arith}
 use lib.Dec.{T, eqb, ltb, ltb→lt}
 use lib.ListN.{length}
-use Rattle.core.specs.Lists.{every, same-list}
+use Rattle.core.specs.Lists.{every, mem, same-list}
 use Rattle.core.specs.Ids as Ids
 use Rattle.core.specs.Term.{Eq, same-op}
 use Rattle.core.specs.Context.{term, sort-of, symbol, is-datatype-sort}
 use Rattle.core.specs.Reading.{Reading}
-use Rattle.core.proofs.Lists.{T-and}
+use Rattle.core.proofs.Lists.{In, T-and}
 use Rattle.core.proofs.Readings.{has-reading}
-use Rattle.solver.specs.State.{empty-state, equal}
-use Rattle.solver.proofs.Basics.{some-is, some-none}
+use Rattle.solver.specs.State.{equal}
+use Rattle.solver.specs.Check.{before-ring}
+use Rattle.solver.proofs.Basics.{some-is, some-none, mem-in, in-mem}
 use Rattle.session.specs.Line as Line
 use Rattle.session.specs.Line.{Command, DeclareSort, DeclareCtor, DeclareFun, Close, MkTerm, MkEq, Register, Equate, Cong, Iface, Assert, Push, Pop, read-line}
 use Rattle.session.specs.Answer.{Refusal, Unreadable, NoRoom, Answer, Ok, TermIs, Checked, Refused}
 use Rattle.session.specs.Session.{Session, empty-session, Performed, Asked, sort-exists, symbol-exists, term-exists, var-exists, atom-of, one-sort, argument-pairs, before-close, after-close, exist, agree, unregistered, equation, congruent, inhabited, questions, first-no, perform, fits, refused, if-fits, asked, answer-read, step}
-use Rattle.session.specs.History.{History, TableOf, Accepted, EqualNow, extended, history-after}
-use Rattle.session.specs.Claim.{AtLine, Tied, ClaimFrom, Claim}
+use Rattle.session.specs.History.{History, Makes, Accepted, EqualNow, extended, history-after}
+use Rattle.session.specs.Claim.{Collected, After, AtLine, Tied, ClaimFrom, Claim}
 use Rattle.session.proofs.Invariant.{classes-agree, Inv}
 use Rattle.session.proofs.Steps.{empty-inv}
-use Rattle.session.proofs.Accepting.{answer-kind, Good, sort-good, ctor-good, fun-good, close-good, push-good, pop-good, register-good, term-good, eq-good, check-good, assert-good}
-use Rattle.session.proofs.Tables.{perform-table, closed-by}
+use Rattle.session.proofs.Accepting.{answer-kind, Good, sort-good, ctor-good, fun-good, close-good, push-good, pop-good, register-good, term-good, eq-good, full-good, idle-good, assert-good}
+use Rattle.session.proofs.Tables.{perform-table, well-formed, perform-marks, marks-back, check-marks, closed-by}
 use Rattle.session.proofs.Joins.{equate-good, cong-good, iface-good}
 
 -- ---- the questions answered yes
@@ -82,7 +83,8 @@ accept s h I (Assert l) e =
     assert-good s h l I (unfold var-exists in no-refusal (exist (var-exists s l)) [] e₁ .0)
 accept s h I Push e = push-good s h I
 accept s h I (Pop k) e = pop-good s h k I
-accept s h I (Line.Check full) e = check-good s h full I (no-refusal (after-close s) [] e .0)
+accept s h I (Line.Check true) e = full-good s h I (no-refusal (after-close s) [] e .0)
+accept s h I (Line.Check false) e = idle-good s h I (no-refusal (after-close s) [] e .0)
 
 -- ---- what ties a session to its lines
 
@@ -90,59 +92,80 @@ session-classes : (s : Session) (h : History) → Inv s h → (x y : ℕ) → T 
 unfolding equal
 session-classes s h I x y = classes-agree (s .state .terms) (s .state .atoms) (s .state .eq) (s .state .level) h (I .named) (I .merged) x y
 
--- what the claim says of one line beside the invariant: the table, and that an accepted `close` closes
-pub record Told (s : Session) (h : History) : Type 0 where
-  pub table : TableOf h (s .state .terms)
-  pub closed : Accepted h Close → T (s .closed)
+-- beside the invariant: an accepted `close` closes
+abbrev Closes : Session → History → Type 0
+Closes s h = Accepted h Close → T (s .closed)
 
-session-reading : (s : Session) (h : History) → Inv s h → Told s h → Accepted h Close → Reading (s .state .terms)
-session-reading s h I W a = has-reading (s .state .terms) (I .grounded (W .closed a))
+session-reading : (s : Session) (h : History) → Inv s h → Closes s h → Accepted h Close → Reading (s .state .terms)
+session-reading s h I W a = has-reading (s .state .terms) (I .grounded (W a))
 
 -- the claim of one line, and what it leaves
 pub record LineHolds (s : Session) (line : List ℕ) (p : Performed) (h′ : History) : Type 1 where
   pub at : AtLine s line p h′
   pub tied : Tied s line p h′
   pub inv : Inv (p .session) h′
-  pub told : Told (p .session) h′
+  pub closes : Closes (p .session) h′
 
-line-refused : (s : Session) (h : History) (line : List ℕ) (q : Refusal) → Inv s h → Told s h → LineHolds s line (refused s q) h
+line-refused : (s : Session) (h : History) (line : List ℕ) (q : Refusal) → Inv s h → Closes s h → LineHolds s line (refused s q) h
 unfolding refused answer-kind
 line-refused s h line q I W = record {
   at = record {
     conflict = λ ls e. let w : _≡_ {A = ℕ} 3 2 = ap answer-kind e in absurd (omega arith);
+    cause = λ ls e. let w : _≡_ {A = ℕ} 3 2 = ap answer-kind e in absurd (omega arith);
     lemma = λ as′ gs ps e. let w : _≡_ {A = ℕ} 3 2 = ap answer-kind e in absurd (omega arith);
+    sat = λ e w. let z : _≡_ {A = ℕ} 3 2 = ap answer-kind w in absurd (omega arith);
+    unknown = λ e. let w : _≡_ {A = ℕ} 3 2 = ap answer-kind e in absurd (omega arith);
     ring = λ e n b. absurd (n q refl);
     refused = λ r e. refl;
   };
   tied = record {
-    table = W .table;
+    table = λ c e n. absurd (n q refl);
+    formed = well-formed (s .state .terms) (I .ready .formed);
+    marks-stay = λ t m. m;
+    marks-from = λ t m. inl m;
+    marks-made = λ e n. absurd (n q refl);
     made = λ f ts n e w. let z : _≡_ {A = ℕ} 3 1 = ap answer-kind w in absurd (omega arith);
     made-eq = λ t u n e w. let z : _≡_ {A = ℕ} 3 1 = ap answer-kind w in absurd (omega arith);
     classes = session-classes s h I;
     reading = session-reading s h I W;
   };
   inv = I;
-  told = W;
+  closes = W;
 }
 
-line-accepted : (s : Session) (h : History) (line : List ℕ) (c : Command) (p : Performed) → read-line line ≡ some c → Good s c p h → Told (p .session) (c ∷ h) → LineHolds s line p (c ∷ h)
-line-accepted s h line c p e G W = record {
+line-accepted : (s : Session) (h : History) (line : List ℕ) (c : Command) → Inv s h → Closes s h → read-line line ≡ some c → Good s c (perform s c) h → LineHolds s line (perform s c) (c ∷ h)
+line-accepted s h line c I W e G = record {
   at = record {
     conflict = G .conflict;
+    cause = G .cause;
     lemma = G .lemma;
-    ring = λ w n b. G .ring (some-is c (Line.Check true) (sym e ∙ w)) b;
+    sat = λ w q. G .sat (is (Line.Check true) w) q;
+    unknown = G .unknown;
+    ring = λ w n b. G .ring (is (Line.Check true) w) b;
     refused = λ q w. absurd (G .spoken q w);
   };
   tied = record {
-    table = W .table;
-    made = λ f ts n w q. G .made f ts n (some-is c (MkTerm f ts) (sym e ∙ w)) q;
-    made-eq = λ t u n w q. G .made-eq t u n (some-is c (MkEq t u) (sym e ∙ w)) q;
-    classes = session-classes (p .session) (c ∷ h) (G .inv);
-    reading = session-reading (p .session) (c ∷ h) (G .inv) W;
+    table = λ d w n. subst (λ (x : Command). Makes x (s .state .terms) (perform s c .session .state .terms)) (is d w) (perform-table s c (I .ready));
+    formed = well-formed (perform s c .session .state .terms) (G .inv .ready .formed);
+    marks-stay = λ t m. in-mem t (perform s c .session .state .dt .marks) (perform-marks s c (I .ready) t (mem-in t (s .state .dt .marks) m));
+    marks-from = λ t m. from t (marks-back s h c t (mem-in t (perform s c .session .state .dt .marks) m));
+    marks-made = λ w n. subst⁻¹ (λ (x : Command). perform s x .session .state .dt .marks ≡ before-ring (s .state) .state .dt .marks) (is (Line.Check true) w) (check-marks s);
+    made = λ f ts n w q. G .made f ts n (is (MkTerm f ts) w) q;
+    made-eq = λ t u n w q. G .made-eq t u n (is (MkEq t u) w) q;
+    classes = session-classes (perform s c .session) (c ∷ h) (G .inv);
+    reading = session-reading (perform s c .session) (c ∷ h) (G .inv) (closed-by s h c W);
   };
   inv = G .inv;
-  told = W;
+  closes = closed-by s h c W;
 }
+  where
+    is : (d : Command) → read-line line ≡ some d → c ≡ d
+    is d w = some-is c d (sym e ∙ w)
+
+    from : (t : ℕ) → In t (s .state .dt .marks) ⊎ (After Collected (perform s c) (c ∷ h) t ⊎ (c ≡ Line.Check true)) → T (mem t (s .state .dt .marks)) ⊎ (After Collected (perform s c) (c ∷ h) t ⊎ (read-line line ≡ some (Line.Check true)))
+    from t (inl i) = inl (in-mem t (s .state .dt .marks) i)
+    from t (inr (inl w)) = inr (inl w)
+    from t (inr (inr w)) = inr (inr (e ∙ ap {B = Option Command} some w))
 
 -- a line that is not refused is the newest of the history
 remembered : (h : History) (c : Command) (a : Answer) → ((q : Refusal) → a ≡ Refused q → ⊥) → extended h (some c) a ≡ c ∷ h
@@ -154,13 +177,10 @@ remembered h c (Refused q) n = absurd (n q refl)
 
 -- ---- one line
 
-module _ (s : Session) (h : History) (I : Inv s h) (W : Told s h) (line : List ℕ) where
-  told-more : (c : Command) → Told (perform s c .session) (c ∷ h)
-  told-more c = record { table = (s .state .terms, W .table, perform-table s c (I .ready)); closed = closed-by s h c (W .closed) }
-
+module _ (s : Session) (h : History) (I : Inv s h) (W : Closes s h) (line : List ℕ) where
   line-fits : (c : Command) → read-line line ≡ some c → Good s c (perform s c) h → (b : Bool) → LineHolds s line (cond b (perform s c) (refused s NoRoom)) (extended h (some c) (cond b (perform s c) (refused s NoRoom) .answer))
   unfolding extended refused
-  line-fits c e G true = subst⁻¹ (LineHolds s line (perform s c)) (remembered h c (perform s c .answer) (G .spoken)) (line-accepted s h line c (perform s c) e G (told-more c))
+  line-fits c e G true = subst⁻¹ (LineHolds s line (perform s c)) (remembered h c (perform s c .answer) (G .spoken)) (line-accepted s h line c I W e G)
   line-fits c e G false = line-refused s h line NoRoom I W
 
   line-asked : (c : Command) → read-line line ≡ some c → (f : Option Refusal) → first-no (questions s c) ≡ f → LineHolds s line (asked s c f) (extended h (some c) (asked s c f .answer))
@@ -179,15 +199,11 @@ module _ (s : Session) (h : History) (I : Inv s h) (W : Told s h) (line : List �
 
 -- ---- all lines
 
-claim-from : (lines : List (List ℕ)) (s : Session) (h : History) → Inv s h → Told s h → ClaimFrom s h lines
+claim-from : (lines : List (List ℕ)) (s : Session) (h : History) → Inv s h → Closes s h → ClaimFrom s h lines
 claim-from [] s h I W = tt
 claim-from (line ∷ rest) s h I W =
     let L = line-holds s h I W line in
-    (L .at, L .tied, claim-from rest (step s line .session) (history-after h line (step s line .answer)) (L .inv) (L .told))
-
-empty-told : Told empty-session []
-unfolding empty-session empty-state
-empty-told = record { table = refl; closed = λ a. absurd a }
+    (L .at, L .tied, claim-from rest (step s line .session) (history-after h line (step s line .answer)) (L .inv) (L .closes))
 
 pub claim : (lines : List (List ℕ)) → Claim lines
-claim lines = claim-from lines empty-session [] empty-inv empty-told
+claim lines = claim-from lines empty-session [] empty-inv (λ a. absurd a)

@@ -1,10 +1,11 @@
 -- Laws of sessions. Forces: lines in force; Invariant: what ties a session to its accepted lines; Truth: merges in a reading;
--- Rings: the claim's ring is the walk's; Steps: the invariant kept; Accepting and Joins: what each kind of accepted line owes the
--- claim; Tables: what each line makes of the table of terms; Claim: demand 3.
+-- Rings: the claim's ring is the walk's; Causes: why the solver answers so; Steps: the invariant kept; Accepting and Joins: what each kind of accepted line owes the
+-- claim; Tables: what each line makes of the table of terms and of the marks; Claim: demand 3.
 pub mod Forces
 pub mod Invariant
 pub mod Truth
 pub mod Rings
+pub mod Causes
 pub mod Steps
 pub mod Accepting
 pub mod Joins

@@ -22,7 +22,7 @@ use Rattle.solver.proofs.Collection.{Beneath}
 use Rattle.session.specs.Session.{Session}
 use Rattle.session.specs.History.{History, EqualNow}
 use Rattle.session.specs.Claim as Claim
-use Rattle.session.specs.Claim.{Marked, MarkedCtor, Lowest, EdgeTo, Leads, Ring}
+use Rattle.session.specs.Claim.{Marked, MarkedCtor, Watched, Lowest, EdgeTo, Leads, Ring}
 use Rattle.session.proofs.Invariant.{Inv, classes-agree}
 
 -- the first gathered application that passes is the lowest
@@ -54,7 +54,7 @@ unfolding is-some
 some-there none t = absurd t
 some-there (some x) t = (x, refl)
 
-there-some : {A : Type 0} (o : Option A) (x : A) → o ≡ some x → T (is-some o)
+pub there-some : {A : Type 0} (o : Option A) (x : A) → o ≡ some x → T (is-some o)
 unfolding is-some
 there-some o x e = subst⁻¹ (λ (z : Option _). T (is-some z)) e tt
 
@@ -62,15 +62,19 @@ beneath-of : (cx : Context) (n a t : ℕ) → Claim.Below cx n a t → Beneath c
 beneath-of cx zero a t e = e
 beneath-of cx (suc n) a t (b, m, w) = (b, m, beneath-of cx n b t w)
 
+pub of-beneath : (cx : Context) (n a t : ℕ) → Beneath cx n a t → Claim.Below cx n a t
+of-beneath cx zero a t e = e
+of-beneath cx (suc n) a t (b, m, w) = (b, m, of-beneath cx n b t w)
+
 module _ (s : Session) (h : History) (I : Inv s h) where
   marked-in : (t : ℕ) → Marked (s .state .terms) (s .state .dt .marks) h t → In t (s .state .dt .marks)
   marked-in t (inl (v, a, n, w, b, r)) = I .marked v a n t w (beneath-of (s .state .terms) n a t b) r
   marked-in t (inr m) = mem-in t (s .state .dt .marks) m
 
-  in-marked : (t : ℕ) → In t (s .state .dt .marks) → Marked (s .state .terms) (s .state .dt .marks) h t
+  pub in-marked : (t : ℕ) → In t (s .state .dt .marks) → Marked (s .state .terms) (s .state .dt .marks) h t
   in-marked t i = inr (in-mem t (s .state .dt .marks) i)
 
-  now : (x y : ℕ) → T (equal (s .state) x y) ↔ EqualNow (s .state .terms) h x y
+  pub now : (x y : ℕ) → T (equal (s .state) x y) ↔ EqualNow (s .state .terms) h x y
   unfolding equal
   now x y = classes-agree (s .state .terms) (s .state .atoms) (s .state .eq) (s .state .level) h (I .named) (I .merged) x y
 
@@ -102,6 +106,16 @@ module _ (s : Session) (h : History) (I : Inv s h) where
       go (some d) e (g, k, j) =
           let L = stands-lowest t (d .app) (d, e, refl) in
           (d, e, le-antisymm (L .2 c m y) (low (d .app) (L .0) (L .1)))
+
+  pub watched-in : (t : ℕ) → Watched (s .state .terms) (s .state .dt .marks) h t → In t (watched-dt-terms (s .state))
+  unfolding watched-dt-terms
+  watched-in t (m, w) = in-keep (λ z. is-datatype-sort (s .state .terms) (sort-of (s .state .terms) z)) (s .state .dt .marks) t (marked-in t m) w
+
+  pub in-watched : (t : ℕ) → In t (watched-dt-terms (s .state)) → Watched (s .state .terms) (s .state .dt .marks) h t
+  unfolding watched-dt-terms
+  in-watched t i =
+      let (j, w) = keep-in (λ z. is-datatype-sort (s .state .terms) (sort-of (s .state .terms) z)) (s .state .dt .marks) t i in
+      (in-marked t j, w)
 
   -- ---- edges
 
@@ -135,14 +149,11 @@ module _ (s : Session) (h : History) (I : Inv s h) where
   reaches-leads (suc n) c d (x, j, r) = (x, joined-edge c x j, reaches-leads n x d r)
 
   pub ring-there : Ring (s .state .terms) (s .state .dt .marks) h → HasRing (s .state)
-  unfolding watched-dt-terms
-  ring-there (t, c, d, (m, w), l, (i, x), (n, y)) =
+  ring-there (t, c, d, w, l, (i, x), (n, y)) =
       let (a, k) = leads-reaches i c d (l .0 .1) x in
       let (b, k′) = leads-reaches (suc n) d d k y in
-      (c, d, i, n, (t, in-keep (λ z. is-datatype-sort (s .state .terms) (sort-of (s .state .terms) z)) (s .state .dt .marks) t (marked-in t m) w, lowest-stands t c l), a, b)
+      (c, d, i, n, (t, watched-in t w, lowest-stands t c l), a, b)
 
   pub there-ring : HasRing (s .state) → Ring (s .state .terms) (s .state .dt .marks) h
-  unfolding watched-dt-terms
   there-ring (a, d, m, n, (t, i, w), x, y) =
-      let (j, k) = keep-in (λ z. is-datatype-sort (s .state .terms) (sort-of (s .state .terms) z)) (s .state .dt .marks) t i in
-      (t, a, d, (in-marked t j, k), stands-lowest t a w, (m, reaches-leads m a d x), (n, reaches-leads (suc n) d d y))
+      (t, a, d, in-watched t i, stands-lowest t a w, (m, reaches-leads m a d x), (n, reaches-leads (suc n) d d y))

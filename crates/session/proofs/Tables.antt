@@ -1,7 +1,7 @@
--- What each line makes of the table of terms, and when declarations are closed.
+-- What each line makes of the table of terms and of the marks, and when declarations are closed.
 use Prim.Native.Nat.{ℕ}
-use mathlib.Core.Path.{_≡_, refl, sym, subst, ap, _∙_}
-use mathlib.Core.Logic.{inl, inr}
+use mathlib.Core.Path.{_≡_, refl, sym, subst, subst⁻¹, ap, _∙_}
+use mathlib.Core.Logic.{_⊎_, inl, inr}
 use mathlib.Core.Bool.{Bool, true, false, cond}
 use mathlib.Core.List.{List, [], _∷_, _++_}
 use mathlib.Core.Option.{Option, none, some}
@@ -10,56 +10,68 @@ use native.Mathlib.Decide.{ℕ-discrete}
 use lib.Dec.{T, ltb}
 use Rattle.core.specs.Ids as Ids
 use Rattle.core.specs.Lists.{insert}
-use Rattle.core.specs.Context.{TesterApp, tester-app, children}
+use Rattle.core.specs.Term.{Op, Eq, Uninterpreted}
+use Rattle.core.specs.Context.{Context, TesterApp, tester-app, term, children}
+use Rattle.core.proofs.Lists.{In}
 use Rattle.theory.specs.Atom as Atom
 use Rattle.theory.specs.EqEngine.{pop-merges}
 use Rattle.solver.specs.State.{State, with-terms, with-eq, with-atoms, with-level, with-level-record, with-lasting, with-marks, with-dt}
 use Rattle.solver.specs.Records as Records
+use Rattle.solver.specs.Rules.{TCheck}
 use Rattle.solver.specs.Check as Check
+use Rattle.solver.proofs.Basics.{mem-in}
+use Rattle.solver.proofs.Terms.{Agrees, Formed}
+use Rattle.solver.proofs.Collection.{Beneath, children-lower, new-var-marks}
 use Rattle.solver.proofs.Clash.{Ready}
-use Rattle.solver.proofs.Answers.{check-well}
+use Rattle.solver.proofs.Answers.{full-check-well}
 use Rattle.session.specs.Line as Line
 use Rattle.session.specs.Line.{Command, DeclareSort, DeclareCtor, DeclareFun, Close, MkTerm, MkEq, Register, Equate, Cong, Iface, Assert, Push, Pop}
 use Rattle.session.specs.Session.{Session, done, numbered, merged, merge-sides, pop-to, perform, atom-of}
-use Rattle.session.specs.History.{History, Makes, Accepted}
+use Rattle.session.specs.History.{History, Makes, Takes, WellFormed, Accepted}
+use Rattle.session.specs.Claim.{Collected, After}
+use Rattle.session.proofs.Rings.{of-beneath}
 use Rattle.session.proofs.Accepting.{line-kind}
 
--- ---- lines that leave the table
+-- ---- lines that leave the table and the marks
 
-sides-table : (s : Session) (l : ℕ) (ts : List ℕ) → merge-sides s l ts .session .state .terms ≡ s .state .terms
+record Same (s s′ : State) : Type 0 where
+  terms : s′ .terms ≡ s .terms
+  marks : s′ .dt .marks ≡ s .dt .marks
+
+sides-same : (s : Session) (l : ℕ) (ts : List ℕ) → Same (s .state) (merge-sides s l ts .session .state)
 unfolding merge-sides merged done with-eq
-sides-table s l [] = refl
-sides-table s l (x ∷ []) = refl
-sides-table s l (x ∷ y ∷ []) = refl
-sides-table s l (x ∷ y ∷ z ∷ zs) = refl
+sides-same s l [] = record { terms = refl; marks = refl }
+sides-same s l (x ∷ []) = record { terms = refl; marks = refl }
+sides-same s l (x ∷ y ∷ []) = record { terms = refl; marks = refl }
+sides-same s l (x ∷ y ∷ z ∷ zs) = record { terms = refl; marks = refl }
 
-pop-table : (st : State) (k : ℕ) → pop-to st k .terms ≡ st .terms
+pop-same : (st : State) (k : ℕ) → Same st (pop-to st k)
 unfolding pop-to with-level-record with-eq with-level with-dt
-pop-table st k = go (ltb k (st .level))
+pop-same st k = go (ltb k (st .level))
   where
-    go : (b : Bool) → cond b (with-level-record (with-eq (with-level st k) (pop-merges k (st .eq))) (Records.pop-testers k (st .dt .level-record))) st .terms ≡ st .terms
-    go true = refl
-    go false = refl
+    go : (b : Bool) → Same st (cond b (with-level-record (with-eq (with-level st k) (pop-merges k (st .eq))) (Records.pop-testers k (st .dt .level-record))) st)
+    go true = record { terms = refl; marks = refl }
+    go false = record { terms = refl; marks = refl }
 
-recorded-table : (st : State) (a l : ℕ) → Records.record-tester st a l .terms ≡ st .terms
+recorded-same : (st : State) (a l : ℕ) → Same st (Records.record-tester st a l)
 unfolding Records.record-tester with-lasting with-level-record with-dt
-recorded-table st a l = go (Records.recorded st a)
+recorded-same st a l = go (Records.recorded st a)
   where
-    go : (b : Bool) → cond b (with-lasting st (insert a (st .dt .lasting))) (with-level-record (with-lasting st (insert a (st .dt .lasting))) (st .dt .level-record ++ (record { atom = a; lit = l; level = st .level } ∷ []))) .terms ≡ st .terms
-    go true = refl
-    go false = refl
+    go : (b : Bool) → Same st (cond b (with-lasting st (insert a (st .dt .lasting))) (with-level-record (with-lasting st (insert a (st .dt .lasting))) (st .dt .level-record ++ (record { atom = a; lit = l; level = st .level } ∷ []))))
+    go true = record { terms = refl; marks = refl }
+    go false = record { terms = refl; marks = refl }
 
-assert-table : (st : State) (l : ℕ) → Records.assert st l .state .terms ≡ st .terms
+assert-same : (st : State) (l : ℕ) → Same st (Records.assert st l .state)
 unfolding Records.assert
-assert-table st l = go (Ids.is-positive l) (tester-app (st .terms) (Atom.atom (st .atoms) (Ids.var l)))
+assert-same st l = go (Ids.is-positive l) (tester-app (st .terms) (Atom.atom (st .atoms) (Ids.var l)))
   where
-    tester : (o : Option TesterApp) → Records.assert-tester st l o .state .terms ≡ st .terms
-    tester none = unfold Records.assert-tester in refl
-    tester (some x) = unfold Records.assert-tester in recorded-table st (x .app) l
+    tester : (o : Option TesterApp) → Same st (Records.assert-tester st l o .state)
+    tester none = unfold Records.assert-tester in record { terms = refl; marks = refl }
+    tester (some x) = unfold Records.assert-tester in recorded-same st (x .app) l
 
-    go : (b : Bool) (o : Option TesterApp) → cond b (Records.assert-tester st l o) (record { conflict = none; state = st }) .state .terms ≡ st .terms
+    go : (b : Bool) (o : Option TesterApp) → Same st (cond b (Records.assert-tester st l o) (record { conflict = none; state = st }) .state)
     go true o = tester o
-    go false o = refl
+    go false o = record { terms = refl; marks = refl }
 
 -- ---- each line
 
@@ -72,14 +84,85 @@ perform-table s Close R = refl
 perform-table s (MkTerm f ts) R = refl
 perform-table s (MkEq t u) R = refl
 perform-table s (Register v t) R = refl
-perform-table s (Equate l) R = sides-table s l (children (s .state .terms) (atom-of s l))
+perform-table s (Equate l) R = sides-same s l (children (s .state .terms) (atom-of s l)) .terms
 perform-table s (Cong t u) R = refl
 perform-table s (Iface t u h g) R = refl
-perform-table s (Assert l) R = assert-table (s .state) l
+perform-table s (Assert l) R = assert-same (s .state) l .terms
 perform-table s Push R = refl
-perform-table s (Pop k) R = pop-table (s .state) k
-perform-table s (Line.Check true) R = check-well (s .state) R true .follows .extends
+perform-table s (Pop k) R = pop-same (s .state) k .terms
+perform-table s (Line.Check true) R = full-check-well (s .state) R .follows .extends
 perform-table s (Line.Check false) R = refl
+
+-- the statement's words for a formed table
+pub well-formed : (cx : Context) → Formed cx → WellFormed cx
+well-formed cx F = record {
+  takes = λ t l. takes (term cx t .op) (children cx t) (F .agrees t l);
+  lower = λ t a m. children-lower cx F t a (mem-in a (children cx t) m);
+  once = F .distinct;
+}
+  where
+    takes : (o : Op) (ts : List ℕ) → Agrees cx o ts → Takes cx o ts
+    takes Eq ts w = w
+    takes (Uninterpreted f) ts w = w
+
+-- ---- marks
+
+same-marks : (s s′ : State) → Same s s′ → (t : ℕ) → In t (s .dt .marks) → In t (s′ .dt .marks)
+same-marks s s′ E t i = subst⁻¹ (λ (ms : List ℕ). In t ms) (E .marks) i
+
+-- marks are never taken back
+pub perform-marks : (s : Session) (c : Command) → Ready (s .state) → (t : ℕ) → In t (s .state .dt .marks) → In t (perform s c .session .state .dt .marks)
+unfolding perform done numbered merged with-terms with-eq with-level with-atoms Check.check
+perform-marks s (DeclareSort n) R t i = i
+perform-marks s (DeclareCtor dt fs) R t i = i
+perform-marks s (DeclareFun r as′) R t i = i
+perform-marks s Close R t i = i
+perform-marks s (MkTerm f ts) R t i = i
+perform-marks s (MkEq u v) R t i = i
+perform-marks s (Register v u) R t i = new-var-marks (with-atoms (s .state) (Atom.register (s .state .atoms) v u)) u .old t i
+perform-marks s (Equate l) R t i = same-marks (s .state) (merge-sides s l (children (s .state .terms) (atom-of s l)) .session .state) (sides-same s l (children (s .state .terms) (atom-of s l))) t i
+perform-marks s (Cong u v) R t i = i
+perform-marks s (Iface u v h g) R t i = i
+perform-marks s (Assert l) R t i = same-marks (s .state) (Records.assert (s .state) l .state) (assert-same (s .state) l) t i
+perform-marks s Push R t i = i
+perform-marks s (Pop k) R t i = same-marks (s .state) (pop-to (s .state) k) (pop-same (s .state) k) t i
+perform-marks s (Line.Check true) R t i = full-check-well (s .state) R .follows .marks t i
+perform-marks s (Line.Check false) R t i = i
+
+same-marks-back : (s s′ : State) → Same s s′ → (t : ℕ) → In t (s′ .dt .marks) → In t (s .dt .marks)
+same-marks-back s s′ E t i = subst (λ (ms : List ℕ). In t ms) (E .marks) i
+
+-- a new mark is one of Collection, or one of a full check
+pub marks-back : (s : Session) (h : History) (c : Command) (t : ℕ) → In t (perform s c .session .state .dt .marks) → In t (s .state .dt .marks) ⊎ (After Collected (perform s c) (c ∷ h) t ⊎ (c ≡ Line.Check true))
+unfolding perform done numbered merged with-terms with-eq with-level with-atoms Check.check
+marks-back s h (DeclareSort n) t i = inl i
+marks-back s h (DeclareCtor dt fs) t i = inl i
+marks-back s h (DeclareFun r as′) t i = inl i
+marks-back s h Close t i = inl i
+marks-back s h (MkTerm f ts) t i = inl i
+marks-back s h (MkEq u v) t i = inl i
+marks-back s h (Register v u) t i = go (new-var-marks (with-atoms (s .state) (Atom.register (s .state .atoms) v u)) u .only t i)
+  where
+    go : In t (s .state .dt .marks) ⊎ ((n : ℕ) × Beneath (s .state .terms) n u t × T (Records.relevant (s .state .terms) t)) → In t (s .state .dt .marks) ⊎ (After Collected (perform s (Register v u)) (Register v u ∷ h) t ⊎ (Register v u ≡ Line.Check true))
+    go (inl j) = inl j
+    go (inr (n, w, r)) = unfold perform done Records.new-var with-atoms with-marks with-dt in inr (inl (v, u, n, inl refl, of-beneath (s .state .terms) n u t w, r))
+marks-back s h (Equate l) t i = inl (same-marks-back (s .state) (merge-sides s l (children (s .state .terms) (atom-of s l)) .session .state) (sides-same s l (children (s .state .terms) (atom-of s l))) t i)
+marks-back s h (Cong u v) t i = inl i
+marks-back s h (Iface u v j g) t i = inl i
+marks-back s h (Assert l) t i = inl (same-marks-back (s .state) (Records.assert (s .state) l .state) (assert-same (s .state) l) t i)
+marks-back s h Push t i = inl i
+marks-back s h (Pop k) t i = inl (same-marks-back (s .state) (pop-to (s .state) k) (pop-same (s .state) k) t i)
+marks-back s h (Line.Check true) t i = inr (inr refl)
+marks-back s h (Line.Check false) t i = inl i
+
+-- a full check leaves the marks that the rules before the ring leave
+pub check-marks : (s : Session) → perform s (Line.Check true) .session .state .dt .marks ≡ Check.before-ring (s .state) .state .dt .marks
+unfolding perform done Check.check Check.full-check
+check-marks s = go (Check.before-ring (s .state) .answer)
+  where
+    go : (o : Option TCheck) → Check.or-ring o (Check.before-ring (s .state) .state) .state .dt .marks ≡ Check.before-ring (s .state) .state .dt .marks
+    go none = unfold Check.or-ring in refl
+    go (some a) = unfold Check.or-ring in refl
 
 -- ---- closed
 

@@ -1,6 +1,6 @@
 -- Demand 3: the claim over whole scripts, stated. For every list of lines from an empty session, unreadable and refused ones
 -- included, at each answer: each cited leaf is in force; a conflict's leaves are true together in no reading by finite trees;
--- each lemma is true in all readings; the ring clause.
+-- each lemma is true in all readings; a conflict has a cause; when a full check says sat or unknown; the ring clause.
 use Prim.Native.Nat.{ℕ, zero, suc, _≤_}
 use mathlib.Core.Path.{_≡_}
 use mathlib.Core.Logic.{_≢_, _⊎_, _↔_}
@@ -9,8 +9,9 @@ use mathlib.Core.List.{List, [], _∷_}
 use mathlib.Core.Option.{none, some}
 use lib.Dec.{T}
 use Rattle.core.specs.Lists.{mem}
+use Rattle.core.specs.Ids.{is-positive}
 use Rattle.core.specs.Term.{Eq, Uninterpreted}
-use Rattle.core.specs.Context.{Context, term, ctor-app, is-datatype-sort, sort-of, children}
+use Rattle.core.specs.Context.{Context, TesterApp, term, ctor-app, tester-app, is-datatype-sort, sort-of, children}
 use Rattle.core.specs.Reading.{Reading}
 use Rattle.theory.specs.Types.{EqLeaf}
 use Rattle.solver.specs.State.{equal}
@@ -19,10 +20,10 @@ use Rattle.solver.specs.Rules as Rules
 use Rattle.solver.specs.Rules.{Phase, Conflict, Split}
 use Rattle.solver.specs.Check.{before-ring}
 use Rattle.session.specs.Line as Line
-use Rattle.session.specs.Line.{read-line}
+use Rattle.session.specs.Line.{Command, read-line}
 use Rattle.session.specs.Answer.{Refusal, Answer, TermIs, Checked, Refused}
 use Rattle.session.specs.Session.{Session, empty-session, Performed, step}
-use Rattle.session.specs.History.{History, TableOf, Accepted, LeafInForce, EqualNow, AllTrue, LemmaTrue, history-after}
+use Rattle.session.specs.History.{History, Makes, WellFormed, Accepted, HoldsNow, LeafInForce, IsAtom, EqualNow, AllTrue, LemmaTrue, history-after}
 
 -- ---- conflicts and lemmas
 
@@ -38,7 +39,7 @@ Impossible cx h ls = (r : Reading cx) → AllTrue r h ls → ⊥
 abbrev pub Valid : Context → History → List ℕ → List ℕ → Type 1
 Valid cx h atoms guards = (r : Reading cx) → LemmaTrue r h atoms guards
 
--- ---- rings, over a table of terms, the marks that the rules have made so far, and the lines of a history
+-- ---- rings and clashes, over a table of terms, the marks that the rules have made so far, and the lines of a history
 
 -- t stands n levels below a
 abbrev pub Below : Context → ℕ → ℕ → ℕ → Type 0
@@ -82,6 +83,34 @@ module _ (cx : Context) (marks : List ℕ) (h : History) where
   abbrev pub Ring : Type 0
   Ring = (t c d : ℕ) × Watched t × Lowest t c × ((m : ℕ) × Leads m c d) × ((n : ℕ) × Leads (suc n) d d)
 
+  -- 01: marked constructor applications in one class with different constructors
+  abbrev pub ConstructorClash : Type 0
+  ConstructorClash = (c d : ℕ) × MarkedCtor c × MarkedCtor d × EqualNow cx h c d × (term cx c .op ≢ term cx d .op)
+
+  -- 01: an asserted tester whose term's class has a lowest marked application of another constructor
+  abbrev pub TesterClash : Type 0
+  TesterClash =
+      (l a c : ℕ) × (x : TesterApp) × HoldsNow h (Line.Assert l) × T (is-positive l) × IsAtom h l a × (tester-app cx a ≡ some x)
+      × Lowest (x .arg) c × (term cx c .op ≢ Uninterpreted (x .ctor))
+
+  -- what a conflict comes from
+  abbrev pub Cause : Type 0
+  Cause = ConstructorClash ⊎ (TesterClash ⊎ Ring)
+
+  -- each watched class has a marked constructor application, or one has none
+  abbrev pub Determined : Type 0
+  Determined = (t : ℕ) → Watched t → (c : ℕ) × Lowest t c
+
+  abbrev pub Undetermined : Type 0
+  Undetermined = (t : ℕ) × Watched t × ((c : ℕ) → Lowest t c → ⊥)
+
+-- such a notion of the table and the marks that a line leaves
+abbrev pub After : {A : Type 1} → (Context → List ℕ → History → A) → Performed → History → A
+After N p h = N (p .session .state .terms) (p .session .state .dt .marks) h
+
+abbrev pub NotRefused : Answer → Type 0
+NotRefused a = (q : Refusal) → a ≢ Refused q
+
 abbrev pub SaysConflict : Answer → Type 0
 SaysConflict a = (ls : List EqLeaf) × (a ≡ Checked (Conflict ls))
 
@@ -91,17 +120,29 @@ SaysConflict a = (ls : List EqLeaf) × (a ≡ Checked (Conflict ls))
 pub record AtLine (s : Session) (line : List ℕ) (p : Performed) (h′ : History) : Type 1 where
   -- each cited leaf is in force, a conflict's leaves are true together in no reading, and a conflict is not empty
   pub conflict : (ls : List EqLeaf) → p .answer ≡ Checked (Conflict ls) → AllInForce h′ ls × Impossible (p .session .state .terms) h′ ls × (ls ≢ [])
+  -- a conflict has a cause: a constructor clash, a tester clash or a ring
+  pub cause : (ls : List EqLeaf) → p .answer ≡ Checked (Conflict ls) → After Cause p h′
   -- each lemma is true in all readings
   pub lemma : (atoms guards : List ℕ) (phases : List Phase) → p .answer ≡ Checked (Split atoms guards phases) → Valid (p .session .state .terms) h′ atoms guards
+  -- a full check says sat only if there is no ring and each watched class has a marked constructor application
+  pub sat : read-line line ≡ some (Line.Check true) → p .answer ≡ Checked Rules.Sat → (After Ring p h′ → ⊥) × After Determined p h′
+  -- unknown is said only if a watched class has none
+  pub unknown : p .answer ≡ Checked Rules.Unknown → After Undetermined p h′
   -- an accepted full check in which no rule before the ring answers says conflict exactly when there is a ring, else sat
-  pub ring : read-line line ≡ some (Line.Check true) → ((q : Refusal) → p .answer ≢ Refused q) → before-ring (s .state) .answer ≡ none → (Ring (p .session .state .terms) (p .session .state .dt .marks) h′ × SaysConflict (p .answer)) ⊎ ((Ring (p .session .state .terms) (p .session .state .dt .marks) h′ → ⊥) × (p .answer ≡ Checked Rules.Sat))
+  pub ring : read-line line ≡ some (Line.Check true) → NotRefused (p .answer) → before-ring (s .state) .answer ≡ none → (After Ring p h′ × SaysConflict (p .answer)) ⊎ ((After Ring p h′ → ⊥) × (p .answer ≡ Checked Rules.Sat))
   -- a refused line leaves the session as it was
   pub refused : (q : Refusal) → p .answer ≡ Refused q → p .session ≡ s
 
 -- what ties the words of the claim to the lines
 pub record Tied (s : Session) (line : List ℕ) (p : Performed) (h′ : History) : Type 1 where
-  -- the table is one that the lines make, with what the rules appended at full checks
-  pub table : TableOf h′ (p .session .state .terms)
+  -- what the line makes of the table, in which each term is well formed
+  pub table : (c : Command) → read-line line ≡ some c → NotRefused (p .answer) → Makes c (s .state .terms) (p .session .state .terms)
+  pub formed : WellFormed (p .session .state .terms)
+  -- marks are never taken back; a mark is an older one, one of Collection, or one of a full check; and after a full check they are
+  -- those that the rules before the ring leave
+  pub marks-stay : (t : ℕ) → T (mem t (s .state .dt .marks)) → T (mem t (p .session .state .dt .marks))
+  pub marks-from : (t : ℕ) → T (mem t (p .session .state .dt .marks)) → T (mem t (s .state .dt .marks)) ⊎ (After Collected p h′ t ⊎ (read-line line ≡ some (Line.Check true)))
+  pub marks-made : read-line line ≡ some (Line.Check true) → NotRefused (p .answer) → p .session .state .dt .marks ≡ before-ring (s .state) .state .dt .marks
   -- the number that a `term` or `eq` line is answered is that of the term it names
   pub made : (f : ℕ) (ts : List ℕ) (n : ℕ) → read-line line ≡ some (Line.MkTerm f ts) → p .answer ≡ TermIs n → term (p .session .state .terms) n ≡ record { op = Uninterpreted f; args = ts }
   pub made-eq : (t u n : ℕ) → read-line line ≡ some (Line.MkEq t u) → p .answer ≡ TermIs n → term (p .session .state .terms) n ≡ record { op = Eq; args = t ∷ u ∷ [] }

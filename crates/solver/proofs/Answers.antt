@@ -6,15 +6,15 @@ use mathlib.Core.List.{List}
 use mathlib.Core.Option.{Option, none, some}
 use Rattle.core.specs.Lists.{first, pairs}
 use Rattle.core.specs.Context.{CtorApp, TesterApp, tester-app}
-use Rattle.core.proofs.Lists.{In}
+use Rattle.core.proofs.Lists.{In, true-T}
 use Rattle.theory.specs.Types.{EqLeaf}
 use Rattle.theory.specs.EqEngine.{explain, firsts}
 use Rattle.solver.specs.State.{State, AssertedTester, ctor-apps}
 use Rattle.solver.specs.Records.{tester-conflict}
-use Rattle.solver.specs.Rules.{TCheck, Sat, Conflict, Unknown, Ruled, pass, answered, then, clash, clash-answer, constructor-clash, conflict-of, tester-clash-at, tester-clash, instantiate-injectivity-selectors, collapse-lemma, tester-lemma, instantiate-constructor, exhaustiveness-split, has-undetermined-class, unknown-fence}
+use Rattle.solver.specs.Rules.{TCheck, Sat, Conflict, Unknown, Ruled, pass, answered, go-on, then, clash, clash-answer, constructor-clash, conflict-of, tester-clash-at, tester-clash, instantiate-injectivity-selectors, collapse-lemma, tester-lemma, instantiate-constructor, exhaustiveness-split, has-undetermined-class, unknown-fence}
 use Rattle.solver.specs.Ring.{Edge, constructor-graph-find-cycle, acyclicity-conflict}
-use Rattle.solver.specs.Check.{before-ring, ring-answer, Checked, or-ring, full-check, check}
-use Rattle.solver.proofs.Basics.{none-some, first-some, pairs-in}
+use Rattle.solver.specs.Check.{before-ring, ring-answer, Checked, or-ring, full-check}
+use Rattle.solver.proofs.Basics.{none-some, some-none, first-some, pairs-in}
 use Rattle.solver.proofs.Walk.{HasRing, WalkSays, walk-says, ringed-ring}
 use Rattle.solver.proofs.Clash.{Ready, Refuted, Recorded, clash-refuted, tester-refuted, ring-refuted}
 use Rattle.solver.proofs.Moves.{Follows, follows-self, follows-ready, AnswerHolds, RuledWell, pass-well, answered-well, base-well, then-well, try-well}
@@ -46,11 +46,11 @@ module _ (s : State) (R : Ready s) where
 
   unknown-well : RuledWell s (unknown-fence s)
   unfolding unknown-fence
-  unknown-well = go (has-undetermined-class s)
+  unknown-well = go (has-undetermined-class s) refl
     where
-      go : (b : Bool) → RuledWell s (cond b (answered s Unknown) (pass s))
-      go true = answered-well s s Unknown (follows-self s (R .formed)) tt
-      go false = pass-well s s (follows-self s (R .formed))
+      go : (b : Bool) → has-undetermined-class s ≡ b → RuledWell s (cond b (answered s Unknown) (pass s))
+      go true e = answered-well s s Unknown (follows-self s (R .formed)) (record { undetermined = true-T (has-undetermined-class s) e })
+      go false e = pass-well s s (follows-self s (R .formed))
 
 tester-clash-well : (s : State) → Ready s → RuledWell s (tester-clash s)
 unfolding tester-clash
@@ -76,6 +76,39 @@ before-ring-well s R =
     and-then s (exhaustiveness-split s) unknown-fence R (exhaustiveness-well s R) λ s R.
     unknown-well s R
 
+-- ---- where no rule answers
+
+-- the last rule finds no class without application
+abbrev Determined : Ruled → Type 0
+Determined r = r .answer ≡ none → has-undetermined-class (r .state) ≡ false
+
+then-determined : (r : Ruled) (next : State → Ruled) → ((s : State) → Determined (next s)) → Determined (then r next)
+unfolding then go-on answered
+then-determined r next h = go (r .answer)
+  where
+    go : (o : Option TCheck) → Determined (go-on o (r .state) next)
+    go none = h (r .state)
+    go (some a) = λ e. absurd (some-none a e)
+
+fence-determined : (s : State) → Determined (unknown-fence s)
+unfolding unknown-fence answered pass
+fence-determined s = go (has-undetermined-class s) refl
+  where
+    go : (b : Bool) → has-undetermined-class s ≡ b → Determined (cond b (answered s Unknown) (pass s))
+    go true q = λ e. absurd (some-none Unknown e)
+    go false q = λ e. q
+
+before-ring-determined : (s : State) → Determined (before-ring s)
+unfolding before-ring
+before-ring-determined s =
+    then-determined (constructor-clash s) _ λ s.
+    then-determined (tester-clash s) _ λ s.
+    then-determined (pass (instantiate-injectivity-selectors s)) _ λ s.
+    then-determined (collapse-lemma s) _ λ s.
+    then-determined (tester-lemma s) _ λ s.
+    then-determined (instantiate-constructor s) _ λ s.
+    then-determined (exhaustiveness-split s) unknown-fence fence-determined
+
 -- ---- the whole check
 
 pub record CheckedWell (s : State) (c : Checked) : Type 1 where
@@ -86,27 +119,27 @@ pub record CheckedWell (s : State) (c : Checked) : Type 1 where
 abbrev pub RingDecides : Checked → Type 0
 RingDecides c = (HasRing (c .state) × ((ls : List EqLeaf) × (c .answer ≡ Conflict ls))) ⊎ ((HasRing (c .state) → ⊥) × (c .answer ≡ Sat))
 
-ring-holds : (s : State) → Ready s → (o : Option (List Edge)) → WalkSays s o → AnswerHolds s (ring-answer s o)
+ring-holds : (s : State) → Ready s → has-undetermined-class s ≡ false → (o : Option (List Edge)) → WalkSays s o → AnswerHolds s (ring-answer s o)
 unfolding ring-answer
-ring-holds s R none w = tt
-ring-holds s R (some es) w = ring-refuted s R (Recorded s) es w
+ring-holds s R d none w = record { no-ring = w; determined = d }
+ring-holds s R d (some es) w = ring-refuted s R (Recorded s) es w
 
 ring-decides : (s : State) (o : Option (List Edge)) → WalkSays s o → RingDecides (record { answer = ring-answer s o; state = s })
 unfolding ring-answer
 ring-decides s none w = inr (w, refl)
 ring-decides s (some es) w = inl (ringed-ring s es w, (acyclicity-conflict s es, refl))
 
-or-ring-well : (s : State) → Ready s → (r : Ruled) → RuledWell s r → (o : Option TCheck) → r .answer ≡ o → CheckedWell s (or-ring o (r .state))
+or-ring-well : (s : State) → Ready s → (r : Ruled) → RuledWell s r → Determined r → (o : Option TCheck) → r .answer ≡ o → CheckedWell s (or-ring o (r .state))
 unfolding or-ring
-or-ring-well s R r w none e = record {
+or-ring-well s R r w d none e = record {
   follows = w .follows;
-  holds = ring-holds (r .state) (follows-ready s (r .state) (w .follows) R) (constructor-graph-find-cycle (r .state)) (walk-says (r .state));
+  holds = ring-holds (r .state) (follows-ready s (r .state) (w .follows) R) (d e) (constructor-graph-find-cycle (r .state)) (walk-says (r .state));
 }
-or-ring-well s R r w (some a) e = record { follows = w .follows; holds = w .holds a e }
+or-ring-well s R r w d (some a) e = record { follows = w .follows; holds = w .holds a e }
 
 pub full-check-well : (s : State) → Ready s → CheckedWell s (full-check s)
 unfolding full-check
-full-check-well s R = or-ring-well s R (before-ring s) (before-ring-well s R) (before-ring s .answer) refl
+full-check-well s R = or-ring-well s R (before-ring s) (before-ring-well s R) (before-ring-determined s) (before-ring s .answer) refl
 
 or-ring-decides : (s : State) (o : Option TCheck) → o ≡ none → RingDecides (or-ring o s)
 unfolding or-ring
@@ -117,8 +150,3 @@ or-ring-decides s (some a) e = absurd (none-some a (sym e))
 pub full-check-decides : (s : State) → before-ring s .answer ≡ none → RingDecides (full-check s)
 unfolding full-check
 full-check-decides s e = or-ring-decides (before-ring s .state) (before-ring s .answer) e
-
-pub check-well : (s : State) → Ready s → (full : Bool) → CheckedWell s (check full s)
-unfolding check
-check-well s R true = full-check-well s R
-check-well s R false = record { follows = follows-self s (R .formed); holds = tt }

@@ -27,7 +27,7 @@ use Rattle.solver.proofs.Terms.{Formed}
 use Rattle.solver.proofs.Signature.{Signed}
 use Rattle.solver.proofs.Values.{values-of}
 use Rattle.solver.proofs.Apps.{IsCtor, ctor-app-is, IsTester, tester-app-is, app-within, ctor-value, test-value, truth-is, tree-ctor}
-use Rattle.solver.proofs.Walk.{class-ctor, KidOf, Link, Trail, Ringed}
+use Rattle.solver.proofs.Walk.{class-ctor, KidOf, Link, Trail, Ringed, HasRing, ringed-ring}
 
 -- what a state must be for its answers to be right
 pub record Ready (s : State) : Type 0 where
@@ -36,11 +36,22 @@ pub record Ready (s : State) : Type 0 where
   pub justified : Justified (s .eq)
   pub two-terms : (m : Merge) → In m (s .eq) → TwoTerms (m .just)
 
+-- the tester application t is against the lowest marked application of its term's class, which has another constructor
+abbrev pub Against : State → ℕ → Type 0
+Against s t = (x : TesterApp) × (c : CtorApp) × (tester-app (s .terms) t ≡ some x) × (ctor-of-class s (x .arg) ≡ some c) × (c .ctor ≡ x .ctor → ⊥)
+
+-- why there is a conflict: two marked applications, a tester that was said, or a ring
+abbrev pub Caused : State → (ℕ → ℕ → Type 0) → Type 0
+Caused s Said =
+    ((p q : CtorApp) × In p (ctor-apps s) × In q (ctor-apps s) × T (clash s (p, q)))
+    ⊎ (((k t : ℕ) × Said k t × Against s t) ⊎ HasRing s)
+
 -- The leaves are those of merges, or literals that were said of tester atoms; whoever takes them for true is refuted; and there is one.
 pub record Refuted (s : State) (Said : ℕ → ℕ → Type 0) (ls : List EqLeaf) : Type 1 where
   pub cites : (l : EqLeaf) → In l ls → Cites (s .eq) l ⊎ ((k t : ℕ) × Said k t × (l ≡ AssertedLeaf k))
   pub impossible : (r : Reading (s .terms)) (True : EqLeaf → Type 0) → Sound (value r) True (s .eq) → ((k t : ℕ) → Said k t → True (AssertedLeaf k) → value r t ≡ truth true) → ((l : EqLeaf) → In l ls → True l) → ⊥
   pub some-leaf : ls ≢ []
+  pub cause : Caused s Said
 
 -- an entry of the level record
 abbrev pub Recorded : State → ℕ → ℕ → Type 0
@@ -88,6 +99,7 @@ module _ (s : State) (R : Ready s) where
             ∙ ctor-value r (R .formed) (q .app) (q .ctor) (q .fields) (Q .op) (Q .args) (Q .role)));
         some-leaf = λ z. nonempty (p .app) (q .app) (λ w. eqb-false (p .ctor) (q .ctor) (T-no (eqb (p .ctor) (q .ctor)) n) (same-op p q P Q w)) e
             (firsts-empty (explain (s .eq) (p .app) (q .app)) z);
+        cause = inl (p, q, i, j, t);
       }
 
   -- ---- tester clash
@@ -98,10 +110,10 @@ module _ (s : State) (R : Ready s) where
   built-apart v c d vs e n h =
       n (sym (eqb-true c d (sym (ap (built-by c) e) ∙ truth-is (built-by c v) true h)))
 
-  disagreement : (Said : ℕ → ℕ → Type 0) (l : ℕ) (x : TesterApp) (o : Option CtorApp) (ls : List EqLeaf) → ctor-of-class s (x .arg) ≡ o → IsTester (s .terms) (x .app) x → Said l (x .app) → disagrees s l x o ≡ some ls → Refuted s Said ls
+  disagreement : (Said : ℕ → ℕ → Type 0) (l : ℕ) (x : TesterApp) (o : Option CtorApp) (ls : List EqLeaf) → ctor-of-class s (x .arg) ≡ o → tester-app (s .terms) (x .app) ≡ some x → Said l (x .app) → disagrees s l x o ≡ some ls → Refuted s Said ls
   unfolding disagrees tester-leaves
-  disagreement Said l x none ls q X w e = absurd (none-some ls e)
-  disagreement Said l x (some c) ls q X w e = go (eqb (c .ctor) (x .ctor)) refl e
+  disagreement Said l x none ls q y w e = absurd (none-some ls e)
+  disagreement Said l x (some c) ls q y w e = go (eqb (c .ctor) (x .ctor)) refl e
     where
       leaves : List EqLeaf
       leaves = AssertedLeaf l ∷ explain (s .eq) (x .arg) (c .app)
@@ -113,6 +125,9 @@ module _ (s : State) (R : Ready s) where
       C : IsCtor (s .terms) (c .app) c
       C = ctor-app-is (s .terms) (c .app) c (class-ctor s (x .arg) c q .1)
 
+      X : IsTester (s .terms) (x .app) x
+      X = tester-app-is (s .terms) (x .app) x y
+
       refuted : eqb (c .ctor) (x .ctor) ≡ false → Refuted s Said (firsts leaves)
       refuted n = record {
         cites = λ k i. cited k (firsts-in leaves k .0 i);
@@ -123,17 +138,18 @@ module _ (s : State) (R : Ready s) where
             (sym (test-value r (R .formed) (x .app) (x .tester) (x .ctor) (x .arg) (X .rest) (X .op) (X .args) (X .role))
             ∙ H l (x .app) w (h (AssertedLeaf l) (firsts-in leaves (AssertedLeaf l) .1 (inl refl))));
         some-leaf = λ z. cons≢nil (firsts-empty leaves z);
+        cause = inr (inl (l, x .app, w, (x, c, y, q, eqb-false (c .ctor) (x .ctor) n)));
       }
 
       go : (b : Bool) → eqb (c .ctor) (x .ctor) ≡ b → cond b none (some (firsts leaves)) ≡ some ls → Refuted s Said ls
-      go true n y = absurd (none-some ls y)
-      go false n y = subst (Refuted s Said) (some-is (firsts leaves) ls y) (refuted n)
+      go true n z = absurd (none-some ls z)
+      go false n z = subst (Refuted s Said) (some-is (firsts leaves) ls z) (refuted n)
 
   pub tester-refuted : (Said : ℕ → ℕ → Type 0) (l t : ℕ) (x : TesterApp) (ls : List EqLeaf) → tester-app (s .terms) t ≡ some x → Said l t → tester-conflict s l x ≡ some ls → Refuted s Said ls
   unfolding tester-conflict
   tester-refuted Said l t x ls q w e =
       let X = tester-app-is (s .terms) t x q in
-      disagreement Said l x (ctor-of-class s (x .arg)) ls refl (subst⁻¹ (λ (z : ℕ). IsTester (s .terms) z x) (X .app) X) (subst⁻¹ (Said l) (X .app) w) e
+      disagreement Said l x (ctor-of-class s (x .arg)) ls refl (subst⁻¹ (λ (z : ℕ). tester-app (s .terms) z ≡ some x) (X .app) q) (subst⁻¹ (Said l) (X .app) w) e
 
 -- ---- sizes of values
 
@@ -238,6 +254,7 @@ module _ (s : State) (R : Ready s) where
     impossible = λ r True S H h. ring-falls (λ t. size (value r t)) (kid-size r) es G
         (λ e i. ap (λ (v : Value (r .Element)). size v) (forced s R r True (e .field) (e .app) S (edge-equal e (ringed-edge es G e i)) (λ l j. h l (firsts-in (edge-leaves (s .eq) es) l .1 (edge-in (s .eq) es e l i j)))));
     some-leaf = λ z. ring-falls (λ t. t) kid-lower es G (λ e i. alone e i (firsts-empty (edge-leaves (s .eq) es) z));
+    cause = inr (inr (ringed-ring s es G));
   }
     where
       alone : (e : Edge) → In e es → edge-leaves (s .eq) es ≡ [] → e .field ≡ e .app

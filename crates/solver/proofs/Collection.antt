@@ -1,4 +1,4 @@
--- Collection: everything below a registered atom is met, and what is relevant of it is marked.
+-- Collection: everything below a registered atom is met and nothing else, and what is relevant of it is marked.
 use Prim.Native.Nat.{ℕ, zero, suc, _<_}
 use mathlib.Core.Path.{_≡_, refl, sym, subst, subst⁻¹, ap, _∙_}
 use mathlib.Core.Logic.{_⊎_, inl, inr}
@@ -12,10 +12,10 @@ use Rattle.core.specs.Lists.{keep, mem, insert}
 use Rattle.core.specs.Term as Term
 use Rattle.core.specs.Term.{Term, Op, Eq}
 use Rattle.core.specs.Context.{Context, term, no-term, children, sort-of, result-of, sort-node, is-datatype-sort, symbol, ctor-app, ctor-by-op, sel-app, sel-by-op, tester-app, tester-by-op}
-use Rattle.core.proofs.Lists.{In, in-keep, true-T}
+use Rattle.core.proofs.Lists.{In, keep-in, in-keep, true-T}
 use Rattle.solver.specs.State.{State, with-marks, with-dt}
 use Rattle.solver.specs.Records.{is-some, relevant, collect, new-var}
-use Rattle.solver.proofs.Basics.{mem-in, insert-in, in-insert-new, in-insert-old, Ascending, insert-ascending}
+use Rattle.solver.proofs.Basics.{mem-in, in-mem, insert-in, in-insert-new, in-insert-old, Ascending, insert-ascending}
 use Rattle.solver.proofs.Terms.{Extends, extends-term, grown, Formed}
 
 pub children-lower : (cx : Context) → Formed cx → (t a : ℕ) → In a (children cx t) → a < t
@@ -104,7 +104,60 @@ module _ (cx : Context) (low : (t a : ℕ) → In a (children cx t) → a < t) w
       go x (inl i) = absurd i
       go x (inr f) = f
 
+-- only what lies below a term is collected with it
+module _ (cx : Context) (x : ℕ) where
+  abbrev Under : ℕ → Type 0
+  Under t = (n : ℕ) × Beneath cx n t x
+
+  abbrev CollectsOnly : ℕ → Type 0
+  CollectsOnly k = (t : ℕ) (seen : List ℕ) → In x (collect k cx t seen) → In x seen ⊎ Under t
+
+  all-only : (k t : ℕ) → CollectsOnly k → (cs seen : List ℕ) → ((c : ℕ) → In c cs → T (mem c (children cx t))) → In x (foldl (λ s c. collect k cx c s) seen cs) → In x seen ⊎ Under t
+  all-only k t C [] seen b i = inl i
+  all-only k t C (c ∷ cs) seen b i = go (all-only k t C cs (collect k cx c seen) (λ d j. b d (inr j)) i)
+    where
+      below : In x seen ⊎ Under c → In x seen ⊎ Under t
+      below (inl j) = inl j
+      below (inr (n, w)) = inr (suc n, (c, b c (inl refl), w))
+
+      go : In x (collect k cx c seen) ⊎ Under t → In x seen ⊎ Under t
+      go (inl j) = below (C c seen j)
+      go (inr w) = inr w
+
+  collects-only : (k : ℕ) → CollectsOnly k
+  unfolding collect
+  collects-only zero t seen i = inl i
+  collects-only (suc k) t seen i =
+      go (mem t seen) i (all-only k t (collects-only k) (children cx t) (insert t seen) (λ c j. in-mem c (children cx t) j))
+    where
+      out : List ℕ
+      out = foldl (λ s c. collect k cx c s) (insert t seen) (children cx t)
+
+      here : (x ≡ t) ⊎ In x seen → In x seen ⊎ Under t
+      here (inl e) = inr (0, sym e)
+      here (inr j) = inl j
+
+      old : In x (insert t seen) ⊎ Under t → In x seen ⊎ Under t
+      old (inl j) = here (insert-in x t seen j)
+      old (inr w) = inr w
+
+      go : (b : Bool) → In x (cond b seen out) → (In x out → In x (insert t seen) ⊎ Under t) → In x seen ⊎ Under t
+      go true j f = inl j
+      go false j f = old (f j)
+
 -- ---- marks
+
+insert-all-in : (xs ms : List ℕ) (t : ℕ) → In t (foldl (λ m u. insert u m) ms xs) → In t xs ⊎ In t ms
+insert-all-in [] ms t i = inr i
+insert-all-in (x ∷ xs) ms t i = go (insert-all-in xs (insert x ms) t i)
+  where
+    old : (t ≡ x) ⊎ In t ms → In t (x ∷ xs) ⊎ In t ms
+    old (inl e) = inl (inl e)
+    old (inr j) = inr j
+
+    go : In t xs ⊎ In t (insert x ms) → In t (x ∷ xs) ⊎ In t ms
+    go (inl j) = inl (inr j)
+    go (inr j) = old (insert-in t x ms j)
 
 insert-all-old : (xs ms : List ℕ) (t : ℕ) → In t ms → In t (foldl (λ m u. insert u m) ms xs)
 insert-all-old [] ms t i = i
@@ -128,6 +181,7 @@ pub record Marks (s : State) (t : ℕ) (s′ : State) : Type 0 where
   pub entries : s′ .dt .level-record ≡ s .dt .level-record
   pub old : (x : ℕ) → In x (s .dt .marks) → In x (s′ .dt .marks)
   pub new : (n x : ℕ) → (low : (u a : ℕ) → In a (children (s .terms) u) → a < u) → Beneath (s .terms) n t x → T (relevant (s .terms) x) → In x (s′ .dt .marks)
+  pub only : (x : ℕ) → In x (s′ .dt .marks) → In x (s .dt .marks) ⊎ ((n : ℕ) × Beneath (s .terms) n t x × T (relevant (s .terms) x))
   pub ascending : Ascending (s .dt .marks) → Ascending (s′ .dt .marks)
 
 pub new-var-marks : (s : State) (t : ℕ) → Marks s t (new-var s t)
@@ -140,8 +194,19 @@ new-var-marks s t = record {
   entries = refl;
   old = λ x i. insert-all-old (keep (relevant (s .terms)) (collect (suc t) (s .terms) t [])) (s .dt .marks) x i;
   new = λ n x low w r. insert-all-new (keep (relevant (s .terms)) (collect (suc t) (s .terms) t [])) (s .dt .marks) x (in-keep (relevant (s .terms)) (collect (suc t) (s .terms) t []) x (collect-below (s .terms) low n t x w) r);
+  only = λ x i. only x (insert-all-in (keep (relevant (s .terms)) (collect (suc t) (s .terms) t [])) (s .dt .marks) x i);
   ascending = λ a. insert-all-ascending (keep (relevant (s .terms)) (collect (suc t) (s .terms) t [])) (s .dt .marks) a;
 }
+  where
+    under : (x : ℕ) → T (relevant (s .terms) x) → In x [] ⊎ ((n : ℕ) × Beneath (s .terms) n t x) → (n : ℕ) × Beneath (s .terms) n t x × T (relevant (s .terms) x)
+    under x r (inl j) = absurd j
+    under x r (inr (n, w)) = (n, w, r)
+
+    only : (x : ℕ) → In x (keep (relevant (s .terms)) (collect (suc t) (s .terms) t [])) ⊎ In x (s .dt .marks) → In x (s .dt .marks) ⊎ ((n : ℕ) × Beneath (s .terms) n t x × T (relevant (s .terms) x))
+    only x (inl j) =
+        let (k, r) = keep-in (relevant (s .terms)) (collect (suc t) (s .terms) t []) x j in
+        inr (under x r (collects-only (s .terms) x (suc t) t [] k))
+    only x (inr j) = inl j
 
 -- ---- what is relevant stays so
 

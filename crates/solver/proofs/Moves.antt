@@ -5,6 +5,7 @@ use mathlib.Core.Logic.{_⊎_, inl, inr}
 use mathlib.Core.Bool.{Bool, true, false, cond}
 use mathlib.Core.List.{List, [], _∷_, map}
 use mathlib.Core.Option.{Option, none, some}
+use lib.Dec.{T}
 use lib.ListN.{length}
 use Rattle.core.specs.Lists.{mem, insert}
 use Rattle.core.specs.Ids.{lit, negate}
@@ -17,11 +18,12 @@ use Rattle.theory.specs.EqEngine.{Merge}
 use Rattle.theory.specs.Atom.{var-of-atom}
 use Rattle.theory.proofs.Explain.{Justified, TwoTerms}
 use Rattle.solver.specs.State.{State, MadeIn, with-terms, with-dt, with-marks, with-emitted, mark, made-in, make-app, marked-in, mint}
-use Rattle.solver.specs.Rules.{TCheck, Sat, Conflict, Split, Unknown, Ruled, pass, answered, go-on, then, try-each, hand-out, hand-out-made, make-eq}
+use Rattle.solver.specs.Rules.{TCheck, Sat, Conflict, Split, Unknown, Ruled, pass, answered, go-on, then, try-each, hand-out, hand-out-made, make-eq, has-undetermined-class}
 use Rattle.solver.proofs.Basics.{some-is, none-some, in-insert-old, Ascending, insert-ascending}
 use Rattle.solver.proofs.Terms.{Extends, extends-self, extends-then, extends-symbol, extends-term, Agrees, Below, Formed, mk-app-makes, mk-app-formed, app}
 use Rattle.solver.proofs.Signature.{extends-signed}
 use Rattle.solver.proofs.Apps.{IsCtor, IsTester, IsSel, app-within}
+use Rattle.solver.proofs.Walk.{HasRing}
 use Rattle.solver.proofs.Clash.{Ready, Refuted, Recorded}
 
 -- ---- a state after another
@@ -176,11 +178,19 @@ abbrev pub SplitHolds : State → List ℕ → List ℕ → Type 1
 SplitHolds s atoms guards =
     (r : Reading (s .terms)) (Lit : ℕ → Type 0) → ((v t : ℕ) → var-of-atom (s .atoms) t ≡ some v → value r t ≡ truth false → Lit (negate (lit v true))) → SomeLit Lit guards ⊎ SomeTrue r atoms
 
+-- no ring, and each watched class has a marked constructor application
+pub record SatHolds (s : State) : Type 1 where
+  pub no-ring : HasRing s → ⊥
+  pub determined : has-undetermined-class s ≡ false
+
+pub record UnknownHolds (s : State) : Type 1 where
+  pub undetermined : T (has-undetermined-class s)
+
 abbrev pub AnswerHolds : State → TCheck → Type 1
-AnswerHolds s Sat = Unit {1}
+AnswerHolds s Sat = SatHolds s
 AnswerHolds s (Conflict ls) = Refuted s (Recorded s) ls
 AnswerHolds s (Split atoms guards phases) = SplitHolds s atoms guards
-AnswerHolds s Unknown = Unit {1}
+AnswerHolds s Unknown = UnknownHolds s
 
 pub record RuledWell (s : State) (r : Ruled) : Type 1 where
   pub follows : Follows s (r .state)
