@@ -10,7 +10,7 @@ same-length : tie.Need-same-length
 same-length c = search needs
 
 returns : tie.Need-returns
-returns c = leaves-cleared _ _ (c .before .before .before .before .before .pre) (c .before .before .put .ensures)
+returns c = leaves-cleared (c .before .before .before .before .before .args .out .now) _ (c .before .before .before .before .before .pre) (c .before .before .put .ensures)
 
 pub clear-leaves-spec : {M : Type 1} → statement M
 clear-leaves-spec = tie.close (tie.spec put-requires same-length returns)
