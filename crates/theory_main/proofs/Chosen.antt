@@ -4,16 +4,21 @@ use mathlib.Core.Path.{_≡_, refl, sym, subst}
 use mathlib.Core.Logic.{_⊎_, inl, inr}
 use mathlib.Core.Bool.{Bool, true}
 use mathlib.Core.List.{List, [], _∷_}
+use borrow.Author.Tests.{eq-eqb}
 use lib.Dec.{T}
 use lib.ListN.{length, take}
 use lib.Seq.{length-take-le}
 use Rattle.core.specs.Lists.{In, zip}
-use Rattle.theory.specs.EqEngine.{Merge, are-equal}
+use Rattle.theory.specs.EqEngine.{Merge, classes, are-equal}
 use Rattle.theory.specs.Table.{EqualPairs}
 
 -- two nodes that are equal now
 abbrev pub EqualNow : List Merge → ℕ → ℕ → Type 0
 EqualNow ms x y = (are-equal ms x y ≡ true) × (x < 1024) × (y < 1024)
+
+pub self-equal : (ms : List Merge) (x : ℕ) → are-equal ms x x ≡ true
+unfolding are-equal
+self-equal ms x = let c = classes ms in eq-eqb (c .find x) (c .find x) refl
 
 -- what holds of a pair is carried along an equality of pairs
 one : (ms : List Merge) (x y : ℕ) (p : ℕ × ℕ) → EqualNow ms x y → p ≡ (x, y) → T (are-equal ms (p .0) (p .1)) × (p .0 < 1024) × (p .1 < 1024)

@@ -127,22 +127,42 @@ struct Equals {
     y: u32,
 }
 
+// Two nodes where they are equal now; otherwise the first and itself.
+fn equal_or_self(t: &[u32], x: u32, y: u32) -> Equals
+    requires { ⌜ Sound (now t) × (x < 1024) × (y < 1024) ⌝ }
+    ensures { λ r. ⌜ (are-equal (merges (now (t .entry))) (r .x) (r .y) ≡ true) × (r .x < 1024) × (r .y < 1024) ⌝ }
+{
+    if are_equal(t, TermId(x), TermId(y)) {
+        return Equals { x: x, y: y };
+    }
+    Equals { x: x, y: x }
+}
+
+// A node other than x.
+fn another(g: &mut [u64; 2], n: u32, x: u32) -> u32
+    requires { ⌜ (1 < n) × (n ≤ 1024) × (x < n) ⌝ }
+    ensures { λ r. ⌜ r < n ⌝ }
+{
+    let d = draw(g, n - 1);
+    (x + 1 + d) % n
+}
+
 // Two equal nodes: some are tried, then a node and itself.
 fn pick(t: &[u32], g: &mut [u64; 2], n: u32) -> Equals
-    requires { ⌜ Sound (now t) × (0 < n) × (n ≤ 1024) ⌝ }
+    requires { ⌜ Sound (now t) × (1 < n) × (n ≤ 1024) ⌝ }
     ensures { λ r. ⌜ (are-equal (merges (now (t .entry))) (r .x) (r .y) ≡ true) × (r .x < 1024) × (r .y < 1024) ⌝ }
 {
     let x = draw(g, n);
-    let mut y = draw(g, n);
+    let mut y = another(g, n, x);
     let mut tries = 0usize;
-    while tries < 8 {
+    while tries < 12 {
         if are_equal(t, TermId(x), TermId(y)) {
             return Equals { x: x, y: y };
         }
-        y = draw(g, n);
+        y = another(g, n, x);
         tries += 1;
     }
-    Equals { x: x, y: x }
+    equal_or_self(t, x, x)
 }
 
 fn one_up(t: &mut [u32])
@@ -165,7 +185,7 @@ fn back(t: &mut [u32], g: &mut [u64; 2])
 }
 
 fn by_literal(t: &mut [u32], g: &mut [u64; 2], n: u32)
-    requires { ⌜ Sound (now t) × (0 < n) × (n ≤ 1024) ⌝ }
+    requires { ⌜ Sound (now t) × (1 < n) × (n ≤ 1024) ⌝ }
     ensures { λ _. ⌜ Sound (now (t .exit)) ⌝ }
 {
     let a = draw(g, n);
@@ -176,7 +196,7 @@ fn by_literal(t: &mut [u32], g: &mut [u64; 2], n: u32)
 
 // Theories and tags come from both ends of what fits.
 fn by_interface(t: &mut [u32], g: &mut [u64; 2], n: u32)
-    requires { ⌜ Sound (now t) × (0 < n) × (n ≤ 1024) ⌝ }
+    requires { ⌜ Sound (now t) × (1 < n) × (n ≤ 1024) ⌝ }
     ensures { λ _. ⌜ Sound (now (t .exit)) ⌝ }
 {
     let a = draw(g, n);
@@ -203,7 +223,16 @@ fn join(t: &mut [u32], g: &mut [u64; 2], a: u32, b: u32, xs: &[u32], ys: &[u32])
 }
 
 // The first k of three argument pairs.
-fn join_by(t: &mut [u32], g: &mut [u64; 2], a: u32, b: u32, p: Equals, q: Equals, r: Equals, k: usize)
+fn join_by(
+    t: &mut [u32],
+    g: &mut [u64; 2],
+    a: u32,
+    b: u32,
+    p: Equals,
+    q: Equals,
+    r: Equals,
+    k: usize,
+)
     requires { ⌜ Sound (now t) × (a < 1024) × (b < 1024) × (k ≤ 3) × EqualPairs (merges (now t)) ((p .x, p .y) ∷ (q .x, q .y) ∷ (r .x, r .y) ∷ []) ⌝ }
     ensures { λ _. ⌜ Sound (now (t .exit)) ⌝ }
 {
@@ -214,7 +243,7 @@ fn join_by(t: &mut [u32], g: &mut [u64; 2], a: u32, b: u32, p: Equals, q: Equals
 
 // From least to 3 argument pairs.
 fn by_congruence(t: &mut [u32], g: &mut [u64; 2], n: u32, least: u32)
-    requires { ⌜ Sound (now t) × (0 < n) × (n ≤ 1024) × (least ≤ 3) ⌝ }
+    requires { ⌜ Sound (now t) × (1 < n) × (n ≤ 1024) × (least ≤ 3) ⌝ }
     ensures { λ _. ⌜ Sound (now (t .exit)) ⌝ }
 {
     let k = least + draw(g, 4 - least);
@@ -227,7 +256,7 @@ fn by_congruence(t: &mut [u32], g: &mut [u64; 2], n: u32, least: u32)
 }
 
 fn ask(t: &[u32], g: &mut [u64; 2], n: u32)
-    requires { ⌜ Sound (now t) × (0 < n) × (n ≤ 1024) ⌝ }
+    requires { ⌜ Sound (now t) × (1 < n) × (n ≤ 1024) ⌝ }
 {
     let a = draw(g, n);
     let b = draw(g, n);
@@ -247,17 +276,23 @@ fn explain_more(t: &[u32], p: Equals, drawn: u32, out: &mut [u32])
     }
 }
 
-// Sometimes a second explanation follows the first in one list.
-fn ask_why(t: &[u32], g: &mut [u64; 2], n: u32, out: &mut [u32])
-    requires { ⌜ Sound (now t) × (0 < n) × (n ≤ 1024) × (2049 ≤ length (now out)) ⌝ }
+// Sometimes the explanation of a second pair follows that of the first in one list.
+fn explain_both(t: &[u32], p: Equals, q: Equals, drawn: u32, out: &mut [u32])
+    requires { ⌜ Sound (now t) × (are-equal (merges (now t)) (p .x) (p .y) ≡ true) × (p .x < 1024) × (p .y < 1024) × (are-equal (merges (now t)) (q .x) (q .y) ≡ true) × (q .x < 1024) × (q .y < 1024) × (2049 ≤ length (now out)) ⌝ }
 {
-    let p = pick(t, g, n);
-    let q = pick(t, g, n);
-    let drawn = draw(g, 4);
     clear_leaves(out);
     explain(t, TermId(p.x), TermId(p.y), out);
     explain_more(t, q, drawn, out);
     print_explanation(out);
+}
+
+fn ask_why(t: &[u32], g: &mut [u64; 2], n: u32, out: &mut [u32])
+    requires { ⌜ Sound (now t) × (1 < n) × (n ≤ 1024) × (2049 ≤ length (now out)) ⌝ }
+{
+    let p = pick(t, g, n);
+    let q = pick(t, g, n);
+    let drawn = draw(g, 4);
+    explain_both(t, p, q, drawn, out);
 }
 
 // ---- phases
@@ -275,7 +310,7 @@ struct Phase {
 }
 
 fn command(t: &mut [u32], g: &mut [u64; 2], out: &mut [u32], p: Phase)
-    requires { ⌜ Sound (now t) × (2049 ≤ length (now out)) × (0 < p .nodes) × (p .nodes ≤ 1024) × (p .least ≤ 3) ⌝ }
+    requires { ⌜ Sound (now t) × (2049 ≤ length (now out)) × (1 < p .nodes) × (p .nodes ≤ 1024) × (p .least ≤ 3) ⌝ }
     ensures { λ _. ⌜ Sound (now (t .exit)) ⌝ }
 {
     let n = p.nodes;
@@ -298,7 +333,7 @@ fn command(t: &mut [u32], g: &mut [u64; 2], out: &mut [u32], p: Phase)
 }
 
 fn hundred(t: &mut [u32], g: &mut [u64; 2], out: &mut [u32], p: Phase)
-    requires { ⌜ Sound (now t) × (2049 ≤ length (now out)) × (0 < p .nodes) × (p .nodes ≤ 1024) × (p .least ≤ 3) ⌝ }
+    requires { ⌜ Sound (now t) × (2049 ≤ length (now out)) × (1 < p .nodes) × (p .nodes ≤ 1024) × (p .least ≤ 3) ⌝ }
     ensures { λ _. ⌜ Sound (now (t .exit)) ⌝ }
 {
     let mut i = 0usize;
@@ -311,7 +346,7 @@ fn hundred(t: &mut [u32], g: &mut [u64; 2], out: &mut [u32], p: Phase)
 }
 
 fn run(t: &mut [u32], g: &mut [u64; 2], out: &mut [u32], p: Phase, hundreds: usize)
-    requires { ⌜ Sound (now t) × (2049 ≤ length (now out)) × (0 < p .nodes) × (p .nodes ≤ 1024) × (p .least ≤ 3) ⌝ }
+    requires { ⌜ Sound (now t) × (2049 ≤ length (now out)) × (1 < p .nodes) × (p .nodes ≤ 1024) × (p .least ≤ 3) ⌝ }
     ensures { λ _. ⌜ Sound (now (t .exit)) ⌝ }
 {
     let mut i = 0;
@@ -337,7 +372,12 @@ fn link(t: &mut [u32], g: &mut [u64; 2], i: u32)
 {
     up_at_sixteenth(t, i);
     let d = draw(g, 2);
-    merge(t, TermId(i + d), TermId(i + 1 - d), EqJust::Asserted(Lit(i)));
+    merge(
+        t,
+        TermId(i + d),
+        TermId(i + 1 - d),
+        EqJust::Asserted(Lit(i)),
+    );
     note_state(t, g);
 }
 
@@ -356,7 +396,7 @@ fn chain(t: &mut [u32], g: &mut [u64; 2])
 
 // The same, but each hundred starts with no merge in force.
 fn run_afresh(t: &mut [u32], g: &mut [u64; 2], out: &mut [u32], p: Phase, hundreds: usize)
-    requires { ⌜ Sound (now t) × (2049 ≤ length (now out)) × (0 < p .nodes) × (p .nodes ≤ 1024) × (p .least ≤ 3) ⌝ }
+    requires { ⌜ Sound (now t) × (2049 ≤ length (now out)) × (1 < p .nodes) × (p .nodes ≤ 1024) × (p .least ≤ 3) ⌝ }
     ensures { λ _. ⌜ Sound (now (t .exit)) ⌝ }
 {
     let mut i = 0;
@@ -367,6 +407,89 @@ fn run_afresh(t: &mut [u32], g: &mut [u64; 2], out: &mut [u32], p: Phase, hundre
     }
 }
 
+// Storey i has the nodes 3 i, 3 i + 1 and 3 i + 2. The last two are joined by a literal.
+fn storey(t: &mut [u32], g: &mut [u64; 2], i: u32)
+    requires { ⌜ Sound (now t) × (i < 341) ⌝ }
+    ensures { λ _. ⌜ Sound (now (t .exit)) ⌝ }
+{
+    up_at_sixteenth(t, i);
+    let d = draw(g, 2);
+    let x = 3 * i + 1;
+    merge(
+        t,
+        TermId(x + d),
+        TermId(x + 1 - d),
+        EqJust::Asserted(Lit(i)),
+    );
+}
+
+// The first two are joined by pairs of the storey below, x - 3 and x - 1, and of any lower one.
+fn stairs(t: &mut [u32], g: &mut [u64; 2], i: u32)
+    requires { ⌜ Sound (now t) × (0 < i) × (i < 341) ⌝ }
+    ensures { λ _. ⌜ Sound (now (t .exit)) ⌝ }
+{
+    let d = draw(g, 2);
+    let x = 3 * i;
+    let y = 3 * draw(g, i);
+    let k = draw(g, 3) as usize;
+    let p = equal_or_self(t, x - 3, x - 1);
+    let q = equal_or_self(t, y + 2 * d, y + 2 - 2 * d);
+    let r = equal_or_self(t, x - 1, x - 3);
+    join_by(t, g, x + d, x + 1 - d, p, q, r, k + 1);
+}
+
+// Storeys on the first three nodes.
+fn tower(t: &mut [u32], g: &mut [u64; 2])
+    requires { ⌜ Sound (now t) ⌝ }
+    ensures { λ _. ⌜ Sound (now (t .exit)) ⌝ }
+{
+    link(t, g, 0);
+    link(t, g, 1);
+    let mut i = 1;
+    while i < 341 {
+        storey(t, g, i);
+        stairs(t, g, i);
+        note_state(t, g);
+        i += 1;
+    }
+    print_checksum(g);
+}
+
+// Explains the ends of some storeys.
+fn look_down(t: &[u32], g: &mut [u64; 2], out: &mut [u32])
+    requires { ⌜ Sound (now t) × (2049 ≤ length (now out)) ⌝ }
+{
+    let i = draw(g, 341);
+    let j = draw(g, 341);
+    let drawn = draw(g, 4);
+    let p = equal_or_self(t, 3 * i, 3 * i + 2);
+    let q = equal_or_self(t, 3 * j + 1, 3 * j);
+    explain_both(t, p, q, drawn, out);
+}
+
+fn look_down_often(t: &[u32], g: &mut [u64; 2], out: &mut [u32])
+    requires { ⌜ Sound (now t) × (2049 ≤ length (now out)) ⌝ }
+{
+    let mut i = 0usize;
+    while i < 16 {
+        look_down(t, g, out);
+        i += 1;
+    }
+}
+
+// Congruences over congruences: a tower, levels taken back, and the tower made whole again.
+fn towers(t: &mut [u32], g: &mut [u64; 2], out: &mut [u32])
+    requires { ⌜ Sound (now t) × (2049 ≤ length (now out)) ⌝ }
+    ensures { λ _. ⌜ Sound (now (t .exit)) ⌝ }
+{
+    tower(t, g);
+    look_down_often(t, g, out);
+    back(t, g);
+    look_down_often(t, g, out);
+    tower(t, g);
+    look_down_often(t, g, out);
+}
+
 // Few nodes: deep congruences, the same pairs again and again.
 fn few_nodes(t: &mut [u32], g: &mut [u64; 2], out: &mut [u32])
     requires { ⌜ Sound (now t) × (2049 ≤ length (now out)) ⌝ }
@@ -375,12 +498,12 @@ fn few_nodes(t: &mut [u32], g: &mut [u64; 2], out: &mut [u32])
     let p = Phase {
         nodes: 12,
         least: 0,
-        pushes: 20,
-        pops: 30,
-        literals: 40,
-        interfaces: 47,
-        congruences: 75,
-        explanations: 92,
+        pushes: 15,
+        pops: 25,
+        literals: 37,
+        interfaces: 46,
+        congruences: 76,
+        explanations: 94,
     };
     run_afresh(t, g, out, p, 30);
 }
@@ -398,7 +521,7 @@ fn more_nodes(t: &mut [u32], g: &mut [u64; 2], out: &mut [u32])
         literals: 32,
         interfaces: 40,
         congruences: 72,
-        explanations: 90,
+        explanations: 92,
     };
     run(t, g, out, p, 25);
 }
@@ -445,7 +568,7 @@ fn long_chain(t: &mut [u32], g: &mut [u64; 2], out: &mut [u32])
 fn main() {
     let mut t = [7u32; 16384];
     let mut out = [7u32; 2049];
-    let mut g = [2024u64, 0];
+    let mut g = [1u64, 0];
     clear(&mut t);
     few_nodes(&mut t, &mut g, &mut out);
     clear(&mut t);
@@ -454,4 +577,6 @@ fn main() {
     all_nodes(&mut t, &mut g, &mut out);
     clear(&mut t);
     long_chain(&mut t, &mut g, &mut out);
+    clear(&mut t);
+    towers(&mut t, &mut g, &mut out);
 }
