@@ -255,11 +255,15 @@ fn by_congruence(t: &mut [u32], g: &mut [u64; 2], n: u32, least: u32)
     join_by(t, g, a, b, p, q, r, k as usize);
 }
 
+// The parent of a node in the union-find, the size of the class under it, and whether another node equals it.
 fn ask(t: &[u32], g: &mut [u64; 2], n: u32)
     requires { ⌜ Sound (now t) × (1 < n) × (n ≤ 1024) ⌝ }
 {
     let a = draw(g, n);
     let b = draw(g, n);
+    let x = a as usize;
+    note(g, get(t, 64 + x));
+    note(g, get(t, 1088 + x));
     if are_equal(t, TermId(a), TermId(b)) {
         note(g, 1);
     } else {
