@@ -122,6 +122,7 @@ fn print_explanation(out: &[u32])
 
 // ---- one command each, over the nodes below n
 
+// Two nodes that are equal now.
 struct Equals {
     x: u32,
     y: u32,
@@ -301,7 +302,8 @@ fn ask_why(t: &[u32], g: &mut [u64; 2], n: u32, out: &mut [u32])
 
 // ---- phases
 
-// The nodes, the fewest pairs of a congruence, and how many of a hundred commands are a push, a pop, and so on. The rest ask.
+// The nodes, the fewest pairs of a congruence, and bounds that a number below 100 is held to: below the first it is a push, else
+// below the second a pop, and so on. The rest ask.
 struct Phase {
     nodes: u32,
     least: u32,
@@ -494,6 +496,15 @@ fn towers(t: &mut [u32], g: &mut [u64; 2], out: &mut [u32])
     look_down_often(t, g, out);
 }
 
+// Explains the ends of the chain, in both orders in one list.
+fn explain_ends(t: &[u32], out: &mut [u32])
+    requires { ⌜ Sound (now t) × (2049 ≤ length (now out)) ⌝ }
+{
+    let p = equal_or_self(t, 0, 1023);
+    let q = equal_or_self(t, 1023, 0);
+    explain_both(t, p, q, 0, out);
+}
+
 // Few nodes: deep congruences, the same pairs again and again.
 fn few_nodes(t: &mut [u32], g: &mut [u64; 2], out: &mut [u32])
     requires { ⌜ Sound (now t) × (2049 ≤ length (now out)) ⌝ }
@@ -564,8 +575,10 @@ fn long_chain(t: &mut [u32], g: &mut [u64; 2], out: &mut [u32])
         explanations: 80,
     };
     chain(t, g);
+    explain_ends(t, out);
     run(t, g, out, p, 2);
     chain(t, g);
+    explain_ends(t, out);
     run(t, g, out, p, 2);
 }
 

@@ -20,7 +20,8 @@ rem-result : tie.Need-rem-result
 rem-result c = search needs
 
 returns : tie.Need-returns
-returns c = let z = c .before .before .pre in mod-lt _ (omega arith)
+returns c =
+    let z = c .before .before .pre in mod-lt _ (omega arith)
 
 pub another-spec : {M : Type 1} → statement M
 another-spec =

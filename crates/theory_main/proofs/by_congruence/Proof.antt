@@ -32,7 +32,12 @@ cast-join-by : tie.Need-cast-join-by
 cast-join-by c = search needs
 
 join-by-requires : tie.Need-join-by-requires
-join-by-requires c κs = let (z, a, b, l) = c .before .before .before .before .before .before .before .before .before .before .before .before .before .before .before .before .before .before .pre in let i = c .before .before .before .before .before .before .before .before .before .before .before .before .before .before .before .draw .ensures in let j = c .before .before .before .before .before .before .before .before .before .before .before .before .before .draw2 .ensures in let k = c .before .before .before .before .before .before .before .before .before .before .before .draw3 .ensures in (z, omega arith, omega arith, omega arith, equal-three _ _ _ _ _ _ _ (c .before .before .before .before .before .before .before .before .pick .ensures) (c .before .before .before .before .before .pick2 .ensures) (c .before .before .pick3 .ensures))
+join-by-requires c κs =
+    let (z, a, b, l) = c .before .before .before .before .before .before .before .before .before .before .before .before .before .before .before .before .before .before .pre in
+    let i = c .before .before .before .before .before .before .before .before .before .before .before .before .before .before .before .draw .ensures in
+    let j = c .before .before .before .before .before .before .before .before .before .before .before .before .before .draw2 .ensures in
+    let k = c .before .before .before .before .before .before .before .before .before .before .before .draw3 .ensures in
+    (z, omega arith, omega arith, omega arith, equal-three _ _ _ _ _ _ _ (c .before .before .before .before .before .before .before .before .pick .ensures) (c .before .before .before .before .before .pick2 .ensures) (c .before .before .pick3 .ensures))
 
 same-length : tie.Need-same-length
 same-length c = search needs

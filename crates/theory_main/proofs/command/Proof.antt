@@ -21,10 +21,14 @@ by-congruence-requires : tie.Need-by-congruence-requires
 by-congruence-requires c κs = search needs
 
 ask-why-requires : tie.Need-ask-why-requires
-ask-why-requires c κs = let (z, o, a, b, l) = c .before .before .before .before .before .before .before .before .before .before .before .before .before .before .before .before .before .before .before .pre in (z, a, b, o)
+ask-why-requires c κs =
+    let (z, o, a, b, l) = c .before .before .before .before .before .before .before .before .before .before .before .before .before .before .before .before .before .before .before .pre in
+    (z, a, b, o)
 
 ask-requires : tie.Need-ask-requires
-ask-requires c κs = let (z, o, a, b, l) = c .before .before .before .before .before .before .before .before .before .before .before .before .before .before .before .before .before .before .pre in (z, a, b)
+ask-requires c κs =
+    let (z, o, a, b, l) = c .before .before .before .before .before .before .before .before .before .before .before .before .before .before .before .before .before .before .pre in
+    (z, a, b)
 
 same-length : tie.Need-same-length
 same-length c = search needs

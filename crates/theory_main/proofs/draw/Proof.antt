@@ -6,7 +6,8 @@ use Rattle.theory_main.proofs.draw.Statement.{statement}
 use Rattle.theory_main.proofs.draw.Tie as tie
 
 under : (a n : ℕ) → 0 < n → n < 4294967296 → a % n < 4294967296
-under a n h l = let k = mod-lt a h in omega arith
+under a n h l =
+    let k = mod-lt a h in omega arith
 
 element-copy-out-s : tie.Need-element-copy-out-s
 element-copy-out-s c = search needs

@@ -8,10 +8,14 @@ are-equal-requires : tie.Need-are-equal-requires
 are-equal-requires c κs = search needs
 
 returns : tie.Need-returns
-returns c = let (z, a, b) = c .before .before .before .pre in (sym (c .before .are-equal .ensures) ∙ c .if1 .taken, a, b)
+returns c =
+    let (z, a, b) = c .before .before .before .pre in
+    (sym (c .before .are-equal .ensures) ∙ c .if1 .taken, a, b)
 
 returns-2 : tie.Need-returns-2
-returns-2 c = let (z, a, b) = c .before .before .before .pre in (self-equal _ _, a, a)
+returns-2 c =
+    let (z, a, b) = c .before .before .before .pre in
+    (self-equal _ _, a, a)
 
 pub equal-or-self-spec : {M : Type 1} → statement M
 equal-or-self-spec = tie.close (tie.spec are-equal-requires returns returns-2)

@@ -8,7 +8,9 @@ clear-leaves-requires : tie.Need-clear-leaves-requires
 clear-leaves-requires c κs = search needs
 
 explain-requires : tie.Need-explain-requires
-explain-requires c κs = let (z, e, x, y, f, u, v, o) = c .before .before .before .before .before .before .before .pre in (z, x, y, e, no-leaves _ _ (omega (arith, c .before .before .before .clear-leaves .kept .0)) (c .before .before .before .clear-leaves .ensures))
+explain-requires c κs =
+    let (z, e, x, y, f, u, v, o) = c .before .before .before .before .before .before .before .pre in
+    (z, x, y, e, no-leaves _ _ (omega (arith, c .before .before .before .clear-leaves .kept .0)) (c .before .before .before .clear-leaves .ensures))
 
 explain-more-requires : tie.Need-explain-more-requires
 explain-more-requires c κs = search needs

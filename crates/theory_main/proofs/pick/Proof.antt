@@ -24,7 +24,11 @@ are-equal-requires : tie.Need-are-equal-requires Inv-loop μ-loop
 are-equal-requires c κs = search needs
 
 returns : tie.Need-returns Inv-loop μ-loop
-returns c = let h = c .before .before .before .before .before .before .draw .ensures in let e = c .before .before .before .loop .inv in let z = c .before .before .before .before .before .before .before .before .before .pre in (sym (c .before .are-equal .ensures) ∙ c .if1 .taken, omega arith, omega arith)
+returns c =
+    let h = c .before .before .before .before .before .before .draw .ensures in
+    let e = c .before .before .before .loop .inv in
+    let z = c .before .before .before .before .before .before .before .before .before .pre in
+    (sym (c .before .are-equal .ensures) ∙ c .if1 .taken, omega arith, omega arith)
 
 another-requires-2 : tie.Need-another-requires-2 Inv-loop μ-loop
 another-requires-2 c κs = search needs

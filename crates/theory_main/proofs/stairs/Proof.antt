@@ -71,7 +71,11 @@ add-join-by-3 : tie.Need-add-join-by-3
 add-join-by-3 c = search needs
 
 join-by-requires : tie.Need-join-by-requires
-join-by-requires c κs = let (z, a, b) = c .before .before .before .before .before .before .before .before .before .before .before .before .before .before .before .pre in let h = c .before .before .before .before .before .before .before .before .before .before .before .before .draw .ensures in let k = c .before .before .before .before .before .before .before .before .draw3 .ensures in (z, omega arith, omega arith, omega arith, equal-three _ _ _ _ _ _ _ (c .before .before .before .before .before .before .equal-or-self .ensures) (c .before .before .before .before .equal-or-self2 .ensures) (c .before .before .equal-or-self3 .ensures))
+join-by-requires c κs =
+    let (z, a, b) = c .before .before .before .before .before .before .before .before .before .before .before .before .before .before .before .pre in
+    let h = c .before .before .before .before .before .before .before .before .before .before .before .before .draw .ensures in
+    let k = c .before .before .before .before .before .before .before .before .draw3 .ensures in
+    (z, omega arith, omega arith, omega arith, equal-three _ _ _ _ _ _ _ (c .before .before .before .before .before .before .equal-or-self .ensures) (c .before .before .before .before .equal-or-self2 .ensures) (c .before .before .equal-or-self3 .ensures))
 
 same-length : tie.Need-same-length
 same-length c = search needs
