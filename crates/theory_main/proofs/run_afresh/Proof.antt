@@ -1,0 +1,56 @@
+use Prim.Native.Nat.{_-_, _≤_}
+use mathlib.Core.Path.{_≡_}
+use lib.ListN.{length}
+use Rattle.theory.specs.Table.{Sound}
+use borrow.Author.Needs.{needs}
+use Rattle.theory_main.proofs.run_afresh.Statement.{statement}
+use Rattle.theory_main.proofs.run_afresh.Tie as tie
+
+abbrev Inv-loop : tie.InvT-loop
+Inv-loop t₀ g₀ out₀ p hundreds i₀ t g out i = Sound t × (length t ≡ length t₀) × (length out ≡ length out₀)
+
+abbrev μ-loop : tie.MeasureT-loop
+μ-loop t₀ g₀ out₀ p hundreds i₀ t g out i = hundreds - i
+
+loop-holds : tie.Need-loop-holds Inv-loop μ-loop
+loop-holds c = search needs
+
+clear-requires : tie.Need-clear-requires Inv-loop μ-loop
+clear-requires c κs = search needs
+
+hundred-requires : tie.Need-hundred-requires Inv-loop μ-loop
+hundred-requires c κs = search needs
+
+add-i : tie.Need-add-i Inv-loop μ-loop
+add-i c = search needs
+
+loop-less : tie.Need-loop-less Inv-loop μ-loop
+loop-less c = search needs
+
+loop-again : tie.Need-loop-again Inv-loop μ-loop
+loop-again c = search needs
+
+same-length : tie.Need-same-length Inv-loop μ-loop
+same-length c = search needs
+
+same-length-2 : tie.Need-same-length-2 Inv-loop μ-loop
+same-length-2 c = search needs
+
+returns : tie.Need-returns Inv-loop μ-loop
+returns c = search needs
+
+pub run-afresh-spec : {M : Type 1} → statement M
+run-afresh-spec =
+    tie.close
+    (tie.spec
+    Inv-loop
+    μ-loop
+    loop-holds
+    clear-requires
+    hundred-requires
+    add-i
+    loop-less
+    loop-again
+    same-length
+    same-length-2
+    returns)

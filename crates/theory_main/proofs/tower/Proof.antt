@@ -1,0 +1,68 @@
+use Prim.Native.Nat.{_-_, _<_}
+use mathlib.Core.Path.{_≡_}
+use lib.ListN.{length}
+use Rattle.theory.specs.Table.{Sound}
+use borrow.Author.Needs.{needs}
+use Rattle.theory_main.proofs.tower.Statement.{statement}
+use Rattle.theory_main.proofs.tower.Tie as tie
+
+abbrev Inv-loop : tie.InvT-loop
+Inv-loop t₀ g₀ i₀ t g i = Sound t × (length t ≡ length t₀) × (0 < i)
+
+abbrev μ-loop : tie.MeasureT-loop
+μ-loop t₀ g₀ i₀ t g i = 341 - i
+
+link-requires : tie.Need-link-requires Inv-loop μ-loop
+link-requires c κs = search needs
+
+link-requires-2 : tie.Need-link-requires-2 Inv-loop μ-loop
+link-requires-2 c κs = search needs
+
+loop-holds : tie.Need-loop-holds Inv-loop μ-loop
+loop-holds c = search needs
+
+storey-requires : tie.Need-storey-requires Inv-loop μ-loop
+storey-requires c κs = search needs
+
+stairs-requires : tie.Need-stairs-requires Inv-loop μ-loop
+stairs-requires c κs = search needs
+
+note-state-requires : tie.Need-note-state-requires Inv-loop μ-loop
+note-state-requires c κs = search needs
+
+add-i : tie.Need-add-i Inv-loop μ-loop
+add-i c = search needs
+
+loop-less : tie.Need-loop-less Inv-loop μ-loop
+loop-less c = search needs
+
+loop-again : tie.Need-loop-again Inv-loop μ-loop
+loop-again c = search needs
+
+print-checksum-requires : tie.Need-print-checksum-requires Inv-loop μ-loop
+print-checksum-requires c κs = search needs
+
+same-length : tie.Need-same-length Inv-loop μ-loop
+same-length c = search needs
+
+returns : tie.Need-returns Inv-loop μ-loop
+returns c = search needs
+
+pub tower-spec : {M : Type 1} → statement M
+tower-spec =
+    tie.close
+    (tie.spec
+    Inv-loop
+    μ-loop
+    link-requires
+    link-requires-2
+    loop-holds
+    storey-requires
+    stairs-requires
+    note-state-requires
+    add-i
+    loop-less
+    loop-again
+    print-checksum-requires
+    same-length
+    returns)
