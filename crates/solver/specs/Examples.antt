@@ -1,19 +1,19 @@
 -- Small examples of a full check, in one table, and that the definition gives each row: the order of the rules, who explains
 -- what, and the phase of a nullary constructor.
 use Prim.Native.Nat.{ℕ}
-use mathlib.Core.Bool.{Bool, true, false, cond, _&&_}
+use mathlib.Core.Bool.{Bool, true, false, _&&_}
 use mathlib.Core.List.{List, [], _∷_, foldl}
 use mathlib.Core.Option.{Option, none, some, Option·map}
-use lib.Dec.{T, eqb}
+use lib.Dec.{T}
 use Rattle.core.specs.Lists.{every, same-list, cons-option, lists-definitions}
 use Rattle.core.specs.Sort.{Datatype, sort-definitions}
 use Rattle.core.specs.Term.{Term, Uninterpreted, term-definitions}
 use Rattle.core.specs.Context.{Context, empty-context, declare-sort, dt-add-constructor, declare-fun, context-definitions}
-use Rattle.theory.specs.Types.{EqLeaf, AssertedLeaf, InterfaceLeaf, Asserted, same-leaf, types-definitions}
-use Rattle.theory.specs.EqEngine.{Merge, merge, engine-definitions}
-use Rattle.theory.specs.Atom.{Registered, atom-definitions}
+use Rattle.theory.specs.Types.{EqLeaf, AssertedLeaf, Asserted, types-definitions}
+use Rattle.theory.specs.EqEngine.{merge, engine-definitions}
+use Rattle.theory.specs.Atom.{atom-definitions}
 use Rattle.theory.specs.Examples.{same-leaves}
-use Rattle.solver.specs.State.{State, AssertedTester, state-definitions}
+use Rattle.solver.specs.State.{State, state-definitions}
 use Rattle.solver.specs.Records.{records-definitions}
 use Rattle.solver.specs.Rules.{Phase, Positive, NoPhase, TCheck, Sat, Conflict, Split, Unknown, rules-definitions}
 use Rattle.solver.specs.Ring.{ring-definitions}

@@ -1,7 +1,7 @@
 -- The ring rule (children_of, constructor_graph_find_cycle, acyclicity_conflict). Each class stands by its lowest marked
 -- constructor application; an edge leads to the class of each datatype field.
 use Prim.Native.Nat.{ℕ, zero, suc}
-use mathlib.Core.Bool.{Bool, true, false, cond}
+use mathlib.Core.Bool.{Bool, cond}
 use mathlib.Core.List.{List, [], _∷_, _++_, foldl, reverse}
 use mathlib.Core.Option.{Option, none, some}
 use lib.Dec.{eqb}

@@ -1,11 +1,11 @@
 -- The rules of a full check that come before the ring, each as in lib.rs, loops nested as there.
 use Prim.Native.Nat.{ℕ}
-use mathlib.Core.Bool.{Bool, true, false, cond, not, _&&_}
+use mathlib.Core.Bool.{Bool, true, cond, not, _&&_}
 use mathlib.Core.List.{List, [], _∷_, _++_, map, foldl}
 use mathlib.Core.Option.{Option, none, some}
 use lib.Dec.{eqb}
-use lib.ListN.{length, getD, getElem?}
-use Rattle.core.specs.Lists.{any, first, gather, pairs, mem, insert}
+use lib.ListN.{length, getElem?}
+use Rattle.core.specs.Lists.{any, first, pairs, mem, insert}
 use Rattle.core.specs.Ids.{lit, negate}
 use Rattle.core.specs.Context.{Context, CtorApp, SelApp, TesterApp, tester-app, mk-eq, symbol, sort-of, dt-constructors, dt-tester, dt-selectors}
 use Rattle.theory.specs.Types.{EqLeaf}

@@ -107,13 +107,13 @@ pairs-room ms l a b start xs ys two f e p =
     omega arith
 
 -- and pairs for which there is room fit
-pub pairs-fit-in : (ms : List Merge) (l a b : ℕ) (ps : List (ℕ × ℕ)) → pairs-in-force ms + length ps ≤ 2048 → pairs-in-force (merge ms l a b (Congruence ps)) ≤ 2048
+pub room-pairs : (ms : List Merge) (l a b : ℕ) (xs ys : List ℕ) → length xs ≡ length ys → pairs-in-force ms + length xs ≤ 2048 → pairs-in-force (merge ms l a b (Congruence (zip xs ys))) ≤ 2048
 unfolding merge pairs-of
-pairs-fit-in ms l a b ps f = go (are-equal ms a b)
+room-pairs ms l a b xs ys e f = go (are-equal ms a b)
   where
-    go : (d : Bool) → pairs-in-force (cond d ms (record { a = a; b = b; just = Congruence ps; level = l } ∷ ms)) ≤ 2048
+    go : (d : Bool) → pairs-in-force (cond d ms (record { a = a; b = b; just = Congruence (zip xs ys); level = l } ∷ ms)) ≤ 2048
     go true = omega arith
-    go false = omega (arith, pairs-more (record { a = a; b = b; just = Congruence ps; level = l }) ms)
+    go false = omega (arith, zip-length xs ys e, pairs-more (record { a = a; b = b; just = Congruence (zip xs ys); level = l }) ms)
 
 -- pairs by their places
 module _ (f g : ℕ → ℕ) where

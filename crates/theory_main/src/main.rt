@@ -5,6 +5,7 @@ use core::table::get;
 use theory::eq_engine::are_equal;
 use theory::eq_engine::clear;
 use theory::eq_engine::explain;
+use theory::eq_engine::level;
 use theory::eq_engine::merge;
 use theory::eq_engine::merge_congruence;
 use theory::eq_engine::pairs_in_force;
@@ -44,7 +45,7 @@ fn note_state(t: &[u32], g: &mut [u64; 2])
     requires { ⌜ Sound (now t) ⌝ }
 {
     note(g, get(t, 0));
-    note(g, get(t, 1));
+    note(g, level(t));
     note(g, pairs_in_force(t));
 }
 

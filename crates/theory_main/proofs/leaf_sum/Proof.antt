@@ -1,5 +1,4 @@
 use Prim.Native.Nat.{_-_, _<_}
-use native.Mathlib.Omega.{arith}
 use borrow.Author.Needs.{needs}
 use Rattle.theory_main.proofs.leaf_sum.Statement.{statement}
 use Rattle.theory_main.proofs.leaf_sum.Tie as tie
