@@ -171,18 +171,18 @@ fn one_up(t: &mut [u32])
     requires { ⌜ Sound (now t) ⌝ }
     ensures { λ _. ⌜ Sound (now (t .exit)) ⌝ }
 {
-    if get(t, 1) < 64 {
+    if level(t) < 64 {
         push(t);
     }
 }
 
-// To a level below, at or above the level of now.
+// To a level below, at or above the present one.
 fn back(t: &mut [u32], g: &mut [u64; 2])
     requires { ⌜ Sound (now t) ⌝ }
     ensures { λ _. ⌜ Sound (now (t .exit)) ⌝ }
 {
-    let level = get(t, 1) as u32;
-    let to = draw(g, level + 3);
+    let now = level(t) as u32;
+    let to = draw(g, now + 3);
     pop(t, to as usize);
 }
 
