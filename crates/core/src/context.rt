@@ -32,6 +32,36 @@ pub enum Declared {
     NoRoom,
 }
 
+// ---- the layout of the table (specs/Table.antt)
+
+// How many sorts, symbols and terms there are.
+const SORTS: usize = 0;
+
+const SYMBOLS: usize = 1;
+
+const TERMS: usize = 2;
+
+// For each sort: its kind.
+const SORT: usize = 64;
+
+// For each symbol: one more than the constructor it belongs to, its result sort, how many parameters, and 16 parameter sorts.
+const OWNER: usize = 128;
+
+const RESULT: usize = 640;
+
+const ARITY: usize = 1152;
+
+const PARAMS: usize = 8192;
+
+// For each term: one more than its symbol, and where its arguments begin and end in the pool; the pool of arguments.
+const OP: usize = 1664;
+
+const OFFSET: usize = 2688;
+
+const END: usize = 2689;
+
+const POOL: usize = 3840;
+
 // ---- an empty table
 
 // No symbol, no term, and of the sorts Bool.
@@ -39,9 +69,9 @@ fn clear_counts(t: &mut [u32])
     requires { ⌜ 16384 ≤ length (now t) ⌝ }
     ensures { λ _. ⌜ now (t .exit) ≡ set (set (set (now (t .entry)) 0 1) 1 0) 2 0 ⌝ }
 {
-    put(t, 0, 1);
-    put(t, 1, 0);
-    put(t, 2, 0);
+    put(t, SORTS, 1);
+    put(t, SYMBOLS, 0);
+    put(t, TERMS, 0);
 }
 
 // Whatever the table held, it is now that of an empty session.
@@ -50,8 +80,8 @@ pub fn clear(t: &mut [u32])
     ensures { λ _. ⌜ Sound (now (t .exit)) × (context (now (t .exit)) ≡ empty-context) ⌝ }
 {
     clear_counts(t);
-    put(t, 64, 0);
-    put(t, 2688, 0);
+    put(t, SORT, 0);
+    put(t, OFFSET, 0);
 }
 
 // ---- counts
@@ -60,21 +90,21 @@ pub fn sort_count(t: &[u32]) -> usize
     requires { ⌜ Sound (now t) ⌝ }
     ensures { λ r. ⌜ (r ≡ length (context (now (t .entry)) .sorts)) × (r ≤ 64) ⌝ }
 {
-    get(t, 0)
+    get(t, SORTS)
 }
 
 pub fn symbol_count(t: &[u32]) -> usize
     requires { ⌜ Sound (now t) ⌝ }
     ensures { λ r. ⌜ (r ≡ length (context (now (t .entry)) .symbols)) × (r ≤ 512) ⌝ }
 {
-    get(t, 1)
+    get(t, SYMBOLS)
 }
 
 pub fn term_count(t: &[u32]) -> usize
     requires { ⌜ Sound (now t) ⌝ }
     ensures { λ r. ⌜ (r ≡ length (context (now (t .entry)) .terms)) × (r ≤ 1024) ⌝ }
 {
-    get(t, 2)
+    get(t, TERMS)
 }
 
 // ---- sorts and symbols
@@ -84,7 +114,7 @@ pub fn is_datatype_sort(t: &[u32], s: SortId) -> bool
     ensures { λ r. ⌜ r ≡ is-datatype-sort (context (now (t .entry))) (s .0) ⌝ }
 {
     let i = s.0 as usize;
-    get(t, 64 + i) == 1
+    get(t, SORT + i) == 1
 }
 
 pub fn result_sort(t: &[u32], f: SymbolId) -> SortId
@@ -92,7 +122,7 @@ pub fn result_sort(t: &[u32], f: SymbolId) -> SortId
     ensures { λ r. ⌜ (r .0 ≡ symbol (context (now (t .entry))) (f .0) .result) × (r .0 < length (context (now (t .entry)) .sorts)) ⌝ }
 {
     let i = f.0 as usize;
-    SortId(get(t, 640 + i) as u32)
+    SortId(get(t, RESULT + i) as u32)
 }
 
 // How many parameters a symbol has.
@@ -101,7 +131,7 @@ pub fn arity(t: &[u32], f: SymbolId) -> usize
     ensures { λ r. ⌜ (r ≡ length (symbol (context (now (t .entry))) (f .0) .params)) × (r ≤ 16) ⌝ }
 {
     let i = f.0 as usize;
-    get(t, 1152 + i)
+    get(t, ARITY + i)
 }
 
 pub fn fun_params(t: &[u32], f: SymbolId) -> &[u32]
@@ -109,8 +139,8 @@ pub fn fun_params(t: &[u32], f: SymbolId) -> &[u32]
     ensures { λ r. ⌜ now r ≡ symbol (context (now (t .entry))) (f .0) .params ⌝ }
 {
     let i = f.0 as usize;
-    let start = 8192 + 16 * i;
-    let end = start + get(t, 1152 + i);
+    let start = PARAMS + 16 * i;
+    let end = start + get(t, ARITY + i);
     &t[start..end]
 }
 
@@ -119,7 +149,7 @@ pub fn dt_role(t: &[u32], f: SymbolId) -> DtRole
     ensures { λ r. ⌜ RoleAt (now (t .entry)) (f .0) r ⌝ }
 {
     let i = f.0 as usize;
-    role_from(f.0, get(t, 128 + i) as u32)
+    role_from(f.0, get(t, OWNER + i) as u32)
 }
 
 // ---- terms
@@ -129,7 +159,7 @@ pub fn op(t: &[u32], x: TermId) -> Op
     ensures { λ r. ⌜ OpAt (now (t .entry)) (x .0) r ⌝ }
 {
     let i = x.0 as usize;
-    op_from(get(t, 1664 + i) as u32)
+    op_from(get(t, OP + i) as u32)
 }
 
 // The children of a term are the very stretch of the argument pool.
@@ -138,8 +168,8 @@ pub fn children(t: &[u32], x: TermId) -> &[u32]
     ensures { λ r. ⌜ now r ≡ children (context (now (t .entry))) (x .0) ⌝ }
 {
     let i = x.0 as usize;
-    let start = 3840 + get(t, 2688 + i);
-    let end = 3840 + get(t, 2689 + i);
+    let start = POOL + get(t, OFFSET + i);
+    let end = POOL + get(t, END + i);
     &t[start..end]
 }
 
@@ -175,15 +205,15 @@ fn is_app(t: &[u32], i: usize, code: usize, args: &[u32]) -> bool
     requires { ⌜ Sound (now t) × (i < terms# (now t)) ⌝ }
     ensures { λ r. ⌜ r ≡ same-term (op-of code) (now (args .entry)) (term-at (now (t .entry)) i) ⌝ }
 {
-    if get(t, 1664 + i) != code {
+    if get(t, OP + i) != code {
         return false;
     }
-    let start = get(t, 2688 + i);
-    let end = get(t, 2689 + i);
+    let start = get(t, OFFSET + i);
+    let end = get(t, END + i);
     if end - start != args.len() {
         return false;
     }
-    same_args(t, 3840 + start, args)
+    same_args(t, POOL + start, args)
 }
 
 // The lowest term that is the operation of a code over the given arguments, or the number of terms if there is none.
@@ -191,7 +221,7 @@ fn find_app(t: &[u32], code: usize, args: &[u32]) -> usize
     requires { ⌜ Sound (now t) ⌝ }
     ensures { λ r. ⌜ FindsApp (now (t .entry)) code (now (args .entry)) r ⌝ }
 {
-    let n = get(t, 2);
+    let n = get(t, TERMS);
     let mut i = 0;
     while i < n {
         if is_app(t, i, code, args) {
@@ -219,9 +249,9 @@ fn seal_term(t: &mut [u32], n: usize, code: usize, end: usize)
     requires { ⌜ (16384 ≤ length (now t)) × (n < 1024) × (code ≤ 512) × (end ≤ 4096) ⌝ }
     ensures { λ _. ⌜ now (t .exit) ≡ sealed (now (t .entry)) n code end ⌝ }
 {
-    put(t, 1664 + n, code);
-    put(t, 2689 + n, end);
-    put(t, 2, n + 1);
+    put(t, OP + n, code);
+    put(t, END + n, end);
+    put(t, TERMS, n + 1);
 }
 
 // One more term, the n-th, whose arguments go to a place of the pool.
@@ -229,7 +259,7 @@ fn append_term(t: &mut [u32], n: usize, start: usize, code: usize, args: &[u32])
     requires { ⌜ Appendable (now t) n start code (now args) ⌝ }
     ensures { λ _. ⌜ Appended (now (t .entry)) code (now (args .entry)) (now (t .exit)) ⌝ }
 {
-    push_children(t, 3840 + start, args);
+    push_children(t, POOL + start, args);
     seal_term(t, n, code, start + args.len());
 }
 
@@ -238,7 +268,7 @@ fn intern(t: &mut [u32], code: usize, args: &[u32]) -> Made
     requires { ⌜ Sound (now t) × (code ≤ symbols# (now t)) × AllBelow (terms# (now t)) (now args) ⌝ }
     ensures { λ r. ⌜ MkApp (now (t .entry)) (op-of code) (now (args .entry)) r (now (t .exit)) ⌝ }
 {
-    let n = get(t, 2);
+    let n = get(t, TERMS);
     let k = find_app(t, code, args);
     if k < n {
         return Made::At(TermId(k as u32));
@@ -246,7 +276,7 @@ fn intern(t: &mut [u32], code: usize, args: &[u32]) -> Made
     if n == 1024 {
         return Made::NoRoom;
     }
-    let start = get(t, 2688 + n);
+    let start = get(t, OFFSET + n);
     if 4096 - start < args.len() {
         return Made::NoRoom;
     }
@@ -277,7 +307,7 @@ pub fn truncate(t: &mut [u32], n: usize)
     requires { ⌜ Sound (now t) × (n ≤ length (context (now t) .terms)) ⌝ }
     ensures { λ _. ⌜ Sound (now (t .exit)) × (context (now (t .exit)) ≡ cut-terms n (context (now (t .entry)))) ⌝ }
 {
-    put(t, 2, n);
+    put(t, TERMS, n);
 }
 
 // ---- declarations
@@ -292,12 +322,12 @@ pub fn declare_sort(t: &mut [u32], datatype: bool) -> Declared
     requires { ⌜ Sound (now t) ⌝ }
     ensures { λ r. ⌜ Declares (now (t .entry)) (declare-sort (context (now (t .entry))) (declared-node datatype)) r (now (t .exit)) ⌝ }
 {
-    let n = get(t, 0);
+    let n = get(t, SORTS);
     if n == 64 {
         return Declared::NoRoom;
     }
-    put(t, 64 + n, node_code(datatype));
-    put(t, 0, n + 1);
+    put(t, SORT + n, node_code(datatype));
+    put(t, SORTS, n + 1);
     Declared::Done
 }
 
@@ -306,10 +336,10 @@ fn seal_symbol(t: &mut [u32], n: usize, owner: usize, result: usize, arity: usiz
     requires { ⌜ (16384 ≤ length (now t)) × (n < 512) × (owner ≤ 512) × (result < 64) × (arity ≤ 16) ⌝ }
     ensures { λ _. ⌜ now (t .exit) ≡ sealed-symbol (now (t .entry)) n owner result arity ⌝ }
 {
-    put(t, 128 + n, owner);
-    put(t, 640 + n, result);
-    put(t, 1152 + n, arity);
-    put(t, 1, n + 1);
+    put(t, OWNER + n, owner);
+    put(t, RESULT + n, result);
+    put(t, ARITY + n, arity);
+    put(t, SYMBOLS, n + 1);
 }
 
 // One more symbol, the n-th.
@@ -317,7 +347,7 @@ fn add_symbol(t: &mut [u32], n: usize, owner: usize, result: usize, params: &[u3
     requires { ⌜ SymbolRoom (now t) n owner result (now params) ⌝ }
     ensures { λ _. ⌜ SymbolAdded (now (t .entry)) n owner result (now (params .entry)) (now (t .exit)) ⌝ }
 {
-    push_children(t, 8192 + 16 * n, params);
+    push_children(t, PARAMS + 16 * n, params);
     seal_symbol(t, n, owner, result, params.len());
 }
 
@@ -325,7 +355,7 @@ pub fn declare_fun(t: &mut [u32], result: SortId, params: &[u32]) -> Declared
     requires { ⌜ Sound (now t) × (result .0 < length (context (now t) .sorts)) × (length (now params) ≤ 16) × AllBelow (length (context (now t) .sorts)) (now params) ⌝ }
     ensures { λ r. ⌜ Declares (now (t .entry)) (declare-fun (context (now (t .entry))) (result .0) (now (params .entry))) r (now (t .exit)) ⌝ }
 {
-    let n = get(t, 1);
+    let n = get(t, SYMBOLS);
     if n == 512 {
         return Declared::NoRoom;
     }
@@ -358,7 +388,7 @@ pub fn dt_add_constructor(t: &mut [u32], dt: SortId, fields: &[u32]) -> Declared
     requires { ⌜ Sound (now t) × (dt .0 < length (context (now t) .sorts)) × (length (now fields) ≤ 16) × AllBelow (length (context (now t) .sorts)) (now fields) ⌝ }
     ensures { λ r. ⌜ Declares (now (t .entry)) (dt-add-constructor (context (now (t .entry))) (dt .0) (now (fields .entry))) r (now (t .exit)) ⌝ }
 {
-    let n = get(t, 1);
+    let n = get(t, SYMBOLS);
     if 512 - n < fields.len() + 2 {
         return Declared::NoRoom;
     }
@@ -377,10 +407,10 @@ fn builds(t: &[u32], dt: usize, s: usize) -> bool
     requires { ⌜ Sound (now t) × (s < symbols# (now t)) ⌝ }
     ensures { λ r. ⌜ r ≡ builds (context (now (t .entry))) dt s ⌝ }
 {
-    if get(t, 128 + s) != s + 1 {
+    if get(t, OWNER + s) != s + 1 {
         return false;
     }
-    get(t, 640 + s) == dt
+    get(t, RESULT + s) == dt
 }
 
 // The lowest constructor of dt from symbol `from` on, or the number of symbols if there is none.
@@ -388,7 +418,7 @@ pub fn next_constructor(t: &[u32], dt: SortId, from: usize) -> usize
     requires { ⌜ Sound (now t) × (from ≤ length (context (now t) .symbols)) ⌝ }
     ensures { λ r. ⌜ NextConstructor (now (t .entry)) (dt .0) from r ⌝ }
 {
-    let n = get(t, 1);
+    let n = get(t, SYMBOLS);
     let sort = wide(dt.0);
     let mut s = from;
     while s < n {
@@ -422,11 +452,11 @@ fn has_plain_fields(t: &[u32], s: usize) -> bool
     requires { ⌜ Sound (now t) × (s < symbols# (now t)) ⌝ }
     ensures { λ r. ⌜ r ≡ has-plain-fields (context (now (t .entry))) s ⌝ }
 {
-    let n = get(t, 1152 + s);
-    let at = 8192 + 16 * s;
+    let n = get(t, ARITY + s);
+    let at = PARAMS + 16 * s;
     let mut i = 0;
     while i < n {
-        if get(t, 64 + get(t, at + i)) == 1 {
+        if get(t, SORT + get(t, at + i)) == 1 {
             return false;
         }
         i += 1;
@@ -439,7 +469,7 @@ fn grounded(t: &[u32], dt: usize) -> bool
     requires { ⌜ Sound (now t) ⌝ }
     ensures { λ r. ⌜ r ≡ grounded (context (now (t .entry))) dt ⌝ }
 {
-    let n = get(t, 1);
+    let n = get(t, SYMBOLS);
     let mut s = 0;
     while s < n {
         if builds(t, dt, s) {
@@ -457,10 +487,10 @@ pub fn all_grounded(t: &[u32]) -> bool
     requires { ⌜ Sound (now t) ⌝ }
     ensures { λ r. ⌜ r ≡ all-grounded (context (now (t .entry))) ⌝ }
 {
-    let n = get(t, 0);
+    let n = get(t, SORTS);
     let mut s = 0;
     while s < n {
-        if get(t, 64 + s) == 1 {
+        if get(t, SORT + s) == 1 {
             if !grounded(t, s) {
                 return false;
             }
@@ -475,6 +505,6 @@ pub fn place_count(t: &[u32]) -> usize
     requires { ⌜ Sound (now t) ⌝ }
     ensures { λ r. ⌜ (r ≡ places (context (now (t .entry)))) × (r ≤ 4096) ⌝ }
 {
-    let n = get(t, 2);
-    get(t, 2688 + n)
+    let n = get(t, TERMS);
+    get(t, OFFSET + n)
 }

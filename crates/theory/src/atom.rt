@@ -11,6 +11,16 @@ ghost use mathlib.Core.List.{[]};
 ghost use Rattle.theory.specs.Atom.{register, is-registered, atom, var-of-atom};
 ghost use Rattle.theory.specs.Registry.{atoms, RegistrySound, firstVarIs, noted-first};
 
+// The layout of the table (specs/Registry.antt): how many variables, the variables as registered, for each variable one more than its
+// atom, for each atom one more than its first variable.
+const COUNT: usize = 0;
+
+const VAR: usize = 1;
+
+const ATOM: usize = 1025;
+
+const FIRST: usize = 2049;
+
 // The first variable of an atom, if it has one.
 pub enum FirstVar {
     At(Var),
@@ -25,7 +35,7 @@ pub fn is_registered(t: &[u32], v: Var) -> bool
     if 1024 <= i {
         return false;
     }
-    if get(t, 1025 + i) == 0 {
+    if get(t, ATOM + i) == 0 {
         return false;
     }
     true
@@ -37,7 +47,7 @@ pub fn atom(t: &[u32], v: Var) -> TermId
     ensures { λ r. ⌜ (r .0 ≡ atom (atoms (now (t .entry))) (v .0)) × (r .0 < 1024) ⌝ }
 {
     let i = v.0 as usize;
-    TermId((get(t, 1025 + i) - 1) as u32)
+    TermId((get(t, ATOM + i) - 1) as u32)
 }
 
 // The variable that an atom was first registered as.
@@ -46,7 +56,7 @@ pub fn var_of_atom(t: &[u32], x: TermId) -> FirstVar
     ensures { λ r. ⌜ firstVarIs r ≡ var-of-atom (atoms (now (t .entry))) (x .0) ⌝ }
 {
     let i = x.0 as usize;
-    let w = get(t, 2049 + i);
+    let w = get(t, FIRST + i);
     if w == 0 {
         FirstVar::Nothing
     } else {
@@ -61,11 +71,11 @@ pub fn clear(t: &mut [u32])
     requires { ⌜ 3073 ≤ length (now t) ⌝ }
     ensures { λ _. ⌜ RegistrySound (now (t .exit)) × (atoms (now (t .exit)) ≡ []) ⌝ }
 {
-    put(t, 0, 0);
+    put(t, COUNT, 0);
     let mut k = 0;
     while k < 1024 {
-        put(t, 1025 + k, 0);
-        put(t, 2049 + k, 0);
+        put(t, ATOM + k, 0);
+        put(t, FIRST + k, 0);
         k += 1;
     }
 }
@@ -77,8 +87,8 @@ fn note_first(t: &mut [u32], x: usize, v: usize)
     requires { ⌜ (3073 ≤ length (now t)) × (x < 1024) × (v < 1024) ⌝ }
     ensures { λ _. ⌜ now (t .exit) ≡ noted-first (now (t .entry)) x v ⌝ }
 {
-    if get(t, 2049 + x) == 0 {
-        put(t, 2049 + x, v + 1);
+    if get(t, FIRST + x) == 0 {
+        put(t, FIRST + x, v + 1);
     }
 }
 
@@ -87,11 +97,11 @@ pub fn register(t: &mut [u32], v: Var, x: TermId)
     requires { ⌜ RegistrySound (now t) × (v .0 < 1024) × (x .0 < 1024) × (is-registered (atoms (now t)) (v .0) ≡ false) ⌝ }
     ensures { λ _. ⌜ RegistrySound (now (t .exit)) × (atoms (now (t .exit)) ≡ register (atoms (now (t .entry))) (v .0) (x .0)) ⌝ }
 {
-    let n = get(t, 0);
+    let n = get(t, COUNT);
     let i = v.0 as usize;
     let j = x.0 as usize;
     note_first(t, j, i);
-    put(t, 1 + n, i);
-    put(t, 1025 + i, j + 1);
-    put(t, 0, n + 1);
+    put(t, VAR + n, i);
+    put(t, ATOM + i, j + 1);
+    put(t, COUNT, n + 1);
 }

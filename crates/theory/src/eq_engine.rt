@@ -19,6 +19,48 @@ ghost use Rattle.theory.specs.Answer.{leaves, AnswerSound};
 ghost use Rattle.theory.specs.Steps.{On, Rerooted, Spliced, United, Logged, Joinable, HoldsLabel, Copied, Separated, newest-above};
 ghost use Rattle.theory.specs.Explaining.{expand-label, expand-steps, expand-pairs, expand-new, pairs-from, age, pairs-age, steps-age, Explaining, Goes, MarksPair, EqualPair};
 
+// ---- the layout of the table (specs/Table.antt)
+
+// How many merges are in force, and the level.
+const COUNT: usize = 0;
+
+const LEVEL: usize = 1;
+
+// For each node: its parent and the size of its class in the union-find, its parent in the forest and the merge of that edge.
+const PARENT: usize = 64;
+
+const SIZE: usize = 1088;
+
+const FPARENT: usize = 2112;
+
+const FEDGE: usize = 3136;
+
+// For each merge: its sides, its label in two words, the root that went under, the old root of the first side's tree, and the pairs in
+// force after it.
+const SIDE_A: usize = 4160;
+
+const SIDE_B: usize = 5184;
+
+const LABEL: usize = 6208;
+
+const VALUE: usize = 7232;
+
+const LOW: usize = 8256;
+
+const FROOT: usize = 9280;
+
+const AFTER: usize = 10304;
+
+// Two of these words of the newest merge, counted from the number of merges.
+const NEWEST_LABEL: usize = 6207;
+
+const NEWEST_AFTER: usize = 10303;
+
+// For each argument pair: its two nodes.
+const LEFT: usize = 11328;
+
+const RIGHT: usize = 13376;
+
 // ---- classes
 
 // Up the parents to the root of a class.
@@ -27,10 +69,10 @@ fn root(t: &[u32], node: usize) -> usize
     ensures { λ r. ⌜ (r ≡ find (merges (now (t .entry))) node) × (r < 1024) ⌝ }
 {
     let mut n = node;
-    let mut up = get(t, 64 + n);
+    let mut up = get(t, PARENT + n);
     while up != n {
         n = up;
-        up = get(t, 64 + n);
+        up = get(t, PARENT + n);
     }
     n
 }
@@ -57,9 +99,9 @@ fn alone(t: &mut [u32], n: usize)
     requires { ⌜ (16384 ≤ length (now t)) × (n < 1024) ⌝ }
     ensures { λ _. ⌜ now (t .exit) ≡ set (set (set (now (t .entry)) (64 + n) n) (1088 + n) 1) (2112 + n) n ⌝ }
 {
-    put(t, 64 + n, n);
-    put(t, 1088 + n, 1);
-    put(t, 2112 + n, n);
+    put(t, PARENT + n, n);
+    put(t, SIZE + n, 1);
+    put(t, FPARENT + n, n);
 }
 
 // Whatever the table held, no merge is in force now, at level 0.
@@ -67,8 +109,8 @@ pub fn clear(t: &mut [u32])
     requires { ⌜ 16384 ≤ length (now t) ⌝ }
     ensures { λ _. ⌜ Engine (now (t .exit)) [] 0 ⌝ }
 {
-    put(t, 0, 0);
-    put(t, 1, 0);
+    put(t, COUNT, 0);
+    put(t, LEVEL, 0);
     let mut n = 0;
     while n < 1024 {
         alone(t, n);
@@ -83,15 +125,15 @@ pub fn level(t: &[u32]) -> usize
     requires { ⌜ Sound (now t) ⌝ }
     ensures { λ r. ⌜ (r ≡ level (now (t .entry))) × (r ≤ 64) ⌝ }
 {
-    get(t, 1)
+    get(t, LEVEL)
 }
 
 pub fn push(t: &mut [u32])
     requires { ⌜ Sound (now t) × (level (now t) < 64) ⌝ }
     ensures { λ _. ⌜ Engine (now (t .exit)) (merges (now (t .entry))) (suc (level (now (t .entry)))) ⌝ }
 {
-    let n = get(t, 1);
-    put(t, 1, n + 1);
+    let n = get(t, LEVEL);
+    put(t, LEVEL, n + 1);
 }
 
 // ---- the proof forest
@@ -102,10 +144,10 @@ fn forest_root(t: &[u32], node: usize) -> usize
     ensures { λ r. ⌜ (r ≡ end node (way (merges (now (t .entry))) node)) × (r < 1024) ⌝ }
 {
     let mut n = node;
-    let mut up = get(t, 2112 + n);
+    let mut up = get(t, FPARENT + n);
     while up != n {
         n = up;
-        up = get(t, 2112 + n);
+        up = get(t, FPARENT + n);
     }
     n
 }
@@ -116,18 +158,18 @@ fn reroot_forest(t: &mut [u32], node: usize, top: usize)
     ensures { λ _. ⌜ Rerooted (now (t .entry)) (now (t .exit)) node (before top (way (merges (now (t .entry))) node)) ⌝ }
 {
     let mut prev = node;
-    let mut edge = get(t, 3136 + node);
-    let mut cur = get(t, 2112 + node);
+    let mut edge = get(t, FEDGE + node);
+    let mut cur = get(t, FPARENT + node);
     while prev != top {
-        let next = get(t, 2112 + cur);
-        let next_edge = get(t, 3136 + cur);
-        put(t, 2112 + cur, prev);
-        put(t, 3136 + cur, edge);
+        let next = get(t, FPARENT + cur);
+        let next_edge = get(t, FEDGE + cur);
+        put(t, FPARENT + cur, prev);
+        put(t, FEDGE + cur, edge);
         prev = cur;
         edge = next_edge;
         cur = next;
     }
-    put(t, 2112 + node, node);
+    put(t, FPARENT + node, node);
 }
 
 // How many argument pairs are in force: the newest merge says it.
@@ -135,11 +177,11 @@ pub fn pairs_in_force(t: &[u32]) -> usize
     requires { ⌜ Sound (now t) ⌝ }
     ensures { λ r. ⌜ (r ≡ pairs-in-force (merges (now (t .entry)))) × (r ≤ 2048) ⌝ }
 {
-    let n = get(t, 0);
+    let n = get(t, COUNT);
     if n == 0 {
         return 0;
     }
-    get(t, 10303 + n)
+    get(t, NEWEST_AFTER + n)
 }
 
 // ---- merging
@@ -151,9 +193,9 @@ fn splice(t: &mut [u32], a: usize, b: usize, i: usize)
 {
     let r = forest_root(t, a);
     reroot_forest(t, a, r);
-    put(t, 2112 + a, b);
-    put(t, 3136 + a, i);
-    put(t, 9280 + i, r);
+    put(t, FPARENT + a, b);
+    put(t, FEDGE + a, i);
+    put(t, FROOT + i, r);
 }
 
 // The class of root low goes under the root high.
@@ -161,10 +203,10 @@ fn put_under(t: &mut [u32], low: usize, high: usize, i: usize)
     requires { ⌜ (16384 ≤ length (now t)) × (low < 1024) × (high < 1024) × (i < 1024) × (size-word (now t) low + size-word (now t) high < 4294967296) ⌝ }
     ensures { λ _. ⌜ United (now (t .entry)) (now (t .exit)) low high i ⌝ }
 {
-    let size = get(t, 1088 + low) + get(t, 1088 + high);
-    put(t, 64 + low, high);
-    put(t, 1088 + high, size);
-    put(t, 8256 + i, low);
+    let size = get(t, SIZE + low) + get(t, SIZE + high);
+    put(t, PARENT + low, high);
+    put(t, SIZE + high, size);
+    put(t, LOW + i, low);
 }
 
 // The smaller class goes under the larger; on a tie the first side's root stays.
@@ -172,7 +214,7 @@ fn union(t: &mut [u32], ra: usize, rb: usize, i: usize)
     requires { ⌜ (16384 ≤ length (now t)) × (ra < 1024) × (rb < 1024) × (i < 1024) × (size-word (now t) ra + size-word (now t) rb < 4294967296) ⌝ }
     ensures { λ _. ⌜ United (now (t .entry)) (now (t .exit)) (lower (size-word (now (t .entry))) ra rb) (higher (size-word (now (t .entry))) ra rb) i ⌝ }
 {
-    if get(t, 1088 + rb) <= get(t, 1088 + ra) {
+    if get(t, SIZE + rb) <= get(t, SIZE + ra) {
         put_under(t, rb, ra, i);
     } else {
         put_under(t, ra, rb, i);
@@ -180,15 +222,15 @@ fn union(t: &mut [u32], ra: usize, rb: usize, i: usize)
 }
 
 // The words of a merge in the log, but for its roots.
-fn log(t: &mut [u32], i: usize, a: usize, b: usize, kind: usize, value: usize, after: usize)
-    requires { ⌜ (16384 ≤ length (now t)) × (i < 1024) × (a < 1024) × (b < 1024) × (kind < 4294967296) × (value < 4294967296) × (after ≤ 2048) ⌝ }
-    ensures { λ _. ⌜ Logged (now (t .entry)) (now (t .exit)) i a b kind value after ⌝ }
+fn log(t: &mut [u32], i: usize, a: usize, b: usize, word: usize, value: usize, after: usize)
+    requires { ⌜ (16384 ≤ length (now t)) × (i < 1024) × (a < 1024) × (b < 1024) × (word < 4294967296) × (value < 4294967296) × (after ≤ 2048) ⌝ }
+    ensures { λ _. ⌜ Logged (now (t .entry)) (now (t .exit)) i a b word value after ⌝ }
 {
-    put(t, 4160 + i, a);
-    put(t, 5184 + i, b);
-    put(t, 6208 + i, kind);
-    put(t, 7232 + i, value);
-    put(t, 10304 + i, after);
+    put(t, SIDE_A + i, a);
+    put(t, SIDE_B + i, b);
+    put(t, LABEL + i, word);
+    put(t, VALUE + i, value);
+    put(t, AFTER + i, after);
 }
 
 // Joins two classes under a label of the present level.
@@ -196,8 +238,8 @@ fn join(t: &mut [u32], a: usize, b: usize, kind: usize, theory: usize, value: us
     requires { ⌜ Sound (now t) × Joinable (now t) a b kind theory value after ⌝ }
     ensures { λ _. ⌜ Engine (now (t .exit)) (record { a = a; b = b; just = label (now (t .entry)) kind theory value after; level = level (now (t .entry)) } ∷ merges (now (t .entry))) (level (now (t .entry))) ⌝ }
 {
-    let i = get(t, 0);
-    let level = get(t, 1);
+    let i = get(t, COUNT);
+    let level = get(t, LEVEL);
     let ra = root(t, a);
     let rb = root(t, b);
     splice(t, a, b, i);
@@ -211,7 +253,7 @@ fn join(t: &mut [u32], a: usize, b: usize, kind: usize, theory: usize, value: us
         value,
         after,
     );
-    put(t, 0, i + 1);
+    put(t, COUNT, i + 1);
 }
 
 // A label without pairs, as the log holds it.
@@ -263,8 +305,8 @@ fn copy_pairs(t: &mut [u32], start: usize, xs: &[u32], ys: &[u32])
 {
     let mut i = 0;
     while i < xs.len() {
-        put(t, 11328 + start + i, get(xs, i));
-        put(t, 13376 + start + i, get(ys, i));
+        put(t, LEFT + start + i, get(xs, i));
+        put(t, RIGHT + start + i, get(ys, i));
         i += 1;
     }
 }
@@ -292,11 +334,11 @@ fn separate(t: &mut [u32], low: usize)
     requires { ⌜ (16384 ≤ length (now t)) × (low < 1024) × (parent-word (now t) low < 1024) × (size-word (now t) low ≤ size-word (now t) (parent-word (now t) low)) ⌝ }
     ensures { λ _. ⌜ Separated (now (t .entry)) (now (t .exit)) low (parent-word (now (t .entry)) low) ⌝ }
 {
-    let high = get(t, 64 + low);
-    let both = get(t, 1088 + high);
-    let rest = both - get(t, 1088 + low);
-    put(t, 1088 + high, rest);
-    put(t, 64 + low, low);
+    let high = get(t, PARENT + low);
+    let both = get(t, SIZE + high);
+    let rest = both - get(t, SIZE + low);
+    put(t, SIZE + high, rest);
+    put(t, PARENT + low, low);
 }
 
 // The newest merge is taken back: the way from the old root of the first side's tree is turned again.
@@ -304,24 +346,24 @@ fn undo(t: &mut [u32])
     requires { ⌜ Sound (now t) × (0 < merges# (now t)) ⌝ }
     ensures { λ _. ⌜ Sound (now (t .exit)) × (suc (merges# (now (t .exit))) ≡ merges# (now (t .entry))) × (merges (now (t .exit)) ≡ merges-below (now (t .entry)) (merges# (now (t .exit)))) × (level (now (t .exit)) ≡ level (now (t .entry))) ⌝ }
 {
-    let i = get(t, 0) - 1;
-    let a = get(t, 4160 + i);
-    let low = get(t, 8256 + i);
-    let r = get(t, 9280 + i);
+    let i = get(t, COUNT) - 1;
+    let a = get(t, SIDE_A + i);
+    let low = get(t, LOW + i);
+    let r = get(t, FROOT + i);
     reroot_forest(t, r, a);
     separate(t, low);
-    put(t, 0, i);
+    put(t, COUNT, i);
 }
 
 fn newest_above(t: &[u32], level: usize) -> bool
     requires { ⌜ Sound (now t) ⌝ }
     ensures { λ r. ⌜ r ≡ newest-above level (merges (now (t .entry))) ⌝ }
 {
-    let n = get(t, 0);
+    let n = get(t, COUNT);
     if n == 0 {
         return false;
     }
-    level < get(t, 6207 + n) / 262144
+    level < get(t, NEWEST_LABEL + n) / 262144
 }
 
 fn undo_above(t: &mut [u32], to: usize)
@@ -338,11 +380,11 @@ pub fn pop(t: &mut [u32], to: usize)
     requires { ⌜ Sound (now t) ⌝ }
     ensures { λ _. ⌜ Sound (now (t .exit)) × (merges (now (t .exit)) ≡ pop-merges to (merges (now (t .entry)))) × (level (now (t .exit)) ≡ cond (leb (level (now (t .entry))) to) (level (now (t .entry))) to) × (level (now (t .entry)) ≤ to → now (t .exit) ≡ now (t .entry)) ⌝ }
 {
-    if get(t, 1) <= to {
+    if get(t, LEVEL) <= to {
         return;
     }
     undo_above(t, to);
-    put(t, 1, to);
+    put(t, LEVEL, to);
 }
 
 // ---- explanation
@@ -354,11 +396,11 @@ fn forest_depth(t: &[u32], node: usize) -> usize
 {
     let mut n = node;
     let mut d = 0;
-    let mut up = get(t, 2112 + n);
+    let mut up = get(t, FPARENT + n);
     while up != n {
         n = up;
         d += 1;
-        up = get(t, 2112 + n);
+        up = get(t, FPARENT + n);
     }
     d
 }
@@ -374,10 +416,10 @@ fn forest_nca(t: &[u32], a: usize, b: usize) -> usize
     let mut dy = forest_depth(t, b);
     while x != y {
         if dx < dy {
-            y = get(t, 2112 + y);
+            y = get(t, FPARENT + y);
             dy -= 1;
         } else {
-            x = get(t, 2112 + x);
+            x = get(t, FPARENT + x);
             dx -= 1;
         }
     }
@@ -409,8 +451,8 @@ fn mark_pair(t: &[u32], a: usize, b: usize, j: usize, marks: &mut [u32])
     requires { ⌜ (16384 ≤ length (now t)) × (j < 2048) × (2048 ≤ length (now marks)) ⌝ }
     ensures { λ _. ⌜ now (marks .exit) ≡ cond (same-pair (left-word (now (t .entry)) j) (right-word (now (t .entry)) j) (a, b)) (set (now (marks .entry)) j 1) (now (marks .entry)) ⌝ }
 {
-    let x = get(t, 11328 + j);
-    let y = get(t, 13376 + j);
+    let x = get(t, LEFT + j);
+    let y = get(t, RIGHT + j);
     if same_pair(x, y, a, b) {
         put(marks, j, 1);
     }
@@ -450,8 +492,8 @@ fn expand_way(t: &[u32], node: usize, top: usize, marks: &mut [u32], out: &mut [
 {
     let mut n = node;
     while n != top {
-        expand_edge(t, get(t, 3136 + n), marks, out);
-        n = get(t, 2112 + n);
+        expand_edge(t, get(t, FEDGE + n), marks, out);
+        n = get(t, FPARENT + n);
     }
 }
 
@@ -460,13 +502,13 @@ fn expand_edge(t: &[u32], i: usize, marks: &mut [u32], out: &mut [u32])
     requires { ⌜ Explaining (now t) (now marks) (now out) × (i < merges# (now t)) ⌝ }
     ensures { λ _. ⌜ Goes (now (t .entry)) (now (marks .entry)) (now (out .entry)) (now (marks .exit)) (now (out .exit)) (pairs-age (merges (now (t .entry))) (pairs-of (just-at (now (t .entry)) i))) (expand-label (merges (now (t .entry))) (just-at (now (t .entry)) i)) ⌝ }
 {
-    let word = get(t, 6208 + i);
-    let value = get(t, 7232 + i);
+    let word = get(t, LABEL + i);
+    let value = get(t, VALUE + i);
     let kind = word / 65536 % 4;
     if kind == 0 {
         push_leaf(out, 0, value);
     } else if kind == 1 {
-        expand_pairs(t, value, get(t, 10304 + i), marks, out);
+        expand_pairs(t, value, get(t, AFTER + i), marks, out);
     } else {
         push_leaf(out, 1 + word % 65536, value);
     }
@@ -490,7 +532,7 @@ fn expand_pair(t: &[u32], j: usize, marks: &mut [u32], out: &mut [u32])
     ensures { λ _. ⌜ Goes (now (t .entry)) (now (marks .entry)) (now (out .entry)) (now (marks .exit)) (now (out .exit)) (pairs-age (merges (now (t .entry))) (pair-at (now (t .entry)) j ∷ [])) (expand-pairs (merges (now (t .entry))) (pair-at (now (t .entry)) j ∷ [])) ⌝ }
 {
     if get(marks, j) == 0 {
-        explain_rec(t, get(t, 11328 + j), get(t, 13376 + j), marks, out);
+        explain_rec(t, get(t, LEFT + j), get(t, RIGHT + j), marks, out);
     }
 }
 

@@ -26,12 +26,19 @@ pub enum EqJust {
 
 // ---- the answer table
 
+// Its layout: how many leaves; for each leaf 0, or one more than its theory; its literal or its tag.
+const COUNT: usize = 0;
+
+const LEAF_KIND: usize = 1;
+
+const LEAF_VALUE: usize = 1025;
+
 // No leaf yet.
 pub fn clear_leaves(out: &mut [u32])
     requires { ⌜ 2049 ≤ length (now out) ⌝ }
     ensures { λ _. ⌜ leaves (now (out .exit)) ≡ [] ⌝ }
 {
-    put(out, 0, 0);
+    put(out, COUNT, 0);
 }
 
 // Is it the leaf at i? The kind is 0 for a literal, one more than the theory for an interface leaf.
@@ -39,8 +46,8 @@ fn leaf_is(out: &[u32], i: usize, kind: usize, value: usize) -> bool
     requires { ⌜ (2049 ≤ length (now out)) × (i < 1024) ⌝ }
     ensures { λ r. ⌜ r ≡ same-leaf (leaf-of kind value) (leaf-at (now (out .entry)) i) ⌝ }
 {
-    if get(out, 1 + i) == kind {
-        return value == get(out, 1025 + i);
+    if get(out, LEAF_KIND + i) == kind {
+        return value == get(out, LEAF_VALUE + i);
     }
     false
 }
@@ -50,7 +57,7 @@ fn has_leaf(out: &[u32], kind: usize, value: usize) -> bool
     requires { ⌜ (2049 ≤ length (now out)) × (leaves# (now out) ≤ 1024) ⌝ }
     ensures { λ r. ⌜ r ≡ any (same-leaf (leaf-of kind value)) (leaves (now (out .entry))) ⌝ }
 {
-    let n = get(out, 0);
+    let n = get(out, COUNT);
     let mut i = 0;
     while i < n {
         if leaf_is(out, i, kind, value) {
@@ -69,8 +76,8 @@ pub fn push_leaf(out: &mut [u32], kind: usize, value: usize)
     if has_leaf(out, kind, value) {
         return;
     }
-    let n = get(out, 0);
-    put(out, 1 + n, kind);
-    put(out, 1025 + n, value);
-    put(out, 0, n + 1);
+    let n = get(out, COUNT);
+    put(out, LEAF_KIND + n, kind);
+    put(out, LEAF_VALUE + n, value);
+    put(out, COUNT, n + 1);
 }
