@@ -22,7 +22,7 @@ One = Unit {0}
 abbrev everything : ℕ → One → Type 0
 everything s e = Unit {0}
 
-datatype-in-range : (ss : List SortNode) (s : ℕ) → T (is-datatype (getD ss s BoolSort)) → s < length ss
+pub datatype-in-range : (ss : List SortNode) (s : ℕ) → T (is-datatype (getD ss s BoolSort)) → s < length ss
 unfolding is-datatype
 datatype-in-range [] s t = absurd t
 datatype-in-range (x ∷ xs) zero t = omega arith

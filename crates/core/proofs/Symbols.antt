@@ -127,7 +127,7 @@ select-done t₀ c dt fields t i s h = record {
 
 -- ---- a constructor
 
-symbol-count : (c dt i : ℕ) (fields : List ℕ) → length (selectors-from c dt i fields) ≡ length fields
+pub symbol-count : (c dt i : ℕ) (fields : List ℕ) → length (selectors-from c dt i fields) ≡ length fields
 unfolding selectors-from
 symbol-count c dt i [] = refl
 symbol-count c dt i (f ∷ fs) = ap suc (symbol-count c dt (suc i) fs)

@@ -4,6 +4,7 @@ pub mod Ids
 pub mod Sort
 pub mod Term
 pub mod Context
+pub mod Formed
 pub mod Reading
 pub mod Table
 pub mod Codes

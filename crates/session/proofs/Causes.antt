@@ -15,7 +15,7 @@ use Rattle.solver.specs.State.{ctor-apps, ctor-of-class, watched-dt-terms, equa
 use Rattle.solver.specs.Records.{is-some}
 use Rattle.solver.specs.Rules.{clash, has-undetermined-class}
 use Rattle.solver.proofs.Basics.{gather-in, false-T, T-no}
-use Rattle.solver.proofs.Apps.{ctor-app-is}
+use Rattle.solver.proofs.Apps.{op-is, ctor-app-is}
 use Rattle.solver.proofs.Walk.{class-ctor, Stands}
 use Rattle.solver.proofs.Clash.{Against, Caused, ctor-in}
 use Rattle.session.specs.Session.{Session}
@@ -24,9 +24,6 @@ use Rattle.session.specs.Claim.{MarkedCtor, Lowest, ConstructorClash, Te
 use Rattle.session.proofs.Invariant.{Inv}
 use Rattle.session.proofs.Truth.{SaidNow}
 use Rattle.session.proofs.Rings.{there-some, in-marked, now, stands-lowest, lowest-stands, watched-in, in-watched, there-ring}
-
-op-is : (a b : ℕ) → Term.Uninterpreted a ≡ Term.Uninterpreted b → a ≡ b
-op-is a b e = cc
 
 module _ (s : Session) (h : History) (I : Inv s h) where
   -- ---- watched classes

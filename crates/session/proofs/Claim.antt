@@ -27,7 +27,7 @@ use Rattle.session.specs.Claim.{Collected, After, AtLine, Tied, ClaimFro
 use Rattle.session.proofs.Invariant.{classes-agree, Inv}
 use Rattle.session.proofs.Steps.{empty-inv}
 use Rattle.session.proofs.Accepting.{answer-kind, Good, sort-good, ctor-good, fun-good, close-good, push-good, pop-good, register-good, term-good, eq-good, full-good, idle-good, assert-good}
-use Rattle.session.proofs.Tables.{perform-table, well-formed, perform-marks, marks-back, check-marks, closed-by}
+use Rattle.session.proofs.Tables.{perform-table, perform-marks, marks-back, check-marks, closed-by}
 use Rattle.session.proofs.Joins.{equate-good, cong-good, iface-good}
 
 -- ---- the questions answered yes
@@ -120,7 +120,7 @@ line-refused s h line q I W = record {
   };
   tied = record {
     table = λ c e n. absurd (n q refl);
-    formed = well-formed (s .state .terms) (I .ready .formed);
+    formed = I .ready .formed;
     marks-stay = λ t m. m;
     marks-from = λ t m. inl m;
     marks-made = λ e n. absurd (n q refl);
@@ -146,7 +146,7 @@ line-accepted s h line c I W e G = record {
   };
   tied = record {
     table = λ d w n. subst (λ (x : Command). Makes x (s .state .terms) (perform s c .session .state .terms)) (is d w) (perform-table s c (I .ready));
-    formed = well-formed (perform s c .session .state .terms) (G .inv .ready .formed);
+    formed = G .inv .ready .formed;
     marks-stay = λ t m. in-mem t (perform s c .session .state .dt .marks) (perform-marks s c (I .ready) t (mem-in t (s .state .dt .marks) m));
     marks-from = λ t m. from t (marks-back s h c t (mem-in t (perform s c .session .state .dt .marks) m));
     marks-made = λ w n. subst⁻¹ (λ (x : Command). perform s x .session .state .dt .marks ≡ before-ring (s .state) .state .dt .marks) (is (Line.Check true) w) (check-marks s);

@@ -18,10 +18,8 @@ use Rattle.solver.proofs.Basics.{some-is, mem-in, in-mem, first-none, gather-in
 use Rattle.solver.proofs.Apps.{ctor-app-is}
 use Rattle.solver.proofs.Walk.{class-ctor, Stands, Joined, Reaches, HasRing}
 use Rattle.solver.proofs.Clash.{kid-field}
-use Rattle.solver.proofs.Collection.{Beneath}
 use Rattle.session.specs.Session.{Session}
 use Rattle.session.specs.History.{History, EqualNow}
-use Rattle.session.specs.Claim as Claim
 use Rattle.session.specs.Claim.{Marked, MarkedCtor, Watched, Lowest, EdgeTo, Leads, Ring}
 use Rattle.session.proofs.Invariant.{Inv, classes-agree}
 
@@ -58,17 +56,9 @@ pub there-some : {A : Type 0} (o : Option A) (x : A) → o ≡ some x → T (is-
 unfolding is-some
 there-some o x e = subst⁻¹ (λ (z : Option _). T (is-some z)) e tt
 
-beneath-of : (cx : Context) (n a t : ℕ) → Claim.Below cx n a t → Beneath cx n a t
-beneath-of cx zero a t e = e
-beneath-of cx (suc n) a t (b, m, w) = (b, m, beneath-of cx n b t w)
-
-pub of-beneath : (cx : Context) (n a t : ℕ) → Beneath cx n a t → Claim.Below cx n a t
-of-beneath cx zero a t e = e
-of-beneath cx (suc n) a t (b, m, w) = (b, m, of-beneath cx n b t w)
-
 module _ (s : Session) (h : History) (I : Inv s h) where
   marked-in : (t : ℕ) → Marked (s .state .terms) (s .state .dt .marks) h t → In t (s .state .dt .marks)
-  marked-in t (inl (v, a, n, w, b, r)) = I .marked v a n t w (beneath-of (s .state .terms) n a t b) r
+  marked-in t (inl (v, a, n, w, b, r)) = I .marked v a n t w b r
   marked-in t (inr m) = mem-in t (s .state .dt .marks) m
 
   pub in-marked : (t : ℕ) → In t (s .state .dt .marks) → Marked (s .state .terms) (s .state .dt .marks) h t

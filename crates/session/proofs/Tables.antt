@@ -10,8 +10,7 @@ use native.Mathlib.Decide.{ℕ-discrete}
 use lib.Dec.{T, ltb}
 use Rattle.core.specs.Ids as Ids
 use Rattle.core.specs.Lists.{insert}
-use Rattle.core.specs.Term.{Op, Eq, Uninterpreted}
-use Rattle.core.specs.Context.{Context, TesterApp, tester-app, term, children}
+use Rattle.core.specs.Context.{TesterApp, tester-app, children}
 use Rattle.core.proofs.Lists.{In}
 use Rattle.theory.specs.Atom as Atom
 use Rattle.theory.specs.EqEngine.{pop-merges}
@@ -19,17 +18,14 @@ use Rattle.solver.specs.State.{State, with-terms, with-eq, with-atoms, with-lev
 use Rattle.solver.specs.Records as Records
 use Rattle.solver.specs.Rules.{TCheck}
 use Rattle.solver.specs.Check as Check
-use Rattle.solver.proofs.Basics.{mem-in}
-use Rattle.solver.proofs.Terms.{Agrees, Formed}
-use Rattle.solver.proofs.Collection.{Beneath, children-lower, new-var-marks}
+use Rattle.solver.proofs.Collection.{Beneath, new-var-marks}
 use Rattle.solver.proofs.Clash.{Ready}
 use Rattle.solver.proofs.Answers.{full-check-well}
 use Rattle.session.specs.Line as Line
 use Rattle.session.specs.Line.{Command, DeclareSort, DeclareCtor, DeclareFun, Close, MkTerm, MkEq, Register, Equate, Cong, Iface, Assert, Push, Pop}
 use Rattle.session.specs.Session.{Session, done, numbered, merged, merge-sides, pop-to, perform, atom-of}
-use Rattle.session.specs.History.{History, Makes, Takes, WellFormed, Accepted}
+use Rattle.session.specs.History.{History, Makes, Accepted}
 use Rattle.session.specs.Claim.{Collected, After}
-use Rattle.session.proofs.Rings.{of-beneath}
 use Rattle.session.proofs.Accepting.{line-kind}
 
 -- ---- lines that leave the table and the marks
@@ -93,18 +89,6 @@ perform-table s (Pop k) R = pop-same (s .state) k .terms
 perform-table s (Line.Check true) R = full-check-well (s .state) R .follows .extends
 perform-table s (Line.Check false) R = refl
 
--- the statement's words for a formed table
-pub well-formed : (cx : Context) → Formed cx → WellFormed cx
-well-formed cx F = record {
-  takes = λ t l. takes (term cx t .op) (children cx t) (F .agrees t l);
-  lower = λ t a m. children-lower cx F t a (mem-in a (children cx t) m);
-  once = F .distinct;
-}
-  where
-    takes : (o : Op) (ts : List ℕ) → Agrees cx o ts → Takes cx o ts
-    takes Eq ts w = w
-    takes (Uninterpreted f) ts w = w
-
 -- ---- marks
 
 same-marks : (s s′ : State) → Same s s′ → (t : ℕ) → In t (s .dt .marks) → In t (s′ .dt .marks)
@@ -145,7 +129,7 @@ marks-back s h (Register v u) t i = go (new-var-marks (with-atoms (s .state) (At
   where
     go : In t (s .state .dt .marks) ⊎ ((n : ℕ) × Beneath (s .state .terms) n u t × T (Records.relevant (s .state .terms) t)) → In t (s .state .dt .marks) ⊎ (After Collected (perform s (Register v u)) (Register v u ∷ h) t ⊎ (Register v u ≡ Line.Check true))
     go (inl j) = inl j
-    go (inr (n, w, r)) = unfold perform done Records.new-var with-atoms with-marks with-dt in inr (inl (v, u, n, inl refl, of-beneath (s .state .terms) n u t w, r))
+    go (inr (n, w, r)) = unfold perform done Records.new-var with-atoms with-marks with-dt in inr (inl (v, u, n, inl refl, w, r))
 marks-back s h (Equate l) t i = inl (same-marks-back (s .state) (merge-sides s l (children (s .state .terms) (atom-of s l)) .session .state) (sides-same s l (children (s .state .terms) (atom-of s l))) t i)
 marks-back s h (Cong u v) t i = inl i
 marks-back s h (Iface u v j g) t i = inl i

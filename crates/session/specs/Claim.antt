@@ -12,6 +12,7 @@ use Rattle.core.specs.Lists.{mem}
 use Rattle.core.specs.Ids.{is-positive}
 use Rattle.core.specs.Term.{Eq, Uninterpreted}
 use Rattle.core.specs.Context.{Context, TesterApp, term, ctor-app, tester-app, is-datatype-sort, sort-of, children}
+use Rattle.core.specs.Formed.{Formed, Beneath}
 use Rattle.core.specs.Reading.{Reading}
 use Rattle.theory.specs.Types.{EqLeaf}
 use Rattle.solver.specs.State.{equal}
@@ -23,7 +24,7 @@ use Rattle.session.specs.Line as Line
 use Rattle.session.specs.Line.{Command, read-line}
 use Rattle.session.specs.Answer.{Refusal, Answer, TermIs, Checked, Refused}
 use Rattle.session.specs.Session.{Session, empty-session, Performed, step}
-use Rattle.session.specs.History.{History, Makes, WellFormed, Accepted, HoldsNow, LeafInForce, IsAtom, EqualNow, AllTrue, LemmaTrue, history-after}
+use Rattle.session.specs.History.{History, Makes, Accepted, HoldsNow, LeafInForce, IsAtom, EqualNow, AllTrue, LemmaTrue, history-after}
 
 -- ---- conflicts and lemmas
 
@@ -41,15 +42,10 @@ Valid cx h atoms guards = (r : Reading cx) → LemmaTrue r h atoms guards
 
 -- ---- rings and clashes, over a table of terms, the marks that the rules have made so far, and the lines of a history
 
--- t stands n levels below a
-abbrev pub Below : Context → ℕ → ℕ → ℕ → Type 0
-Below cx zero a t = a ≡ t
-Below cx (suc n) a t = (b : ℕ) × T (mem b (children cx a)) × Below cx n b t
-
 module _ (cx : Context) (marks : List ℕ) (h : History) where
   -- 01: Collection goes down through the children of a registered atom, the atom included
   abbrev pub Collected : ℕ → Type 0
-  Collected t = (v a n : ℕ) × Accepted h (Line.Register v a) × Below cx n a t × T (relevant cx t)
+  Collected t = (v a n : ℕ) × Accepted h (Line.Register v a) × Beneath cx n a t × T (relevant cx t)
 
   -- 01: marked, by Collection or a rule so far, in this check too
   abbrev pub Marked : ℕ → Type 0
@@ -137,7 +133,7 @@ pub record AtLine (s : Session) (line : List ℕ) (p : Performed) (h′ : Histor
 pub record Tied (s : Session) (line : List ℕ) (p : Performed) (h′ : History) : Type 1 where
   -- what the line makes of the table, in which each term is well formed
   pub table : (c : Command) → read-line line ≡ some c → NotRefused (p .answer) → Makes c (s .state .terms) (p .session .state .terms)
-  pub formed : WellFormed (p .session .state .terms)
+  pub formed : Formed (p .session .state .terms)
   -- marks are never taken back; a mark is an older one, one of Collection, or one of a full check; and after a full check they are
   -- those that the rules before the ring leave
   pub marks-stay : (t : ℕ) → T (mem t (s .state .dt .marks)) → T (mem t (p .session .state .dt .marks))

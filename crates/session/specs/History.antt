@@ -1,17 +1,15 @@
 -- 01, Reading: what the accepted lines alone decide. A history is the list of accepted lines, newest first. A term number means
 -- the term of that number in the table that the lines and the rules have made.
-use Prim.Native.Nat.{ℕ, zero, suc, _≤_, _<_}
+use Prim.Native.Nat.{ℕ, zero, suc, _≤_}
 use mathlib.Core.Path.{_≡_}
 use mathlib.Core.Logic.{_⊎_}
 use mathlib.Core.Bool.{true, false, cond}
-use mathlib.Core.List.{List, [], _∷_, _++_, map}
+use mathlib.Core.List.{List, [], _∷_, _++_}
 use mathlib.Core.Option.{Option, none, some}
-use lib.Dec.{T, ltb}
-use lib.ListN.{length}
-use Rattle.core.specs.Lists.{mem}
+use lib.Dec.{ltb}
 use Rattle.core.specs.Ids as Ids
-use Rattle.core.specs.Term.{Op, Eq, Uninterpreted, Term}
-use Rattle.core.specs.Context.{Context, declare-sort, dt-add-constructor, declare-fun, mk-app, mk-eq, symbol, term, children, sort-of}
+use Rattle.core.specs.Term.{Eq, Uninterpreted, Term}
+use Rattle.core.specs.Context.{Context, declare-sort, dt-add-constructor, declare-fun, mk-app, mk-eq, term, children}
 use Rattle.core.specs.Reading.{Reading, truth, value}
 use Rattle.theory.specs.Types.{EqLeaf, AssertedLeaf, InterfaceLeaf}
 use Rattle.session.specs.Line.{Command, DeclareSort, DeclareCtor, DeclareFun, Close, MkTerm, MkEq, Register, Equate, Cong, Iface, Assert, Push, Pop, Check, read-line}
@@ -23,7 +21,7 @@ History = List Command
 -- ---- the table of sorts, symbols and terms
 
 -- what an accepted line makes of the table: `sort`, `ctor`, `fun` declare, `term` and `eq` make the term they name unless it is there,
--- a full check may append terms, well formed as said below, and no other line changes it
+-- a full check may append terms, and no other line changes it
 abbrev pub Makes : Command → Context → Context → Type 0
 Makes (DeclareSort n) cx cx′ = cx′ ≡ declare-sort cx n
 Makes (DeclareCtor dt fs) cx cx′ = cx′ ≡ dt-add-constructor cx dt fs
@@ -40,17 +38,6 @@ Makes Push cx cx′ = cx′ ≡ cx
 Makes (Pop k) cx cx′ = cx′ ≡ cx
 Makes (Check true) cx cx′ = (new : List Term) × (cx′ ≡ record { sorts = cx .sorts; symbols = cx .symbols; terms = cx .terms ++ new })
 Makes (Check false) cx cx′ = cx′ ≡ cx
-
--- the arguments that an operation takes: an equation two of one sort, a symbol those of its parameters' sorts
-abbrev pub Takes : Context → Op → List ℕ → Type 0
-Takes cx Eq ts = (t u : ℕ) × (ts ≡ t ∷ u ∷ []) × (sort-of cx t ≡ sort-of cx u)
-Takes cx (Uninterpreted f) ts = map (sort-of cx) ts ≡ symbol cx f .params
-
--- Each term has the arguments that its operation takes, each with a lower number, and no term stands twice.
-pub record WellFormed (cx : Context) : Type 0 where
-  pub takes : (t : ℕ) → t < length (cx .terms) → Takes cx (term cx t .op) (children cx t)
-  pub lower : (t a : ℕ) → T (mem a (children cx t)) → a < t
-  pub once : (t u : ℕ) → t < length (cx .terms) → u < length (cx .terms) → term cx t ≡ term cx u → t ≡ u
 
 -- ---- levels
 

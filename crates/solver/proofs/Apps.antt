@@ -25,6 +25,10 @@ ctor-role t s (Selector d i) as′ c e = absurd (none-some c e)
 ctor-role t s Function as′ c e = absurd (none-some c e)
 
 -- what a constructor application is
+-- a symbol's operation names it
+pub op-is : (a b : ℕ) → Term.Uninterpreted a ≡ Term.Uninterpreted b → a ≡ b
+op-is a b e = cc
+
 pub record IsCtor (cx : Context) (t : ℕ) (c : CtorApp) : Type 0 where
   pub app : c .app ≡ t
   pub op : term cx t .op ≡ Term.Uninterpreted (c .ctor)

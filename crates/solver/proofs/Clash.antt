@@ -26,7 +26,7 @@ use Rattle.solver.proofs.Basics.{none-some, some-is, gather-in, reverse
 use Rattle.solver.proofs.Terms.{Formed}
 use Rattle.solver.proofs.Signature.{Signed}
 use Rattle.solver.proofs.Values.{values-of}
-use Rattle.solver.proofs.Apps.{IsCtor, ctor-app-is, IsTester, tester-app-is, app-within, ctor-value, test-value, truth-is, tree-ctor}
+use Rattle.solver.proofs.Apps.{op-is, IsCtor, ctor-app-is, IsTester, tester-app-is, app-within, ctor-value, test-value, truth-is, tree-ctor}
 use Rattle.solver.proofs.Walk.{class-ctor, KidOf, Link, Trail, Ringed, HasRing, ringed-ring}
 
 -- what a state must be for its answers to be right
@@ -81,9 +81,6 @@ module _ (s : State) (R : Ready s) where
 
   same-op : (p q : CtorApp) → IsCtor (s .terms) (p .app) p → IsCtor (s .terms) (q .app) q → p .app ≡ q .app → p .ctor ≡ q .ctor
   same-op p q P Q e = op-is (p .ctor) (q .ctor) (sym (P .op) ∙ ap (λ (t : ℕ). term (s .terms) t .op) e ∙ Q .op)
-    where
-      op-is : (a b : ℕ) → Term.Uninterpreted a ≡ Term.Uninterpreted b → a ≡ b
-      op-is a b e = cc
 
   pub clash-refuted : (Said : ℕ → ℕ → Type 0) (p q : CtorApp) → In p (ctor-apps s) → In q (ctor-apps s) → T (clash s (p, q)) → Refuted s Said (firsts (explain (s .eq) (p .app) (q .app)))
   unfolding clash

@@ -11,6 +11,7 @@ use lib.ListN.{length, List·getD-eq-default}
 use Rattle.core.specs.Lists.{keep, mem, insert}
 use Rattle.core.specs.Term as Term
 use Rattle.core.specs.Term.{Term, Op, Eq}
+pub use Rattle.core.specs.Formed.{Beneath}
 use Rattle.core.specs.Context.{Context, term, no-term, children, sort-of, result-of, sort-node, is-datatype-sort, symbol, ctor-app, ctor-by-op, sel-app, sel-by-op, tester-app, tester-by-op}
 use Rattle.core.proofs.Lists.{In, keep-in, in-keep, true-T}
 use Rattle.solver.specs.State.{State, with-marks, with-dt}
@@ -25,11 +26,6 @@ children-lower cx F t a i = go (decLt t (length (cx .terms)))
     go : Dec (t < length (cx .terms)) → a < t
     go (yes l) = F .lower t l a i
     go (no h) = absurd (subst (λ (x : Term). In a (x .args)) (List·getD-eq-default (cx .terms) no-term {n = t} (omega arith)) i)
-
--- t stands n levels below a
-abbrev pub Beneath : Context → ℕ → ℕ → ℕ → Type 0
-Beneath cx zero a t = a ≡ t
-Beneath cx (suc n) a t = (b : ℕ) × T (mem b (children cx a)) × Beneath cx n b t
 
 -- from a set to a larger one whose new members have their children in it
 record Grows (cx : Context) (seen r : List ℕ) : Type 0 where

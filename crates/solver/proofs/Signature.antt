@@ -13,6 +13,8 @@ use Rattle.core.specs.Term.{Symbol, Role, Constructor, Tester, Selector, Functi
 use Rattle.core.specs.Sort.{SortNode, BoolSort, is-datatype}
 use Rattle.core.specs.Context.{Context, empty-context, with-symbols, declare-sort, selectors-from, constructor-symbols, dt-add-constructor, declare-fun, sort-node, is-datatype-sort, symbol, no-symbol, is-constructor}
 use Rattle.core.specs.Reading.{is-function, is-selector}
+use Rattle.core.proofs.Readings.{datatype-in-range}
+use Rattle.core.proofs.Symbols.{symbol-count}
 use Rattle.solver.proofs.Terms.{Extends, extends-sorts}
 
 -- w is the tester of constructor d
@@ -115,17 +117,11 @@ empty-signed = record {
 }
 
 -- one more sort
-datatype-in : (ss : List SortNode) (s : ℕ) → T (is-datatype (getD ss s BoolSort)) → s < length ss
-unfolding is-datatype
-datatype-in [] s t = absurd t
-datatype-in (x ∷ xs) zero t = omega arith
-datatype-in (x ∷ xs) (suc s) t = let h = datatype-in xs s t in omega arith
-
 pub sort-signed : (cx : Context) (n : SortNode) → 0 < length (cx .sorts) → Signed cx → Signed (declare-sort cx n)
 unfolding declare-sort symbol sort-node is-datatype-sort
 sort-signed cx n l S = record {
   bool = List·getD-append (cx .sorts) (n ∷ []) BoolSort 0 l ∙ S .bool;
-  datatype = λ c e. subst⁻¹ (λ (x : SortNode). T (is-datatype x)) (List·getD-append (cx .sorts) (n ∷ []) BoolSort (symbol cx c .result) (datatype-in (cx .sorts) (symbol cx c .result) (S .datatype c e))) (S .datatype c e);
+  datatype = λ c e. subst⁻¹ (λ (x : SortNode). T (is-datatype x)) (List·getD-append (cx .sorts) (n ∷ []) BoolSort (symbol cx c .result) (datatype-in-range (cx .sorts) (symbol cx c .result) (S .datatype c e))) (S .datatype c e);
   tester = S .tester;
   selector = S .selector;
   own-tester = S .own-tester;
@@ -262,11 +258,6 @@ selectors-at c dt i (f ∷ fs) (suc k) l =
     selectors-at c dt (suc i) fs k (omega arith)
     ∙ ap (λ (m : ℕ). record { role = Selector c m; params = dt ∷ []; result = getD fs k 0 }) (suc-add i k ∙ sym (add-suc i k))
 
-selectors-count : (c dt i : ℕ) (fs : List ℕ) → length (selectors-from c dt i fs) ≡ length fs
-unfolding selectors-from
-selectors-count c dt i [] = refl
-selectors-count c dt i (f ∷ fs) = ap suc (selectors-count c dt (suc i) fs)
-
 module _ (cx : Context) (dt : ℕ) (fields : List ℕ) where
   new-symbols : List Symbol
   new-symbols = constructor-symbols (length (cx .symbols)) dt fields
@@ -295,7 +286,7 @@ module _ (cx : Context) (dt : ℕ) (fields : List ℕ) where
     where
       go : Dec (k < length fields) → NewAt (suc (suc k))
       go (yes l) = selector-at k (omega arith) l (at-selector k l)
-      go (no h) = nothing-at (ap (λ (x : Symbol). x .role) (List·getD-eq-default (selectors-from (length (cx .symbols)) dt 0 fields) no-symbol {n = k} (subst⁻¹ (λ (m : ℕ). m ≤ k) (selectors-count (length (cx .symbols)) dt 0 fields) (omega arith))))
+      go (no h) = nothing-at (ap (λ (x : Symbol). x .role) (List·getD-eq-default (selectors-from (length (cx .symbols)) dt 0 fields) no-symbol {n = k} (subst⁻¹ (λ (m : ℕ). m ≤ k) (symbol-count (length (cx .symbols)) dt 0 fields) (omega arith))))
 
   abbrev after : Context
   after = with-symbols cx new-symbols

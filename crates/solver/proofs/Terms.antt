@@ -14,6 +14,7 @@ use lib.Seq.{getD-append-seam}
 use Rattle.core.specs.Lists.{place-from, same-list}
 use Rattle.core.specs.Term as Term
 use Rattle.core.specs.Term.{Symbol, Op, Eq, Term, same-op, same-term}
+pub use Rattle.core.specs.Formed.{Agrees, Formed}
 use Rattle.core.specs.Context.{Context, Made, symbol, term, no-term, children, result-of, sort-of, intern, mk-app}
 use Rattle.core.proofs.Lists.{In, T-and, T-both, T-true, true-T}
 use Rattle.solver.proofs.Basics.{none-some, some-none, some-is}
@@ -140,19 +141,8 @@ extends-sort-of a b t e l = ap (λ (x : Term). result-of b (x .op)) (extends-ter
 
 -- ---- formed tables
 
--- the arguments of an operation: an equation has two sides of one sort, a symbol its parameters' sorts
-abbrev pub Agrees : Context → Op → List ℕ → Type 0
-Agrees cx Eq as′ = (a b : ℕ) × (as′ ≡ a ∷ b ∷ []) × (sort-of cx a ≡ sort-of cx b)
-Agrees cx (Term.Uninterpreted f) as′ = map (sort-of cx) as′ ≡ symbol cx f .params
-
 abbrev pub Below : ℕ → List ℕ → Type 0
 Below n as′ = (a : ℕ) → In a as′ → a < n
-
--- Arguments are lower, sorts and counts agree, and no term stands twice.
-pub record Formed (cx : Context) : Type 0 where
-  pub lower : (t : ℕ) → t < length (cx .terms) → Below t (children cx t)
-  pub agrees : (t : ℕ) → t < length (cx .terms) → Agrees cx (term cx t .op) (children cx t)
-  pub distinct : (t u : ℕ) → t < length (cx .terms) → u < length (cx .terms) → term cx t ≡ term cx u → t ≡ u
 
 map-below : (a b : Context) (as′ : List ℕ) → Extends a b → Below (length (a .terms)) as′ → map (sort-of b) as′ ≡ map (sort-of a) as′
 map-below a b [] e l = refl

@@ -18,7 +18,7 @@ use Rattle.theory.proofs.Members.{T-or, T-left, in-left, in-right, in-e
 use Rattle.theory.proofs.Classes.{Same, same?, same-alone, same-kept, same-suffix, equal-same, Suffix, suffix-self, suffix-tail, in-suffix, pop-suffix}
 use Rattle.theory.proofs.Forest.{Leads, Along, path-over, Joins, PathOf, path-of, path-age}
 
--- ---- labels
+-- ---- justified merges
 
 pub justified-joins : (ms : List Merge) → Justified ms → Joins ms
 justified-joins [] j = tt

@@ -13,8 +13,9 @@ use Rattle.core.specs.Lists.{any, range}
 use Rattle.core.specs.Table.{word}
 use Rattle.core.proofs.Lists.{In, T-true, true-T, in-range, map-range-suc}
 use Rattle.theory.specs.Types.{EqJust, Asserted, Congruence, Interface, EqLeaf, AssertedLeaf, same-leaf}
-use Rattle.theory.specs.EqEngine.{Merge, Step, Explained, are-equal, pairs-of, before, nodes, common, way, same-pair, visit, cite, path, expand-edge, explain-rec, explain, firsts-after}
+use Rattle.theory.specs.EqEngine.{Merge, Step, Explained, are-equal, pairs-of, before, common, way, same-pair, visit, cite, path, expand-edge, explain-rec, explain, firsts-after}
 use Rattle.theory.specs.Table.{pair-at, merges#, label-word, value-word, after-word, left-word, right-word, fparent-word, fedge-word, label, begins, kind-of, just-at, merge-at, pairs-start, merges-below, merges, Justified, Sound}
+use Rattle.theory.specs.Steps.{On}
 use Rattle.theory.specs.Answer.{leaves#, leaf-of, leaves, Labels, Cites, AnswerSound}
 use Rattle.theory.specs.Explaining.{expand-label, expand-steps, expand-pairs, expand-new, pairs-from, age, pairs-age, steps-age, marked, Shows, Explaining, Goes, MarksPair, EqualPair}
 use Rattle.theory.proofs.Members.{in-left, in-right}
@@ -107,8 +108,7 @@ goes-two t m o m₁ m₂ o₂ m₃ o₃ a b n z e h k q x y = record { answer = 
         (x .shows d seen (visit a b f) (omega arith) (visit-shows t m m₁ o a b seen f k s)))
 
 -- the common node stands above both
-pub common-above : (t : List ℕ) (a b n : ℕ) → Sound t → are-equal (merges t) a b ≡ true → n ≡ common a (way (merges t) a) b (way (merges t) b) → In n (nodes a (way (merges t) a)) × In n (nodes b (way (merges t) b))
-unfolding nodes
+pub common-above : (t : List ℕ) (a b n : ℕ) → Sound t → are-equal (merges t) a b ≡ true → n ≡ common a (way (merges t) a) b (way (merges t) b) → On n a (way (merges t) a) × On n b (way (merges t) b)
 common-above t a b n z e q =
     let k = way-meets (merges t) (sound-joins t z) (sound-forest t z) a b (equal-same (merges t) a b (true-T (are-equal (merges t) a b) e)) in
     (subst (λ (v : ℕ). Above (way (merges t)) v a) (sym q) (k .on-x), subst (λ (v : ℕ). Above (way (merges t)) v b) (sym q) (k .on-y))
@@ -129,8 +129,7 @@ no-steps : (t m o : List ℕ) (k : ℕ) (w : List Step) → AnswerSound (merges 
 unfolding expand-steps
 no-steps t m o k w z q = goes-nothing t m o k (expand-steps (merges t) w) z (λ d e. ap (λ (u : List Step). expand-steps (merges t) u d e) q)
 
-pub walk-first : (t : List ℕ) (node top : ℕ) (m o : List ℕ) → Explaining t m o → node < 1024 → In top (nodes node (way (merges t) node)) → Walking t node top m o m o node
-unfolding nodes
+pub walk-first : (t : List ℕ) (node top : ℕ) (m o : List ℕ) → Explaining t m o → node < 1024 → On top node (way (merges t) node) → Walking t node top m o m o node
 walk-first t node top m o z h i = record {
   within = h;
   on = inl refl;

@@ -1,4 +1,4 @@
--- Walks over the table of a sound engine.
+-- The log and the union-find of a sound table: sides are nodes, and the walk up the parents of a class.
 use Prim.Native.Nat.{ℕ, zero, suc, _+_, _<_}
 use mathlib.Core.Path.{_≡_, refl, sym, subst, ap, _∙_}
 use mathlib.Core.Logic.{inl, inr}

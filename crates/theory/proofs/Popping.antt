@@ -108,7 +108,7 @@ all-below t k z e i h = go (merges# t) refl e
 abbrev pub Popped : List ℕ → List ℕ → ℕ → Type 0
 Popped t u k = Sound u × (merges u ≡ pop-merges k (merges t)) × (level-word u ≡ cond (leb (level-word t) k) (level-word t) k) × (level-word t ≤ k → u ≡ t)
 
--- no merge is of a higher level than that of now
+-- no merge is of a higher level than the present one
 none-above : (t : List ℕ) (k : ℕ) → Sound t → level-word t ≤ k → newest-above k (merges t) ≡ false
 unfolding merges merges-below merge-at newest-above
 none-above t k z l = go (merges# t) refl

@@ -239,8 +239,8 @@ module _ (t : List ℕ) (a b x y dx dy : ℕ) (z : Sound t) (c : Nearing t a b x
   pub x-deep : dy ≤ dx → 1 ≤ dx
   x-deep l = let r = x-rises (fparent-word t x) l refl .0 in let u = c .x-depth in let v = r .longer in omega arith
 
-pub near-done : (t : List ℕ) (a b x y dx dy : ℕ) → Sound t → Nearing t a b x y dx dy → x ≡ y → (x ≡ common a (way (merges t) a) b (way (merges t) b)) × (x < 1024)
-near-done t a b x y dx dy z c e = (sym (go (lower (way (merges t)) (sound-forest t z) (way (merges t) x) n x refl (c .meet .on-x))), c .x-within)
+pub near-done : (t : List ℕ) (a b x y dx dy : ℕ) → Sound t → Nearing t a b x y dx dy → x ≡ y → x ≡ common a (way (merges t) a) b (way (merges t) b)
+near-done t a b x y dx dy z c e = sym (go (lower (way (merges t)) (sound-forest t z) (way (merges t) x) n x refl (c .meet .on-x)))
   where
     n : ℕ
     n = common a (way (merges t) a) b (way (merges t) b)

@@ -1,5 +1,5 @@
--- What the private functions that explain an equality promise one another; a caller of the crate needs none of it: the parts of an explanation and their ages, and how marks and the answer
--- table stand for the pairs expanded and the leaves met.
+-- What the private functions that explain an equality promise one another: the parts of an explanation and their ages, and how marks
+-- and the answer table stand for the pairs expanded and the leaves met. A caller of the crate needs none of it.
 use Prim.Native.Nat.{ℕ, zero, suc, _-_, _≤_, _<_}
 use mathlib.Core.Path.{_≡_}
 use mathlib.Core.Bool.{Bool, true, false, cond}

@@ -1,5 +1,5 @@
--- The lent table of the equality engine: where each part stands, what a table means, and when it is sound. Every
--- other part is a function of the log of merges.
+-- The lent table of the equality engine: where each part stands, what a table means, and when it is sound. Every part is a function
+-- of the log of merges.
 use Prim.Native.Nat.{ℕ, zero, suc, _+_, _-_, _/_, _%_, _≤_, _<_}
 use mathlib.Core.Path.{_≡_}
 use mathlib.Core.Bool.{false, cond}
@@ -35,8 +35,8 @@ fparent-word t x = word t (2112 + x)
 abbrev pub fedge-word : List ℕ → ℕ → ℕ
 fedge-word t x = word t (3136 + x)
 
--- for each merge: its sides; the kind of its label, the theory and the level in one word; literal, tag or start of its pairs; the root that went under; the
--- forest root of the first side's tree before it was turned; the pairs in force after it
+-- for each merge: its sides; the kind of its label, the theory and the level in one word; literal, tag or start of its pairs; the root
+-- that went under; the forest root of the first side's tree before it was turned; the pairs in force after it
 abbrev pub a-word : List ℕ → ℕ → ℕ
 a-word t i = word t (4160 + i)
 

@@ -11,9 +11,9 @@ ghost use mathlib.Core.Bool.{true, false, cond, _&&_};
 ghost use mathlib.Core.List.{[], _∷_, _++_};
 ghost use lib.Dec.{eqb, leb};
 ghost use lib.ListN.{length, set};
-ghost use Rattle.core.specs.Lists.{In, zip};
+ghost use Rattle.core.specs.Lists.{zip};
 ghost use Rattle.theory.specs.Types.{Congruence};
-ghost use Rattle.theory.specs.EqEngine.{lower, higher, find, are-equal, merge, pop-merges, pairs-of, pairs-in-force, nodes, before, common, way, same-pair, explain, firsts-after};
+ghost use Rattle.theory.specs.EqEngine.{lower, higher, find, are-equal, merge, pop-merges, pairs-of, pairs-in-force, before, common, way, same-pair, explain, firsts-after};
 ghost use Rattle.theory.specs.Table.{merges#, parent-word, size-word, left-word, right-word, pair-at, label, just-at, merges-below, merges, end, justIs, EqualPairs, level, Sound, Engine};
 ghost use Rattle.theory.specs.Answer.{leaves, AnswerSound};
 ghost use Rattle.theory.specs.Steps.{On, Rerooted, Spliced, United, Logged, Joinable, HoldsLabel, Copied, Separated, newest-above};
@@ -408,7 +408,7 @@ fn forest_depth(t: &[u32], node: usize) -> usize
 // The nearest common ancestor of two equal nodes: the deeper one goes up, at one depth the first, until both are one.
 fn forest_nca(t: &[u32], a: usize, b: usize) -> usize
     requires { ⌜ Sound (now t) × (a < 1024) × (b < 1024) × (are-equal (merges (now t)) a b ≡ true) ⌝ }
-    ensures { λ r. ⌜ (r ≡ common a (way (merges (now (t .entry))) a) b (way (merges (now (t .entry))) b)) × (r < 1024) ⌝ }
+    ensures { λ r. ⌜ r ≡ common a (way (merges (now (t .entry))) a) b (way (merges (now (t .entry))) b) ⌝ }
 {
     let mut x = a;
     let mut y = b;
@@ -487,7 +487,7 @@ fn explain_rec(t: &[u32], a: usize, b: usize, marks: &mut [u32], out: &mut [u32]
 
 // Expands the edges from a node up to one above it.
 fn expand_way(t: &[u32], node: usize, top: usize, marks: &mut [u32], out: &mut [u32])
-    requires { ⌜ Explaining (now t) (now marks) (now out) × (node < 1024) × In top (nodes node (way (merges (now t)) node)) ⌝ }
+    requires { ⌜ Explaining (now t) (now marks) (now out) × (node < 1024) × On top node (way (merges (now t)) node) ⌝ }
     ensures { λ _. ⌜ Goes (now (t .entry)) (now (marks .entry)) (now (out .entry)) (now (marks .exit)) (now (out .exit)) (steps-age (merges (now (t .entry))) (before top (way (merges (now (t .entry))) node))) (expand-steps (merges (now (t .entry))) (before top (way (merges (now (t .entry))) node))) ⌝ }
 {
     let mut n = node;

@@ -360,7 +360,7 @@ explain-rec-expand-way-requires : (t : ℕ) → explain-rec-lts.Need-expand-way-
 explain-rec-expand-way-requires t c κs =
     let start = c .before .before .before .before .before .before .before .before .before .before .before in
     let p = start .pre .1 in
-    let e = c .before .before .forest-nca .ensures .0 in
+    let e = c .before .before .forest-nca .ensures in
     let o = rec-older (start .args .t .now) (start .args .a) (start .args .b) _ (p .0 .engine) (p .3) e in
     let i = common-above (start .args .t .now) (start .args .a) (start .args .b) _ (p .0 .engine) (p .3) e in
     let m = start .pre .0 in
@@ -370,7 +370,7 @@ explain-rec-expand-way-requires-2 : (t : ℕ) → explain-rec-lts.Need-expand-wa
 explain-rec-expand-way-requires-2 t c κs =
     let start = c .before .before .before .before .before .before .before .before .before .before .before .before .before .before .before .before .before .before in
     let p = start .pre .1 in
-    let e = c .before .before .before .before .before .before .before .before .before .forest-nca .ensures .0 in
+    let e = c .before .before .before .before .before .before .before .before .before .forest-nca .ensures in
     let o = rec-older (start .args .t .now) (start .args .a) (start .args .b) _ (p .0 .engine) (p .3) e in
     let i = common-above (start .args .t .now) (start .args .a) (start .args .b) _ (p .0 .engine) (p .3) e in
     let m = start .pre .0 in
@@ -386,7 +386,7 @@ explain-rec-returns-2 : (t : ℕ) → explain-rec-lts.Need-returns-2 (mark-pairs
 explain-rec-returns-2 t c =
     let start = c .before .before .before .before .before .before .before .before .before .before .before .before .before .before .before .before .before .before .before .before .before .before .before in
     let p = start .pre .1 in
-    goes-two (start .args .t .now) _ _ _ _ _ _ _ (start .args .a) (start .args .b) _ (p .0 .engine) (p .3) (c .before .before .before .before .before .before .before .before .before .before .before .before .before .before .before .before .before .before .before .if1 .left) (c .before .before .before .before .before .before .before .before .before .before .before .before .before .before .before .before .before .mark-pairs .ensures) (c .before .before .before .before .before .before .before .before .before .before .before .before .before .before .forest-nca .ensures .0) (c .before .before .before .before .before .before .before .before .before .before .before .expand-way .ensures) (c .before .before .before .before .expand-way2 .ensures)
+    goes-two (start .args .t .now) _ _ _ _ _ _ _ (start .args .a) (start .args .b) _ (p .0 .engine) (p .3) (c .before .before .before .before .before .before .before .before .before .before .before .before .before .before .before .before .before .before .before .if1 .left) (c .before .before .before .before .before .before .before .before .before .before .before .before .before .before .before .before .before .mark-pairs .ensures) (c .before .before .before .before .before .before .before .before .before .before .before .before .before .before .forest-nca .ensures) (c .before .before .before .before .before .before .before .before .before .before .before .expand-way .ensures) (c .before .before .before .before .expand-way2 .ensures)
 
 pub +expand-edge+expand-pair+expand-pairs+expand-way+explain-rec-spec : {M : Type 1} → statement M
 +expand-edge+expand-pair+expand-pairs+expand-way+explain-rec-spec =
