@@ -283,7 +283,7 @@ fn label_words(j: EqJust) -> LabelWords
 // Joins the classes of two terms under a label; within one class it does nothing.
 pub fn merge(t: &mut [u32], a: TermId, b: TermId, j: EqJust)
     requires { ⌜ Sound (now t) × (a .0 < 1024) × (b .0 < 1024) ⌝ }
-    ensures { λ _. ⌜ Engine (now (t .exit)) (merge (merges (now (t .entry))) (level (now (t .entry))) (a .0) (b .0) (justIs j)) (level (now (t .entry))) ⌝ }
+    ensures { λ _. ⌜ Engine (now (t .exit)) (merge (merges (now (t .entry))) (level (now (t .entry))) (a .0) (b .0) (justIs j)) (level (now (t .entry))) × (are-equal (merges (now (t .entry))) (a .0) (b .0) ≡ true → now (t .exit) ≡ now (t .entry)) ⌝ }
 {
     if are_equal(t, a, b) {
         return;
@@ -314,7 +314,7 @@ fn copy_pairs(t: &mut [u32], start: usize, xs: &[u32], ys: &[u32])
 // Like `merge`, but the label is all argument pairs of the two applications, in order. Within one class no pairs are taken.
 pub fn merge_congruence(t: &mut [u32], a: TermId, b: TermId, xs: &[u32], ys: &[u32])
     requires { ⌜ Sound (now t) × (a .0 < 1024) × (b .0 < 1024) × (length (now xs) ≡ length (now ys)) × EqualPairs (merges (now t)) (zip (now xs) (now ys)) × (pairs-in-force (merge (merges (now t)) (level (now t)) (a .0) (b .0) (Congruence (zip (now xs) (now ys)))) ≤ 2048) ⌝ }
-    ensures { λ _. ⌜ Engine (now (t .exit)) (merge (merges (now (t .entry))) (level (now (t .entry))) (a .0) (b .0) (Congruence (zip (now (xs .entry)) (now (ys .entry))))) (level (now (t .entry))) ⌝ }
+    ensures { λ _. ⌜ Engine (now (t .exit)) (merge (merges (now (t .entry))) (level (now (t .entry))) (a .0) (b .0) (Congruence (zip (now (xs .entry)) (now (ys .entry))))) (level (now (t .entry))) × (are-equal (merges (now (t .entry))) (a .0) (b .0) ≡ true → now (t .exit) ≡ now (t .entry)) ⌝ }
 {
     if are_equal(t, a, b) {
         return;

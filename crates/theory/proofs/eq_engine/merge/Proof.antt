@@ -1,4 +1,5 @@
-use mathlib.Core.Path.{sym, _∙_}
+use mathlib.Core.Bool.{false≢true}
+use mathlib.Core.Path.{refl, sym, _∙_}
 use Rattle.theory.proofs.Joining.{merged-one, joinable-label, merged-label}
 use borrow.Author.Needs.{needs}
 use Rattle.theory.proofs.eq_engine.merge.Statement.{statement}
@@ -11,7 +12,7 @@ same-length : tie.Need-same-length
 same-length c = search needs
 
 returns : tie.Need-returns
-returns c = merged-one _ _ _ _ (c .before .before .before .before .pre .0) (sym (c .before .are-equal .ensures) ∙ c .if1 .taken)
+returns c = (merged-one _ _ _ _ (c .before .before .before .before .pre .0) (sym (c .before .are-equal .ensures) ∙ c .if1 .taken), λ e. refl)
 
 cast-x : tie.Need-cast-x
 cast-x c = search needs
@@ -32,7 +33,7 @@ same-length-2 : tie.Need-same-length-2
 same-length-2 c = search needs
 
 returns-2 : tie.Need-returns-2
-returns-2 c = merged-label _ _ _ _ _ (c .before .before .before .before .before .before .before .before .before .before .before .before .before .args .j) _ (sym (c .before .before .before .before .before .before .before .before .before .before .are-equal .ensures) ∙ c .before .before .before .before .before .before .before .before .before .if1 .left) (c .before .before .before .before .label-words .ensures) (c .before .before .join .ensures)
+returns-2 c = (merged-label _ _ _ _ _ (c .before .before .before .before .before .before .before .before .before .before .before .before .before .args .j) _ (sym (c .before .before .before .before .before .before .before .before .before .before .are-equal .ensures) ∙ c .before .before .before .before .before .before .before .before .before .if1 .left) (c .before .before .before .before .label-words .ensures) (c .before .before .join .ensures), λ e. absurd (false≢true (sym (sym (c .before .before .before .before .before .before .before .before .before .before .are-equal .ensures) ∙ c .before .before .before .before .before .before .before .before .before .if1 .left) ∙ e)))
 
 pub merge-spec : {M : Type 1} → statement M
 merge-spec =

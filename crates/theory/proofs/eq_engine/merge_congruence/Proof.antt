@@ -1,3 +1,4 @@
+use mathlib.Core.Bool.{false≢true}
 use mathlib.Core.Path.{refl, sym, _∙_}
 use Rattle.theory.proofs.Joining.{merged-one, pairs-room, copied-sound, joinable-pairs, merged-pairs}
 use borrow.Author.Needs.{needs}
@@ -11,7 +12,7 @@ same-length : tie.Need-same-length
 same-length c = search needs
 
 returns : tie.Need-returns
-returns c = merged-one _ _ _ _ (c .before .before .before .before .before .before .pre .0) (sym (c .before .are-equal .ensures) ∙ c .if1 .taken)
+returns c = (merged-one _ _ _ _ (c .before .before .before .before .before .before .pre .0) (sym (c .before .are-equal .ensures) ∙ c .if1 .taken), λ e. refl)
 
 cast-x : tie.Need-cast-x
 cast-x c = search needs
@@ -35,7 +36,7 @@ same-length-2 : tie.Need-same-length-2
 same-length-2 c = search needs
 
 returns-2 : tie.Need-returns-2
-returns-2 c = let p = c .before .before .before .before .before .before .before .before .before .before .before .before .before .before .before .before .before .before .pre in merged-pairs _ _ _ _ _ (p .0) (c .before .before .before .before .before .before .before .before .pairs-in-force .ensures .0) (c .before .before .before .before .before .before .copy-pairs .ensures) _ _ _ _ (sym (c .before .before .before .before .before .before .before .before .before .before .before .before .before .are-equal .ensures) ∙ c .before .before .before .before .before .before .before .before .before .before .before .before .if1 .left) refl (p .3) (c .before .before .join .ensures)
+returns-2 c = let p = c .before .before .before .before .before .before .before .before .before .before .before .before .before .before .before .before .before .before .pre in (merged-pairs _ _ _ _ _ (p .0) (c .before .before .before .before .before .before .before .before .pairs-in-force .ensures .0) (c .before .before .before .before .before .before .copy-pairs .ensures) _ _ _ _ (sym (c .before .before .before .before .before .before .before .before .before .before .before .before .before .are-equal .ensures) ∙ c .before .before .before .before .before .before .before .before .before .before .before .before .if1 .left) refl (p .3) (c .before .before .join .ensures), λ e. absurd (false≢true (sym (sym (c .before .before .before .before .before .before .before .before .before .before .before .before .before .are-equal .ensures) ∙ c .before .before .before .before .before .before .before .before .before .before .before .before .if1 .left) ∙ e)))
 
 pub merge-congruence-spec : {M : Type 1} → statement M
 merge-congruence-spec =
