@@ -28,11 +28,11 @@ pub T-both : (a b : Bool) → T a → T b → T (a && b)
 T-both true b s t = t
 T-both false b s t = absurd s
 
-cond-same : (b : Bool) → cond b false false ≡ false
+pub cond-same : (b : Bool) → cond b false false ≡ false
 cond-same true = refl
 cond-same false = refl
 
-cond-both : (b : Bool) → cond b true true ≡ true
+pub cond-both : (b : Bool) → cond b true true ≡ true
 cond-both true = refl
 cond-both false = refl
 

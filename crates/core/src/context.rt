@@ -13,10 +13,10 @@ ghost use Prim.Native.Nat.{_+_, _<_, _≤_};
 ghost use lib.ListN.{length, set};
 ghost use lib.Seq.{sets};
 ghost use Rattle.core.specs.Context.{empty-context, cut-terms, declare-sort, declare-fun, selectors-from, dt-add-constructor, builds, dt-tester, has-plain-fields, grounded, all-grounded, places, is-datatype-sort, symbol, children, sort-of};
-ghost use Rattle.core.specs.Table.{words, node-of, op-of, term-at, context, Sound, FindsApp, sealed, Appendable, Appended, sealed-symbol, SymbolRoom, SymbolAdded, SelectorRoom, SymbolsAdded, NextConstructor, sorts#, symbols#, terms#};
+ghost use Rattle.core.specs.Memory.Table.{words, node-of, op-of, term-at, context, ContextSound, FindsApp, sealed, Appendable, Appended, sealed-symbol, SymbolRoom, SymbolAdded, SelectorRoom, SymbolsAdded, NextConstructor, sorts#, symbols#, terms#};
 ghost use Rattle.core.specs.Lists.{same-list};
 ghost use Rattle.core.specs.Term.{same-term};
-ghost use Rattle.core.specs.Codes.{OpAt, RoleAt, AllBelow, MkApp, Declares, declared-node};
+ghost use Rattle.core.specs.Memory.Codes.{OpAt, RoleAt, AllBelow, MkApp, Declares, declared-node};
 ghost use Rattle.core.specs.Term as Term;
 ghost use mathlib.Core.List.{[], _∷_};
 
@@ -77,7 +77,7 @@ fn clear_counts(t: &mut [u32])
 // Whatever the table held, it is now that of an empty session.
 pub fn clear(t: &mut [u32])
     requires { ⌜ 16384 ≤ length (now t) ⌝ }
-    ensures { λ _. ⌜ Sound (now (t .exit)) × (context (now (t .exit)) ≡ empty-context) ⌝ }
+    ensures { λ _. ⌜ ContextSound (now (t .exit)) × (context (now (t .exit)) ≡ empty-context) ⌝ }
 {
     clear_counts(t);
     put(t, SORT, 0);
@@ -87,21 +87,21 @@ pub fn clear(t: &mut [u32])
 // ---- counts
 
 pub fn sort_count(t: &[u32]) -> usize
-    requires { ⌜ Sound (now t) ⌝ }
+    requires { ⌜ ContextSound (now t) ⌝ }
     ensures { λ r. ⌜ (r ≡ length (context (now (t .entry)) .sorts)) × (r ≤ 64) ⌝ }
 {
     get(t, SORTS)
 }
 
 pub fn symbol_count(t: &[u32]) -> usize
-    requires { ⌜ Sound (now t) ⌝ }
+    requires { ⌜ ContextSound (now t) ⌝ }
     ensures { λ r. ⌜ (r ≡ length (context (now (t .entry)) .symbols)) × (r ≤ 512) ⌝ }
 {
     get(t, SYMBOLS)
 }
 
 pub fn term_count(t: &[u32]) -> usize
-    requires { ⌜ Sound (now t) ⌝ }
+    requires { ⌜ ContextSound (now t) ⌝ }
     ensures { λ r. ⌜ (r ≡ length (context (now (t .entry)) .terms)) × (r ≤ 1024) ⌝ }
 {
     get(t, TERMS)
@@ -110,7 +110,7 @@ pub fn term_count(t: &[u32]) -> usize
 // ---- sorts and symbols
 
 pub fn is_datatype_sort(t: &[u32], s: SortId) -> bool
-    requires { ⌜ Sound (now t) × (s .0 < length (context (now t) .sorts)) ⌝ }
+    requires { ⌜ ContextSound (now t) × (s .0 < length (context (now t) .sorts)) ⌝ }
     ensures { λ r. ⌜ r ≡ is-datatype-sort (context (now (t .entry))) (s .0) ⌝ }
 {
     let i = s.0 as usize;
@@ -118,7 +118,7 @@ pub fn is_datatype_sort(t: &[u32], s: SortId) -> bool
 }
 
 pub fn result_sort(t: &[u32], f: SymbolId) -> SortId
-    requires { ⌜ Sound (now t) × (f .0 < length (context (now t) .symbols)) ⌝ }
+    requires { ⌜ ContextSound (now t) × (f .0 < length (context (now t) .symbols)) ⌝ }
     ensures { λ r. ⌜ (r .0 ≡ symbol (context (now (t .entry))) (f .0) .result) × (r .0 < length (context (now (t .entry)) .sorts)) ⌝ }
 {
     let i = f.0 as usize;
@@ -127,7 +127,7 @@ pub fn result_sort(t: &[u32], f: SymbolId) -> SortId
 
 // How many parameters a symbol has.
 pub fn arity(t: &[u32], f: SymbolId) -> usize
-    requires { ⌜ Sound (now t) × (f .0 < length (context (now t) .symbols)) ⌝ }
+    requires { ⌜ ContextSound (now t) × (f .0 < length (context (now t) .symbols)) ⌝ }
     ensures { λ r. ⌜ (r ≡ length (symbol (context (now (t .entry))) (f .0) .params)) × (r ≤ 16) ⌝ }
 {
     let i = f.0 as usize;
@@ -135,7 +135,7 @@ pub fn arity(t: &[u32], f: SymbolId) -> usize
 }
 
 pub fn fun_params(t: &[u32], f: SymbolId) -> &[u32]
-    requires { ⌜ Sound (now t) × (f .0 < length (context (now t) .symbols)) ⌝ }
+    requires { ⌜ ContextSound (now t) × (f .0 < length (context (now t) .symbols)) ⌝ }
     ensures { λ r. ⌜ now r ≡ symbol (context (now (t .entry))) (f .0) .params ⌝ }
 {
     let i = f.0 as usize;
@@ -145,7 +145,7 @@ pub fn fun_params(t: &[u32], f: SymbolId) -> &[u32]
 }
 
 pub fn dt_role(t: &[u32], f: SymbolId) -> DtRole
-    requires { ⌜ Sound (now t) × (f .0 < length (context (now t) .symbols)) ⌝ }
+    requires { ⌜ ContextSound (now t) × (f .0 < length (context (now t) .symbols)) ⌝ }
     ensures { λ r. ⌜ RoleAt (now (t .entry)) (f .0) r ⌝ }
 {
     let i = f.0 as usize;
@@ -155,7 +155,7 @@ pub fn dt_role(t: &[u32], f: SymbolId) -> DtRole
 // ---- terms
 
 pub fn op(t: &[u32], x: TermId) -> Op
-    requires { ⌜ Sound (now t) × (x .0 < length (context (now t) .terms)) ⌝ }
+    requires { ⌜ ContextSound (now t) × (x .0 < length (context (now t) .terms)) ⌝ }
     ensures { λ r. ⌜ OpAt (now (t .entry)) (x .0) r ⌝ }
 {
     let i = x.0 as usize;
@@ -164,7 +164,7 @@ pub fn op(t: &[u32], x: TermId) -> Op
 
 // The children of a term are the very stretch of the argument pool.
 pub fn children(t: &[u32], x: TermId) -> &[u32]
-    requires { ⌜ Sound (now t) × (x .0 < length (context (now t) .terms)) ⌝ }
+    requires { ⌜ ContextSound (now t) × (x .0 < length (context (now t) .terms)) ⌝ }
     ensures { λ r. ⌜ now r ≡ children (context (now (t .entry))) (x .0) ⌝ }
 {
     let i = x.0 as usize;
@@ -174,7 +174,7 @@ pub fn children(t: &[u32], x: TermId) -> &[u32]
 }
 
 pub fn sort_of(t: &[u32], x: TermId) -> SortId
-    requires { ⌜ Sound (now t) × (x .0 < length (context (now t) .terms)) ⌝ }
+    requires { ⌜ ContextSound (now t) × (x .0 < length (context (now t) .terms)) ⌝ }
     ensures { λ r. ⌜ (r .0 ≡ sort-of (context (now (t .entry))) (x .0)) × (r .0 < length (context (now (t .entry)) .sorts)) ⌝ }
 {
     match op(t, x) {
@@ -202,7 +202,7 @@ fn same_args(t: &[u32], at: usize, args: &[u32]) -> bool
 
 // Is term i the operation of a code over the given arguments? The operation is compared first.
 fn is_app(t: &[u32], i: usize, code: usize, args: &[u32]) -> bool
-    requires { ⌜ Sound (now t) × (i < terms# (now t)) ⌝ }
+    requires { ⌜ ContextSound (now t) × (i < terms# (now t)) ⌝ }
     ensures { λ r. ⌜ r ≡ same-term (op-of code) (now (args .entry)) (term-at (now (t .entry)) i) ⌝ }
 {
     if get(t, OP + i) != code {
@@ -218,7 +218,7 @@ fn is_app(t: &[u32], i: usize, code: usize, args: &[u32]) -> bool
 
 // The lowest term that is the operation of a code over the given arguments, or the number of terms if there is none.
 fn find_app(t: &[u32], code: usize, args: &[u32]) -> usize
-    requires { ⌜ Sound (now t) ⌝ }
+    requires { ⌜ ContextSound (now t) ⌝ }
     ensures { λ r. ⌜ FindsApp (now (t .entry)) code (now (args .entry)) r ⌝ }
 {
     let n = get(t, TERMS);
@@ -265,7 +265,7 @@ fn append_term(t: &mut [u32], n: usize, start: usize, code: usize, args: &[u32])
 
 // The term of a code over the given arguments: the old one, or a new one if there is room.
 fn intern(t: &mut [u32], code: usize, args: &[u32]) -> Made
-    requires { ⌜ Sound (now t) × (code ≤ symbols# (now t)) × AllBelow (terms# (now t)) (now args) ⌝ }
+    requires { ⌜ ContextSound (now t) × (code ≤ symbols# (now t)) × AllBelow (terms# (now t)) (now args) ⌝ }
     ensures { λ r. ⌜ MkApp (now (t .entry)) (op-of code) (now (args .entry)) r (now (t .exit)) ⌝ }
 {
     let n = get(t, TERMS);
@@ -285,7 +285,7 @@ fn intern(t: &mut [u32], code: usize, args: &[u32]) -> Made
 }
 
 pub fn mk_app(t: &mut [u32], f: SymbolId, args: &[u32]) -> Made
-    requires { ⌜ Sound (now t) × (f .0 < length (context (now t) .symbols)) × AllBelow (length (context (now t) .terms)) (now args) ⌝ }
+    requires { ⌜ ContextSound (now t) × (f .0 < length (context (now t) .symbols)) × AllBelow (length (context (now t) .terms)) (now args) ⌝ }
     ensures { λ r. ⌜ MkApp (now (t .entry)) (Term.Uninterpreted (f .0)) (now (args .entry)) r (now (t .exit)) ⌝ }
 {
     let code = f.0 as usize + 1;
@@ -293,7 +293,7 @@ pub fn mk_app(t: &mut [u32], f: SymbolId, args: &[u32]) -> Made
 }
 
 pub fn mk_eq(t: &mut [u32], a: TermId, b: TermId) -> Made
-    requires { ⌜ Sound (now t) × (a .0 < length (context (now t) .terms)) × (b .0 < length (context (now t) .terms)) ⌝ }
+    requires { ⌜ ContextSound (now t) × (a .0 < length (context (now t) .terms)) × (b .0 < length (context (now t) .terms)) ⌝ }
     ensures { λ r. ⌜ MkApp (now (t .entry)) Term.Eq (a .0 ∷ b .0 ∷ []) r (now (t .exit)) ⌝ }
 {
     let sides = [a.0, b.0];
@@ -304,8 +304,8 @@ pub fn mk_eq(t: &mut [u32], a: TermId, b: TermId) -> Made
 
 // Back to the first n terms: what a refused full check has made is given back.
 pub fn truncate(t: &mut [u32], n: usize)
-    requires { ⌜ Sound (now t) × (n ≤ length (context (now t) .terms)) ⌝ }
-    ensures { λ _. ⌜ Sound (now (t .exit)) × (context (now (t .exit)) ≡ cut-terms n (context (now (t .entry)))) ⌝ }
+    requires { ⌜ ContextSound (now t) × (n ≤ length (context (now t) .terms)) ⌝ }
+    ensures { λ _. ⌜ ContextSound (now (t .exit)) × (context (now (t .exit)) ≡ cut-terms n (context (now (t .entry)))) ⌝ }
 {
     put(t, TERMS, n);
 }
@@ -319,7 +319,7 @@ fn node_code(datatype: bool) -> usize
 }
 
 pub fn declare_sort(t: &mut [u32], datatype: bool) -> Declared
-    requires { ⌜ Sound (now t) ⌝ }
+    requires { ⌜ ContextSound (now t) ⌝ }
     ensures { λ r. ⌜ Declares (now (t .entry)) (declare-sort (context (now (t .entry))) (declared-node datatype)) r (now (t .exit)) ⌝ }
 {
     let n = get(t, SORTS);
@@ -352,7 +352,7 @@ fn add_symbol(t: &mut [u32], n: usize, owner: usize, result: usize, params: &[u3
 }
 
 pub fn declare_fun(t: &mut [u32], result: SortId, params: &[u32]) -> Declared
-    requires { ⌜ Sound (now t) × (result .0 < length (context (now t) .sorts)) × (length (now params) ≤ 16) × AllBelow (length (context (now t) .sorts)) (now params) ⌝ }
+    requires { ⌜ ContextSound (now t) × (result .0 < length (context (now t) .sorts)) × (length (now params) ≤ 16) × AllBelow (length (context (now t) .sorts)) (now params) ⌝ }
     ensures { λ r. ⌜ Declares (now (t .entry)) (declare-fun (context (now (t .entry))) (result .0) (now (params .entry))) r (now (t .exit)) ⌝ }
 {
     let n = get(t, SYMBOLS);
@@ -385,7 +385,7 @@ fn wide(x: u32) -> usize
 
 // A constructor takes symbols for itself, its tester and each selector, in this order.
 pub fn dt_add_constructor(t: &mut [u32], dt: SortId, fields: &[u32]) -> Declared
-    requires { ⌜ Sound (now t) × (dt .0 < length (context (now t) .sorts)) × (length (now fields) ≤ 16) × AllBelow (length (context (now t) .sorts)) (now fields) ⌝ }
+    requires { ⌜ ContextSound (now t) × (dt .0 < length (context (now t) .sorts)) × (length (now fields) ≤ 16) × AllBelow (length (context (now t) .sorts)) (now fields) ⌝ }
     ensures { λ r. ⌜ Declares (now (t .entry)) (dt-add-constructor (context (now (t .entry))) (dt .0) (now (fields .entry))) r (now (t .exit)) ⌝ }
 {
     let n = get(t, SYMBOLS);
@@ -404,7 +404,7 @@ pub fn dt_add_constructor(t: &mut [u32], dt: SortId, fields: &[u32]) -> Declared
 
 // Does symbol s build datatype dt?
 fn builds(t: &[u32], dt: usize, s: usize) -> bool
-    requires { ⌜ Sound (now t) × (s < symbols# (now t)) ⌝ }
+    requires { ⌜ ContextSound (now t) × (s < symbols# (now t)) ⌝ }
     ensures { λ r. ⌜ r ≡ builds (context (now (t .entry))) dt s ⌝ }
 {
     if get(t, OWNER + s) != s + 1 {
@@ -415,7 +415,7 @@ fn builds(t: &[u32], dt: usize, s: usize) -> bool
 
 // The lowest constructor of dt from symbol `from` on, or the number of symbols if there is none.
 pub fn next_constructor(t: &[u32], dt: SortId, from: usize) -> usize
-    requires { ⌜ Sound (now t) × (from ≤ length (context (now t) .symbols)) ⌝ }
+    requires { ⌜ ContextSound (now t) × (from ≤ length (context (now t) .symbols)) ⌝ }
     ensures { λ r. ⌜ NextConstructor (now (t .entry)) (dt .0) from r ⌝ }
 {
     let n = get(t, SYMBOLS);
@@ -449,7 +449,7 @@ pub fn first_selector(c: SymbolId) -> SymbolId
 
 // Has a symbol no datatype field?
 fn has_plain_fields(t: &[u32], s: usize) -> bool
-    requires { ⌜ Sound (now t) × (s < symbols# (now t)) ⌝ }
+    requires { ⌜ ContextSound (now t) × (s < symbols# (now t)) ⌝ }
     ensures { λ r. ⌜ r ≡ has-plain-fields (context (now (t .entry))) s ⌝ }
 {
     let n = get(t, ARITY + s);
@@ -466,7 +466,7 @@ fn has_plain_fields(t: &[u32], s: usize) -> bool
 
 // Has a datatype a constructor with no datatype field?
 fn grounded(t: &[u32], dt: usize) -> bool
-    requires { ⌜ Sound (now t) ⌝ }
+    requires { ⌜ ContextSound (now t) ⌝ }
     ensures { λ r. ⌜ r ≡ grounded (context (now (t .entry))) dt ⌝ }
 {
     let n = get(t, SYMBOLS);
@@ -484,7 +484,7 @@ fn grounded(t: &[u32], dt: usize) -> bool
 
 // Has each datatype a constructor with no datatype field?
 pub fn all_grounded(t: &[u32]) -> bool
-    requires { ⌜ Sound (now t) ⌝ }
+    requires { ⌜ ContextSound (now t) ⌝ }
     ensures { λ r. ⌜ r ≡ all-grounded (context (now (t .entry))) ⌝ }
 {
     let n = get(t, SORTS);
@@ -502,7 +502,7 @@ pub fn all_grounded(t: &[u32]) -> bool
 
 // How many argument places the terms take.
 pub fn place_count(t: &[u32]) -> usize
-    requires { ⌜ Sound (now t) ⌝ }
+    requires { ⌜ ContextSound (now t) ⌝ }
     ensures { λ r. ⌜ (r ≡ places (context (now (t .entry)))) × (r ≤ 4096) ⌝ }
 {
     let n = get(t, TERMS);

@@ -1,8 +1,9 @@
-// The words of a lent table. Everything above reads and writes through these two.
+// The words of a lent table.
 ghost use mathlib.Core.Path.{_≡_};
-ghost use Prim.Native.Nat.{_<_};
+ghost use Prim.Native.Nat.{_+_, _<_};
 ghost use lib.ListN.{length, set};
-ghost use Rattle.core.specs.Table.{word};
+ghost use Rattle.core.specs.Memory.Table.{word};
+ghost use Rattle.core.specs.Memory.Words.{at, put};
 
 pub fn get(t: &[u32], i: usize) -> usize
     requires { ⌜ i < length (now t) ⌝ }
@@ -16,4 +17,21 @@ pub fn put(t: &mut [u32], i: usize, v: usize)
     ensures { λ _. ⌜ now (t .exit) ≡ set (now (t .entry)) i v ⌝ }
 {
     t[i] = v as u32;
+}
+
+// ---- by region
+
+// Word i of the region that begins at base.
+pub fn get_at(t: &[u32], base: usize, i: usize) -> usize
+    requires { ⌜ base + i < length (now t) ⌝ }
+    ensures { λ r. ⌜ (r ≡ at (now (t .entry)) base i) × (r < 4294967296) ⌝ }
+{
+    t[base + i] as usize
+}
+
+pub fn put_at(t: &mut [u32], base: usize, i: usize, v: usize)
+    requires { ⌜ (base + i < length (now t)) × (v < 4294967296) ⌝ }
+    ensures { λ _. ⌜ now (t .exit) ≡ put (now (t .entry)) base i v ⌝ }
+{
+    t[base + i] = v as u32;
 }

@@ -3,8 +3,8 @@
 use crate::ids::SymbolId;
 ghost use mathlib.Core.Path.{_≡_};
 ghost use Prim.Native.Nat.{_+_, _≤_};
-ghost use Rattle.core.specs.Table.{op-of, role-of};
-ghost use Rattle.core.specs.Codes.{opIs, roleIs, OpBelow, RoleBelow};
+ghost use Rattle.core.specs.Memory.Table.{op-of, role-of};
+ghost use Rattle.core.specs.Memory.Codes.{op-meaning, role-meaning, OpBelow, RoleBelow};
 
 pub enum Op {
     Eq,
@@ -19,7 +19,7 @@ pub enum DtRole {
 }
 
 pub fn op_from(word: u32) -> Op
-    ensures { λ r. ⌜ (opIs r ≡ op-of word) × OpBelow word r ⌝ }
+    ensures { λ r. ⌜ (op-meaning r ≡ op-of word) × OpBelow word r ⌝ }
 {
     if word == 0 {
         Op::Eq
@@ -31,7 +31,7 @@ pub fn op_from(word: u32) -> Op
 // A constructor's tester stands right after it, then its selectors.
 pub fn role_from(symbol: u32, owner: u32) -> DtRole
     requires { ⌜ owner ≤ symbol + 1 ⌝ }
-    ensures { λ r. ⌜ (roleIs r ≡ role-of symbol owner) × RoleBelow (symbol + 1) r ⌝ }
+    ensures { λ r. ⌜ (role-meaning r ≡ role-of symbol owner) × RoleBelow (symbol + 1) r ⌝ }
 {
     if owner == 0 {
         return DtRole::Function;

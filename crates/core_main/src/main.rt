@@ -26,8 +26,8 @@ ghost use mathlib.Core.Path.{_≡_};
 ghost use Prim.Native.Nat.{_<_, _≤_};
 ghost use mathlib.Core.Bool.{true};
 ghost use lib.ListN.{length};
-ghost use Rattle.core.specs.Codes.{AllBelow};
-ghost use Rattle.core.specs.Table.{Sound};
+ghost use Rattle.core.specs.Memory.Codes.{AllBelow};
+ghost use Rattle.core.specs.Memory.Table.{ContextSound};
 
 // 9999 is given for a command that names something that is not there, 8888 for one for which there is no room.
 
@@ -60,15 +60,15 @@ fn all_below(xs: &[u32], n: usize) -> bool
 }
 
 fn sort(t: &mut [u32], datatype: bool) -> usize
-    requires { ⌜ Sound (now t) ⌝ }
-    ensures { λ _. ⌜ Sound (now (t .exit)) ⌝ }
+    requires { ⌜ ContextSound (now t) ⌝ }
+    ensures { λ _. ⌜ ContextSound (now (t .exit)) ⌝ }
 {
     declared(declare_sort(t, datatype))
 }
 
 fn constructor(t: &mut [u32], s: u32, fields: &[u32]) -> usize
-    requires { ⌜ Sound (now t) × (length (now fields) ≤ 16) ⌝ }
-    ensures { λ _. ⌜ Sound (now (t .exit)) ⌝ }
+    requires { ⌜ ContextSound (now t) × (length (now fields) ≤ 16) ⌝ }
+    ensures { λ _. ⌜ ContextSound (now (t .exit)) ⌝ }
 {
     let n = sort_count(t);
     if n <= s as usize {
@@ -82,8 +82,8 @@ fn constructor(t: &mut [u32], s: u32, fields: &[u32]) -> usize
 }
 
 fn function(t: &mut [u32], s: u32, params: &[u32]) -> usize
-    requires { ⌜ Sound (now t) × (length (now params) ≤ 16) ⌝ }
-    ensures { λ _. ⌜ Sound (now (t .exit)) ⌝ }
+    requires { ⌜ ContextSound (now t) × (length (now params) ≤ 16) ⌝ }
+    ensures { λ _. ⌜ ContextSound (now (t .exit)) ⌝ }
 {
     let n = sort_count(t);
     if n <= s as usize {
@@ -97,8 +97,8 @@ fn function(t: &mut [u32], s: u32, params: &[u32]) -> usize
 }
 
 fn app(t: &mut [u32], f: u32, args: &[u32]) -> usize
-    requires { ⌜ Sound (now t) ⌝ }
-    ensures { λ _. ⌜ Sound (now (t .exit)) ⌝ }
+    requires { ⌜ ContextSound (now t) ⌝ }
+    ensures { λ _. ⌜ ContextSound (now (t .exit)) ⌝ }
 {
     if symbol_count(t) <= f as usize {
         return 9999;
@@ -112,8 +112,8 @@ fn app(t: &mut [u32], f: u32, args: &[u32]) -> usize
 }
 
 fn equation(t: &mut [u32], x: u32, y: u32) -> usize
-    requires { ⌜ Sound (now t) ⌝ }
-    ensures { λ _. ⌜ Sound (now (t .exit)) ⌝ }
+    requires { ⌜ ContextSound (now t) ⌝ }
+    ensures { λ _. ⌜ ContextSound (now (t .exit)) ⌝ }
 {
     let n = term_count(t);
     if n <= x as usize {
@@ -127,8 +127,8 @@ fn equation(t: &mut [u32], x: u32, y: u32) -> usize
 
 // A symbol over its last term, again and again: how many terms there are then.
 fn tower(t: &mut [u32], f: u32, times: usize) -> usize
-    requires { ⌜ Sound (now t) ⌝ }
-    ensures { λ _. ⌜ Sound (now (t .exit)) ⌝ }
+    requires { ⌜ ContextSound (now t) ⌝ }
+    ensures { λ _. ⌜ ContextSound (now (t .exit)) ⌝ }
 {
     let mut i = 0;
     while i < times {
@@ -139,8 +139,8 @@ fn tower(t: &mut [u32], f: u32, times: usize) -> usize
 }
 
 fn grow(t: &mut [u32], f: u32)
-    requires { ⌜ Sound (now t) ⌝ }
-    ensures { λ _. ⌜ Sound (now (t .exit)) ⌝ }
+    requires { ⌜ ContextSound (now t) ⌝ }
+    ensures { λ _. ⌜ ContextSound (now (t .exit)) ⌝ }
 {
     let n = term_count(t);
     if 0 < n {
@@ -150,8 +150,8 @@ fn grow(t: &mut [u32], f: u32)
 }
 
 fn cut(t: &mut [u32], n: usize) -> usize
-    requires { ⌜ Sound (now t) ⌝ }
-    ensures { λ _. ⌜ Sound (now (t .exit)) ⌝ }
+    requires { ⌜ ContextSound (now t) ⌝ }
+    ensures { λ _. ⌜ ContextSound (now (t .exit)) ⌝ }
 {
     if term_count(t) < n {
         return 9999;
@@ -163,7 +163,7 @@ fn cut(t: &mut [u32], n: usize) -> usize
 // ---- what is asked
 
 fn role(t: &[u32], f: u32) -> usize
-    requires { ⌜ Sound (now t) ⌝ }
+    requires { ⌜ ContextSound (now t) ⌝ }
 {
     if symbol_count(t) <= f as usize {
         return 9999;
@@ -177,7 +177,7 @@ fn role(t: &[u32], f: u32) -> usize
 }
 
 fn sort_number(t: &[u32], x: u32) -> usize
-    requires { ⌜ Sound (now t) ⌝ }
+    requires { ⌜ ContextSound (now t) ⌝ }
 {
     if term_count(t) <= x as usize {
         return 9999;
@@ -187,7 +187,7 @@ fn sort_number(t: &[u32], x: u32) -> usize
 
 // The arguments of a term as one number, a digit pair for each.
 fn arguments(t: &[u32], x: u32) -> usize
-    requires { ⌜ Sound (now t) ⌝ }
+    requires { ⌜ ContextSound (now t) ⌝ }
 {
     if term_count(t) <= x as usize {
         return 9999;
@@ -206,7 +206,7 @@ fn folded(xs: &[u32]) -> usize {
 }
 
 fn datatype(t: &[u32], s: u32) -> usize
-    requires { ⌜ Sound (now t) ⌝ }
+    requires { ⌜ ContextSound (now t) ⌝ }
 {
     if sort_count(t) <= s as usize {
         return 9999;
@@ -215,7 +215,7 @@ fn datatype(t: &[u32], s: u32) -> usize
 }
 
 fn constructor_from(t: &[u32], s: u32, from: usize) -> usize
-    requires { ⌜ Sound (now t) ⌝ }
+    requires { ⌜ ContextSound (now t) ⌝ }
 {
     if symbol_count(t) < from {
         return 9999;
@@ -224,7 +224,7 @@ fn constructor_from(t: &[u32], s: u32, from: usize) -> usize
 }
 
 fn is_grounded(t: &[u32]) -> usize
-    requires { ⌜ Sound (now t) ⌝ }
+    requires { ⌜ ContextSound (now t) ⌝ }
 {
     if all_grounded(t) { 1 } else { 0 }
 }
@@ -232,8 +232,8 @@ fn is_grounded(t: &[u32]) -> usize
 // ---- the list
 
 fn change(t: &mut [u32], what: u32, a: u32, b: u32, list: &[u32]) -> usize
-    requires { ⌜ Sound (now t) × (length (now list) ≤ 16) ⌝ }
-    ensures { λ _. ⌜ Sound (now (t .exit)) ⌝ }
+    requires { ⌜ ContextSound (now t) × (length (now list) ≤ 16) ⌝ }
+    ensures { λ _. ⌜ ContextSound (now (t .exit)) ⌝ }
 {
     match what {
         1 => sort(t, a == 1),
@@ -247,7 +247,7 @@ fn change(t: &mut [u32], what: u32, a: u32, b: u32, list: &[u32]) -> usize
 }
 
 fn ask(t: &[u32], what: u32, a: u32, b: u32) -> usize
-    requires { ⌜ Sound (now t) ⌝ }
+    requires { ⌜ ContextSound (now t) ⌝ }
 {
     match what {
         10 => role(t, a),
@@ -463,8 +463,8 @@ fn print(n: usize) {
 }
 
 fn command(t: &mut [u32], i: usize)
-    requires { ⌜ Sound (now t) × (i < 48) ⌝ }
-    ensures { λ _. ⌜ Sound (now (t .exit)) ⌝ }
+    requires { ⌜ ContextSound (now t) × (i < 48) ⌝ }
+    ensures { λ _. ⌜ ContextSound (now (t .exit)) ⌝ }
 {
     let what = COMMANDS[4 * i];
     let a = COMMANDS[4 * i + 1];

@@ -3,8 +3,5 @@ pub mod Types
 pub mod EqEngine
 pub mod Atom
 pub mod Examples
-pub mod Table
-pub mod Answer
-pub mod Steps
-pub mod Explaining
-pub mod Registry
+-- How lent tables hold it, and what the functions on them promise one another.
+pub mod Memory

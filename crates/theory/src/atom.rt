@@ -9,7 +9,7 @@ ghost use Prim.Native.Nat.{_<_, _≤_};
 ghost use lib.ListN.{length};
 ghost use mathlib.Core.List.{[]};
 ghost use Rattle.theory.specs.Atom.{register, is-registered, atom, var-of-atom};
-ghost use Rattle.theory.specs.Registry.{atoms, RegistrySound, firstVarIs, noted-first};
+ghost use Rattle.theory.specs.Memory.Registry.{atoms, RegistrySound, first-var-meaning, noted-first};
 
 // The layout of the table (specs/Registry.antt): how many variables, the variables as registered, for each variable one more than its
 // atom, for each atom one more than its first variable.
@@ -53,7 +53,7 @@ pub fn atom(t: &[u32], v: Var) -> TermId
 // The variable that an atom was first registered as.
 pub fn var_of_atom(t: &[u32], x: TermId) -> FirstVar
     requires { ⌜ RegistrySound (now t) × (x .0 < 1024) ⌝ }
-    ensures { λ r. ⌜ firstVarIs r ≡ var-of-atom (atoms (now (t .entry))) (x .0) ⌝ }
+    ensures { λ r. ⌜ first-var-meaning r ≡ var-of-atom (atoms (now (t .entry))) (x .0) ⌝ }
 {
     let i = x.0 as usize;
     let w = get(t, FIRST + i);

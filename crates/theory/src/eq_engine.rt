@@ -14,10 +14,10 @@ ghost use lib.ListN.{length, set};
 ghost use Rattle.core.specs.Lists.{zip};
 ghost use Rattle.theory.specs.Types.{Congruence};
 ghost use Rattle.theory.specs.EqEngine.{lower, higher, find, are-equal, merge, pop-merges, pairs-of, pairs-in-force, before, common, way, same-pair, explain, firsts-after};
-ghost use Rattle.theory.specs.Table.{merges#, parent-word, size-word, left-word, right-word, pair-at, label, just-at, merges-below, merges, end, justIs, EqualPairs, level, Sound, Engine};
-ghost use Rattle.theory.specs.Answer.{leaves, AnswerSound};
-ghost use Rattle.theory.specs.Steps.{On, Rerooted, Spliced, United, Logged, Joinable, HoldsLabel, Copied, Separated, newest-above};
-ghost use Rattle.theory.specs.Explaining.{expand-label, expand-steps, expand-pairs, expand-new, pairs-from, age, pairs-age, steps-age, Explaining, Goes, MarksPair, EqualPair};
+ghost use Rattle.theory.specs.Memory.Table.{merges#, parent-word, size-word, left-word, right-word, pair-at, label, just-at, merges-below, merges, end, just-meaning, EqualPairs, level, EngineSound, Engine};
+ghost use Rattle.theory.specs.Memory.Answer.{leaves, AnswerSound};
+ghost use Rattle.theory.specs.Memory.Steps.{On, Rerooted, Spliced, United, Logged, Joinable, HoldsLabel, Copied, Separated, newest-above};
+ghost use Rattle.theory.specs.Memory.Explaining.{expand-label, expand-steps, expand-pairs, expand-new, pairs-from, age, pairs-age, steps-age, Explaining, Goes, MarksPair, EqualPair};
 
 // ---- the layout of the table (specs/Table.antt)
 
@@ -65,7 +65,7 @@ const RIGHT: usize = 13376;
 
 // Up the parents to the root of a class.
 fn root(t: &[u32], node: usize) -> usize
-    requires { ⌜ Sound (now t) × (node < 1024) ⌝ }
+    requires { ⌜ EngineSound (now t) × (node < 1024) ⌝ }
     ensures { λ r. ⌜ (r ≡ find (merges (now (t .entry))) node) × (r < 1024) ⌝ }
 {
     let mut n = node;
@@ -79,14 +79,14 @@ fn root(t: &[u32], node: usize) -> usize
 
 // Class representative.
 pub fn find(t: &[u32], n: TermId) -> TermId
-    requires { ⌜ Sound (now t) × (n .0 < 1024) ⌝ }
+    requires { ⌜ EngineSound (now t) × (n .0 < 1024) ⌝ }
     ensures { λ r. ⌜ (r .0 ≡ find (merges (now (t .entry))) (n .0)) × (r .0 < 1024) ⌝ }
 {
     TermId(root(t, n.0 as usize) as u32)
 }
 
 pub fn are_equal(t: &[u32], a: TermId, b: TermId) -> bool
-    requires { ⌜ Sound (now t) × (a .0 < 1024) × (b .0 < 1024) ⌝ }
+    requires { ⌜ EngineSound (now t) × (a .0 < 1024) × (b .0 < 1024) ⌝ }
     ensures { λ r. ⌜ r ≡ are-equal (merges (now (t .entry))) (a .0) (b .0) ⌝ }
 {
     let x = a.0 as usize;
@@ -122,14 +122,14 @@ pub fn clear(t: &mut [u32])
 
 // How many pushes are open.
 pub fn level(t: &[u32]) -> usize
-    requires { ⌜ Sound (now t) ⌝ }
+    requires { ⌜ EngineSound (now t) ⌝ }
     ensures { λ r. ⌜ (r ≡ level (now (t .entry))) × (r ≤ 64) ⌝ }
 {
     get(t, LEVEL)
 }
 
 pub fn push(t: &mut [u32])
-    requires { ⌜ Sound (now t) × (level (now t) < 64) ⌝ }
+    requires { ⌜ EngineSound (now t) × (level (now t) < 64) ⌝ }
     ensures { λ _. ⌜ Engine (now (t .exit)) (merges (now (t .entry))) (suc (level (now (t .entry)))) ⌝ }
 {
     let n = get(t, LEVEL);
@@ -140,7 +140,7 @@ pub fn push(t: &mut [u32])
 
 // Forest root of a node, distinct from the class representative.
 fn forest_root(t: &[u32], node: usize) -> usize
-    requires { ⌜ Sound (now t) × (node < 1024) ⌝ }
+    requires { ⌜ EngineSound (now t) × (node < 1024) ⌝ }
     ensures { λ r. ⌜ (r ≡ end node (way (merges (now (t .entry))) node)) × (r < 1024) ⌝ }
 {
     let mut n = node;
@@ -154,7 +154,7 @@ fn forest_root(t: &[u32], node: usize) -> usize
 
 // Turns the way from a node up to top, a node above it: the node becomes a root.
 fn reroot_forest(t: &mut [u32], node: usize, top: usize)
-    requires { ⌜ Sound (now t) × (node < 1024) × On top node (way (merges (now t)) node) ⌝ }
+    requires { ⌜ EngineSound (now t) × (node < 1024) × On top node (way (merges (now t)) node) ⌝ }
     ensures { λ _. ⌜ Rerooted (now (t .entry)) (now (t .exit)) node (before top (way (merges (now (t .entry))) node)) ⌝ }
 {
     let mut prev = node;
@@ -174,7 +174,7 @@ fn reroot_forest(t: &mut [u32], node: usize, top: usize)
 
 // How many argument pairs are in force: the newest merge says it.
 pub fn pairs_in_force(t: &[u32]) -> usize
-    requires { ⌜ Sound (now t) ⌝ }
+    requires { ⌜ EngineSound (now t) ⌝ }
     ensures { λ r. ⌜ (r ≡ pairs-in-force (merges (now (t .entry)))) × (r ≤ 2048) ⌝ }
 {
     let n = get(t, COUNT);
@@ -188,7 +188,7 @@ pub fn pairs_in_force(t: &[u32]) -> usize
 
 // One new forest edge joins the two terms: the tree of a is turned to hang from a under b.
 fn splice(t: &mut [u32], a: usize, b: usize, i: usize)
-    requires { ⌜ Sound (now t) × (a < 1024) × (b < 1024) × (i < 1024) ⌝ }
+    requires { ⌜ EngineSound (now t) × (a < 1024) × (b < 1024) × (i < 1024) ⌝ }
     ensures { λ _. ⌜ Spliced (now (t .entry)) (now (t .exit)) a b i ⌝ }
 {
     let r = forest_root(t, a);
@@ -235,7 +235,7 @@ fn log(t: &mut [u32], i: usize, a: usize, b: usize, word: usize, value: usize, a
 
 // Joins two classes under a label of the present level.
 fn join(t: &mut [u32], a: usize, b: usize, kind: usize, theory: usize, value: usize, after: usize)
-    requires { ⌜ Sound (now t) × Joinable (now t) a b kind theory value after ⌝ }
+    requires { ⌜ EngineSound (now t) × Joinable (now t) a b kind theory value after ⌝ }
     ensures { λ _. ⌜ Engine (now (t .exit)) (record { a = a; b = b; just = label (now (t .entry)) kind theory value after; level = level (now (t .entry)) } ∷ merges (now (t .entry))) (level (now (t .entry))) ⌝ }
 {
     let i = get(t, COUNT);
@@ -282,8 +282,8 @@ fn label_words(j: EqJust) -> LabelWords
 
 // Joins the classes of two terms under a label; within one class it does nothing.
 pub fn merge(t: &mut [u32], a: TermId, b: TermId, j: EqJust)
-    requires { ⌜ Sound (now t) × (a .0 < 1024) × (b .0 < 1024) ⌝ }
-    ensures { λ _. ⌜ Engine (now (t .exit)) (merge (merges (now (t .entry))) (level (now (t .entry))) (a .0) (b .0) (justIs j)) (level (now (t .entry))) × (are-equal (merges (now (t .entry))) (a .0) (b .0) ≡ true → now (t .exit) ≡ now (t .entry)) ⌝ }
+    requires { ⌜ EngineSound (now t) × (a .0 < 1024) × (b .0 < 1024) ⌝ }
+    ensures { λ _. ⌜ Engine (now (t .exit)) (merge (merges (now (t .entry))) (level (now (t .entry))) (a .0) (b .0) (just-meaning j)) (level (now (t .entry))) × (are-equal (merges (now (t .entry))) (a .0) (b .0) ≡ true → now (t .exit) ≡ now (t .entry)) ⌝ }
 {
     if are_equal(t, a, b) {
         return;
@@ -313,7 +313,7 @@ fn copy_pairs(t: &mut [u32], start: usize, xs: &[u32], ys: &[u32])
 
 // Like `merge`, but the label is all argument pairs of the two applications, in order. Within one class no pairs are taken.
 pub fn merge_congruence(t: &mut [u32], a: TermId, b: TermId, xs: &[u32], ys: &[u32])
-    requires { ⌜ Sound (now t) × (a .0 < 1024) × (b .0 < 1024) × (length (now xs) ≡ length (now ys)) × EqualPairs (merges (now t)) (zip (now xs) (now ys)) × (pairs-in-force (merge (merges (now t)) (level (now t)) (a .0) (b .0) (Congruence (zip (now xs) (now ys)))) ≤ 2048) ⌝ }
+    requires { ⌜ EngineSound (now t) × (a .0 < 1024) × (b .0 < 1024) × (length (now xs) ≡ length (now ys)) × EqualPairs (merges (now t)) (zip (now xs) (now ys)) × (pairs-in-force (merge (merges (now t)) (level (now t)) (a .0) (b .0) (Congruence (zip (now xs) (now ys)))) ≤ 2048) ⌝ }
     ensures { λ _. ⌜ Engine (now (t .exit)) (merge (merges (now (t .entry))) (level (now (t .entry))) (a .0) (b .0) (Congruence (zip (now (xs .entry)) (now (ys .entry))))) (level (now (t .entry))) × (are-equal (merges (now (t .entry))) (a .0) (b .0) ≡ true → now (t .exit) ≡ now (t .entry)) ⌝ }
 {
     if are_equal(t, a, b) {
@@ -343,8 +343,8 @@ fn separate(t: &mut [u32], low: usize)
 
 // The newest merge is taken back: the way from the old root of the first side's tree is turned again.
 fn undo(t: &mut [u32])
-    requires { ⌜ Sound (now t) × (0 < merges# (now t)) ⌝ }
-    ensures { λ _. ⌜ Sound (now (t .exit)) × (suc (merges# (now (t .exit))) ≡ merges# (now (t .entry))) × (merges (now (t .exit)) ≡ merges-below (now (t .entry)) (merges# (now (t .exit)))) × (level (now (t .exit)) ≡ level (now (t .entry))) ⌝ }
+    requires { ⌜ EngineSound (now t) × (0 < merges# (now t)) ⌝ }
+    ensures { λ _. ⌜ EngineSound (now (t .exit)) × (suc (merges# (now (t .exit))) ≡ merges# (now (t .entry))) × (merges (now (t .exit)) ≡ merges-below (now (t .entry)) (merges# (now (t .exit)))) × (level (now (t .exit)) ≡ level (now (t .entry))) ⌝ }
 {
     let i = get(t, COUNT) - 1;
     let a = get(t, SIDE_A + i);
@@ -356,7 +356,7 @@ fn undo(t: &mut [u32])
 }
 
 fn newest_above(t: &[u32], level: usize) -> bool
-    requires { ⌜ Sound (now t) ⌝ }
+    requires { ⌜ EngineSound (now t) ⌝ }
     ensures { λ r. ⌜ r ≡ newest-above level (merges (now (t .entry))) ⌝ }
 {
     let n = get(t, COUNT);
@@ -367,8 +367,8 @@ fn newest_above(t: &[u32], level: usize) -> bool
 }
 
 fn undo_above(t: &mut [u32], to: usize)
-    requires { ⌜ Sound (now t) ⌝ }
-    ensures { λ _. ⌜ Sound (now (t .exit)) × (merges (now (t .exit)) ≡ pop-merges to (merges (now (t .entry)))) × (newest-above to (merges (now (t .exit))) ≡ false) × (level (now (t .exit)) ≡ level (now (t .entry))) ⌝ }
+    requires { ⌜ EngineSound (now t) ⌝ }
+    ensures { λ _. ⌜ EngineSound (now (t .exit)) × (merges (now (t .exit)) ≡ pop-merges to (merges (now (t .entry)))) × (newest-above to (merges (now (t .exit))) ≡ false) × (level (now (t .exit)) ≡ level (now (t .entry))) ⌝ }
 {
     while newest_above(t, to) {
         undo(t);
@@ -377,8 +377,8 @@ fn undo_above(t: &mut [u32], to: usize)
 
 // Back to a level: classes, sizes, forest and pairs as they were. At or above the present level nothing changes.
 pub fn pop(t: &mut [u32], to: usize)
-    requires { ⌜ Sound (now t) ⌝ }
-    ensures { λ _. ⌜ Sound (now (t .exit)) × (merges (now (t .exit)) ≡ pop-merges to (merges (now (t .entry)))) × (level (now (t .exit)) ≡ cond (leb (level (now (t .entry))) to) (level (now (t .entry))) to) × (level (now (t .entry)) ≤ to → now (t .exit) ≡ now (t .entry)) ⌝ }
+    requires { ⌜ EngineSound (now t) ⌝ }
+    ensures { λ _. ⌜ EngineSound (now (t .exit)) × (merges (now (t .exit)) ≡ pop-merges to (merges (now (t .entry)))) × (level (now (t .exit)) ≡ cond (leb (level (now (t .entry))) to) (level (now (t .entry))) to) × (level (now (t .entry)) ≤ to → now (t .exit) ≡ now (t .entry)) ⌝ }
 {
     if get(t, LEVEL) <= to {
         return;
@@ -391,7 +391,7 @@ pub fn pop(t: &mut [u32], to: usize)
 
 // How many edges lie between a node and the root of its tree in the proof forest.
 fn forest_depth(t: &[u32], node: usize) -> usize
-    requires { ⌜ Sound (now t) × (node < 1024) ⌝ }
+    requires { ⌜ EngineSound (now t) × (node < 1024) ⌝ }
     ensures { λ r. ⌜ r ≡ length (way (merges (now (t .entry))) node) ⌝ }
 {
     let mut n = node;
@@ -407,7 +407,7 @@ fn forest_depth(t: &[u32], node: usize) -> usize
 
 // The nearest common ancestor of two equal nodes: the deeper one goes up, at one depth the first, until both are one.
 fn forest_nca(t: &[u32], a: usize, b: usize) -> usize
-    requires { ⌜ Sound (now t) × (a < 1024) × (b < 1024) × (are-equal (merges (now t)) a b ≡ true) ⌝ }
+    requires { ⌜ EngineSound (now t) × (a < 1024) × (b < 1024) × (are-equal (merges (now t)) a b ≡ true) ⌝ }
     ensures { λ r. ⌜ r ≡ common a (way (merges (now (t .entry))) a) b (way (merges (now (t .entry))) b) ⌝ }
 {
     let mut x = a;
@@ -460,7 +460,7 @@ fn mark_pair(t: &[u32], a: usize, b: usize, j: usize, marks: &mut [u32])
 
 // Marks each argument pair in force that is the pair of a and b.
 fn mark_pairs(t: &[u32], a: usize, b: usize, marks: &mut [u32])
-    requires { ⌜ Sound (now t) × (2048 ≤ length (now marks)) ⌝ }
+    requires { ⌜ EngineSound (now t) × (2048 ≤ length (now marks)) ⌝ }
     ensures { λ _. ⌜ MarksPair (now (t .entry)) a b (now (marks .entry)) (now (marks .exit)) ⌝ }
 {
     let n = pairs_in_force(t);
@@ -538,7 +538,7 @@ fn expand_pair(t: &[u32], j: usize, marks: &mut [u32], out: &mut [u32])
 
 // Appends the leaves that the equality of two terms rests on, each once.
 pub fn explain(t: &[u32], a: TermId, b: TermId, out: &mut [u32])
-    requires { ⌜ Sound (now t) × (a .0 < 1024) × (b .0 < 1024) × (are-equal (merges (now t)) (a .0) (b .0) ≡ true) × AnswerSound (merges (now t)) (now out) ⌝ }
+    requires { ⌜ EngineSound (now t) × (a .0 < 1024) × (b .0 < 1024) × (are-equal (merges (now t)) (a .0) (b .0) ≡ true) × AnswerSound (merges (now t)) (now out) ⌝ }
     ensures { λ _. ⌜ AnswerSound (merges (now (t .entry))) (now (out .exit)) × (leaves (now (out .exit)) ≡ leaves (now (out .entry)) ++ firsts-after (leaves (now (out .entry))) (explain (merges (now (t .entry))) (a .0) (b .0))) ⌝ }
 {
     let x = a.0 as usize;

@@ -10,7 +10,7 @@ ghost use Prim.Native.Nat.{_<_, _≤_};
 ghost use lib.ListN.{length};
 ghost use Rattle.core.specs.Lists.{any};
 ghost use Rattle.theory.specs.Types.{same-leaf};
-ghost use Rattle.theory.specs.Answer.{leaves#, leaf-of, leaf-at, leaves};
+ghost use Rattle.theory.specs.Memory.Answer.{leaves#, leaf-of, leaf-at, leaves};
 
 // The leaf of another theory: which one, and a tag of its own.
 pub struct TheoryJust {

@@ -20,9 +20,9 @@ ghost use mathlib.Core.List.{[], _∷_};
 ghost use Prim.Native.Nat.{_<_, _≤_};
 ghost use lib.ListN.{length};
 ghost use Rattle.core.specs.Lists.{zip};
-ghost use Rattle.theory.specs.Answer.{AnswerSound};
+ghost use Rattle.theory.specs.Memory.Answer.{AnswerSound};
 ghost use Rattle.theory.specs.EqEngine.{are-equal};
-ghost use Rattle.theory.specs.Table.{merges, EqualPairs, Sound};
+ghost use Rattle.theory.specs.Memory.Table.{merges, EqualPairs, EngineSound};
 
 // ---- the generator: word 0 is the last number drawn, word 1 the checksum
 
@@ -42,7 +42,7 @@ fn note(g: &mut [u64; 2], v: usize) {
 
 // How many merges are in force, the level, and how many argument pairs are in force.
 fn note_state(t: &[u32], g: &mut [u64; 2])
-    requires { ⌜ Sound (now t) ⌝ }
+    requires { ⌜ EngineSound (now t) ⌝ }
 {
     note(g, get(t, 0));
     note(g, level(t));
@@ -131,7 +131,7 @@ struct Equals {
 
 // Two nodes where they are equal now; otherwise the first and itself.
 fn equal_or_self(t: &[u32], x: u32, y: u32) -> Equals
-    requires { ⌜ Sound (now t) × (x < 1024) × (y < 1024) ⌝ }
+    requires { ⌜ EngineSound (now t) × (x < 1024) × (y < 1024) ⌝ }
     ensures { λ r. ⌜ (are-equal (merges (now (t .entry))) (r .x) (r .y) ≡ true) × (r .x < 1024) × (r .y < 1024) ⌝ }
 {
     if are_equal(t, TermId(x), TermId(y)) {
@@ -151,7 +151,7 @@ fn another(g: &mut [u64; 2], n: u32, x: u32) -> u32
 
 // Two equal nodes: some are tried, then a node and itself.
 fn pick(t: &[u32], g: &mut [u64; 2], n: u32) -> Equals
-    requires { ⌜ Sound (now t) × (1 < n) × (n ≤ 1024) ⌝ }
+    requires { ⌜ EngineSound (now t) × (1 < n) × (n ≤ 1024) ⌝ }
     ensures { λ r. ⌜ (are-equal (merges (now (t .entry))) (r .x) (r .y) ≡ true) × (r .x < 1024) × (r .y < 1024) ⌝ }
 {
     let x = draw(g, n);
@@ -168,8 +168,8 @@ fn pick(t: &[u32], g: &mut [u64; 2], n: u32) -> Equals
 }
 
 fn one_up(t: &mut [u32])
-    requires { ⌜ Sound (now t) ⌝ }
-    ensures { λ _. ⌜ Sound (now (t .exit)) ⌝ }
+    requires { ⌜ EngineSound (now t) ⌝ }
+    ensures { λ _. ⌜ EngineSound (now (t .exit)) ⌝ }
 {
     if level(t) < 64 {
         push(t);
@@ -178,8 +178,8 @@ fn one_up(t: &mut [u32])
 
 // To a level below, at or above the present one.
 fn back(t: &mut [u32], g: &mut [u64; 2])
-    requires { ⌜ Sound (now t) ⌝ }
-    ensures { λ _. ⌜ Sound (now (t .exit)) ⌝ }
+    requires { ⌜ EngineSound (now t) ⌝ }
+    ensures { λ _. ⌜ EngineSound (now (t .exit)) ⌝ }
 {
     let now = level(t) as u32;
     let to = draw(g, now + 3);
@@ -187,8 +187,8 @@ fn back(t: &mut [u32], g: &mut [u64; 2])
 }
 
 fn by_literal(t: &mut [u32], g: &mut [u64; 2], n: u32)
-    requires { ⌜ Sound (now t) × (1 < n) × (n ≤ 1024) ⌝ }
-    ensures { λ _. ⌜ Sound (now (t .exit)) ⌝ }
+    requires { ⌜ EngineSound (now t) × (1 < n) × (n ≤ 1024) ⌝ }
+    ensures { λ _. ⌜ EngineSound (now (t .exit)) ⌝ }
 {
     let a = draw(g, n);
     let b = draw(g, n);
@@ -198,8 +198,8 @@ fn by_literal(t: &mut [u32], g: &mut [u64; 2], n: u32)
 
 // Theories and tags come from both ends of what fits.
 fn by_interface(t: &mut [u32], g: &mut [u64; 2], n: u32)
-    requires { ⌜ Sound (now t) × (1 < n) × (n ≤ 1024) ⌝ }
-    ensures { λ _. ⌜ Sound (now (t .exit)) ⌝ }
+    requires { ⌜ EngineSound (now t) × (1 < n) × (n ≤ 1024) ⌝ }
+    ensures { λ _. ⌜ EngineSound (now (t .exit)) ⌝ }
 {
     let a = draw(g, n);
     let b = draw(g, n);
@@ -214,8 +214,8 @@ fn by_interface(t: &mut [u32], g: &mut [u64; 2], n: u32)
 
 // Refused where there is no room for the pairs.
 fn join(t: &mut [u32], g: &mut [u64; 2], a: u32, b: u32, xs: &[u32], ys: &[u32])
-    requires { ⌜ Sound (now t) × (a < 1024) × (b < 1024) × (length (now xs) ≡ length (now ys)) × (length (now xs) ≤ 3) × EqualPairs (merges (now t)) (zip (now xs) (now ys)) ⌝ }
-    ensures { λ _. ⌜ Sound (now (t .exit)) ⌝ }
+    requires { ⌜ EngineSound (now t) × (a < 1024) × (b < 1024) × (length (now xs) ≡ length (now ys)) × (length (now xs) ≤ 3) × EqualPairs (merges (now t)) (zip (now xs) (now ys)) ⌝ }
+    ensures { λ _. ⌜ EngineSound (now (t .exit)) ⌝ }
 {
     if pairs_in_force(t) + xs.len() <= 2048 {
         merge_congruence(t, TermId(a), TermId(b), xs, ys);
@@ -235,8 +235,8 @@ fn join_by(
     r: Equals,
     k: usize,
 )
-    requires { ⌜ Sound (now t) × (a < 1024) × (b < 1024) × (k ≤ 3) × EqualPairs (merges (now t)) ((p .x, p .y) ∷ (q .x, q .y) ∷ (r .x, r .y) ∷ []) ⌝ }
-    ensures { λ _. ⌜ Sound (now (t .exit)) ⌝ }
+    requires { ⌜ EngineSound (now t) × (a < 1024) × (b < 1024) × (k ≤ 3) × EqualPairs (merges (now t)) ((p .x, p .y) ∷ (q .x, q .y) ∷ (r .x, r .y) ∷ []) ⌝ }
+    ensures { λ _. ⌜ EngineSound (now (t .exit)) ⌝ }
 {
     let xs = [p.x, q.x, r.x];
     let ys = [p.y, q.y, r.y];
@@ -245,8 +245,8 @@ fn join_by(
 
 // From least to 3 argument pairs.
 fn by_congruence(t: &mut [u32], g: &mut [u64; 2], n: u32, least: u32)
-    requires { ⌜ Sound (now t) × (1 < n) × (n ≤ 1024) × (least ≤ 3) ⌝ }
-    ensures { λ _. ⌜ Sound (now (t .exit)) ⌝ }
+    requires { ⌜ EngineSound (now t) × (1 < n) × (n ≤ 1024) × (least ≤ 3) ⌝ }
+    ensures { λ _. ⌜ EngineSound (now (t .exit)) ⌝ }
 {
     let k = least + draw(g, 4 - least);
     let a = draw(g, n);
@@ -259,7 +259,7 @@ fn by_congruence(t: &mut [u32], g: &mut [u64; 2], n: u32, least: u32)
 
 // The parent of a node in the union-find, the size of the class under it, and whether another node equals it.
 fn ask(t: &[u32], g: &mut [u64; 2], n: u32)
-    requires { ⌜ Sound (now t) × (1 < n) × (n ≤ 1024) ⌝ }
+    requires { ⌜ EngineSound (now t) × (1 < n) × (n ≤ 1024) ⌝ }
 {
     let a = draw(g, n);
     let b = draw(g, n);
@@ -275,7 +275,7 @@ fn ask(t: &[u32], g: &mut [u64; 2], n: u32)
 
 // Appends an explanation where the draw says so.
 fn explain_more(t: &[u32], p: Equals, drawn: u32, out: &mut [u32])
-    requires { ⌜ Sound (now t) × (are-equal (merges (now t)) (p .x) (p .y) ≡ true) × (p .x < 1024) × (p .y < 1024) × AnswerSound (merges (now t)) (now out) ⌝ }
+    requires { ⌜ EngineSound (now t) × (are-equal (merges (now t)) (p .x) (p .y) ≡ true) × (p .x < 1024) × (p .y < 1024) × AnswerSound (merges (now t)) (now out) ⌝ }
 {
     if drawn == 0 {
         explain(t, TermId(p.x), TermId(p.y), out);
@@ -284,7 +284,7 @@ fn explain_more(t: &[u32], p: Equals, drawn: u32, out: &mut [u32])
 
 // Sometimes the explanation of a second pair follows that of the first in one list.
 fn explain_both(t: &[u32], p: Equals, q: Equals, drawn: u32, out: &mut [u32])
-    requires { ⌜ Sound (now t) × (are-equal (merges (now t)) (p .x) (p .y) ≡ true) × (p .x < 1024) × (p .y < 1024) × (are-equal (merges (now t)) (q .x) (q .y) ≡ true) × (q .x < 1024) × (q .y < 1024) × (2049 ≤ length (now out)) ⌝ }
+    requires { ⌜ EngineSound (now t) × (are-equal (merges (now t)) (p .x) (p .y) ≡ true) × (p .x < 1024) × (p .y < 1024) × (are-equal (merges (now t)) (q .x) (q .y) ≡ true) × (q .x < 1024) × (q .y < 1024) × (2049 ≤ length (now out)) ⌝ }
 {
     clear_leaves(out);
     explain(t, TermId(p.x), TermId(p.y), out);
@@ -293,7 +293,7 @@ fn explain_both(t: &[u32], p: Equals, q: Equals, drawn: u32, out: &mut [u32])
 }
 
 fn ask_why(t: &[u32], g: &mut [u64; 2], n: u32, out: &mut [u32])
-    requires { ⌜ Sound (now t) × (1 < n) × (n ≤ 1024) × (2049 ≤ length (now out)) ⌝ }
+    requires { ⌜ EngineSound (now t) × (1 < n) × (n ≤ 1024) × (2049 ≤ length (now out)) ⌝ }
 {
     let p = pick(t, g, n);
     let q = pick(t, g, n);
@@ -317,8 +317,8 @@ struct Phase {
 }
 
 fn command(t: &mut [u32], g: &mut [u64; 2], out: &mut [u32], p: Phase)
-    requires { ⌜ Sound (now t) × (2049 ≤ length (now out)) × (1 < p .nodes) × (p .nodes ≤ 1024) × (p .least ≤ 3) ⌝ }
-    ensures { λ _. ⌜ Sound (now (t .exit)) ⌝ }
+    requires { ⌜ EngineSound (now t) × (2049 ≤ length (now out)) × (1 < p .nodes) × (p .nodes ≤ 1024) × (p .least ≤ 3) ⌝ }
+    ensures { λ _. ⌜ EngineSound (now (t .exit)) ⌝ }
 {
     let n = p.nodes;
     let what = draw(g, 100);
@@ -340,8 +340,8 @@ fn command(t: &mut [u32], g: &mut [u64; 2], out: &mut [u32], p: Phase)
 }
 
 fn hundred(t: &mut [u32], g: &mut [u64; 2], out: &mut [u32], p: Phase)
-    requires { ⌜ Sound (now t) × (2049 ≤ length (now out)) × (1 < p .nodes) × (p .nodes ≤ 1024) × (p .least ≤ 3) ⌝ }
-    ensures { λ _. ⌜ Sound (now (t .exit)) ⌝ }
+    requires { ⌜ EngineSound (now t) × (2049 ≤ length (now out)) × (1 < p .nodes) × (p .nodes ≤ 1024) × (p .least ≤ 3) ⌝ }
+    ensures { λ _. ⌜ EngineSound (now (t .exit)) ⌝ }
 {
     let mut i = 0usize;
     while i < 100 {
@@ -353,8 +353,8 @@ fn hundred(t: &mut [u32], g: &mut [u64; 2], out: &mut [u32], p: Phase)
 }
 
 fn run(t: &mut [u32], g: &mut [u64; 2], out: &mut [u32], p: Phase, hundreds: usize)
-    requires { ⌜ Sound (now t) × (2049 ≤ length (now out)) × (1 < p .nodes) × (p .nodes ≤ 1024) × (p .least ≤ 3) ⌝ }
-    ensures { λ _. ⌜ Sound (now (t .exit)) ⌝ }
+    requires { ⌜ EngineSound (now t) × (2049 ≤ length (now out)) × (1 < p .nodes) × (p .nodes ≤ 1024) × (p .least ≤ 3) ⌝ }
+    ensures { λ _. ⌜ EngineSound (now (t .exit)) ⌝ }
 {
     let mut i = 0;
     while i < hundreds {
@@ -364,8 +364,8 @@ fn run(t: &mut [u32], g: &mut [u64; 2], out: &mut [u32], p: Phase, hundreds: usi
 }
 
 fn up_at_sixteenth(t: &mut [u32], i: u32)
-    requires { ⌜ Sound (now t) ⌝ }
-    ensures { λ _. ⌜ Sound (now (t .exit)) ⌝ }
+    requires { ⌜ EngineSound (now t) ⌝ }
+    ensures { λ _. ⌜ EngineSound (now (t .exit)) ⌝ }
 {
     if i % 16 == 0 {
         one_up(t);
@@ -374,8 +374,8 @@ fn up_at_sixteenth(t: &mut [u32], i: u32)
 
 // Joins node i and the next one, in one order or the other; a level begins at each sixteenth node.
 fn link(t: &mut [u32], g: &mut [u64; 2], i: u32)
-    requires { ⌜ Sound (now t) × (i < 1023) ⌝ }
-    ensures { λ _. ⌜ Sound (now (t .exit)) ⌝ }
+    requires { ⌜ EngineSound (now t) × (i < 1023) ⌝ }
+    ensures { λ _. ⌜ EngineSound (now (t .exit)) ⌝ }
 {
     up_at_sixteenth(t, i);
     let d = draw(g, 2);
@@ -390,8 +390,8 @@ fn link(t: &mut [u32], g: &mut [u64; 2], i: u32)
 
 // All nodes become one class.
 fn chain(t: &mut [u32], g: &mut [u64; 2])
-    requires { ⌜ Sound (now t) ⌝ }
-    ensures { λ _. ⌜ Sound (now (t .exit)) ⌝ }
+    requires { ⌜ EngineSound (now t) ⌝ }
+    ensures { λ _. ⌜ EngineSound (now (t .exit)) ⌝ }
 {
     let mut i = 0;
     while i < 1023 {
@@ -403,8 +403,8 @@ fn chain(t: &mut [u32], g: &mut [u64; 2])
 
 // The same, but each hundred starts with no merge in force.
 fn run_afresh(t: &mut [u32], g: &mut [u64; 2], out: &mut [u32], p: Phase, hundreds: usize)
-    requires { ⌜ Sound (now t) × (2049 ≤ length (now out)) × (1 < p .nodes) × (p .nodes ≤ 1024) × (p .least ≤ 3) ⌝ }
-    ensures { λ _. ⌜ Sound (now (t .exit)) ⌝ }
+    requires { ⌜ EngineSound (now t) × (2049 ≤ length (now out)) × (1 < p .nodes) × (p .nodes ≤ 1024) × (p .least ≤ 3) ⌝ }
+    ensures { λ _. ⌜ EngineSound (now (t .exit)) ⌝ }
 {
     let mut i = 0;
     while i < hundreds {
@@ -416,8 +416,8 @@ fn run_afresh(t: &mut [u32], g: &mut [u64; 2], out: &mut [u32], p: Phase, hundre
 
 // Storey i has the nodes 3 i, 3 i + 1 and 3 i + 2. The last two are joined by a literal.
 fn storey(t: &mut [u32], g: &mut [u64; 2], i: u32)
-    requires { ⌜ Sound (now t) × (i < 341) ⌝ }
-    ensures { λ _. ⌜ Sound (now (t .exit)) ⌝ }
+    requires { ⌜ EngineSound (now t) × (i < 341) ⌝ }
+    ensures { λ _. ⌜ EngineSound (now (t .exit)) ⌝ }
 {
     up_at_sixteenth(t, i);
     let d = draw(g, 2);
@@ -432,8 +432,8 @@ fn storey(t: &mut [u32], g: &mut [u64; 2], i: u32)
 
 // The first two are joined by pairs of the storey below, x - 3 and x - 1, and of any lower one.
 fn stairs(t: &mut [u32], g: &mut [u64; 2], i: u32)
-    requires { ⌜ Sound (now t) × (0 < i) × (i < 341) ⌝ }
-    ensures { λ _. ⌜ Sound (now (t .exit)) ⌝ }
+    requires { ⌜ EngineSound (now t) × (0 < i) × (i < 341) ⌝ }
+    ensures { λ _. ⌜ EngineSound (now (t .exit)) ⌝ }
 {
     let d = draw(g, 2);
     let x = 3 * i;
@@ -447,8 +447,8 @@ fn stairs(t: &mut [u32], g: &mut [u64; 2], i: u32)
 
 // Storeys on the first three nodes.
 fn tower(t: &mut [u32], g: &mut [u64; 2])
-    requires { ⌜ Sound (now t) ⌝ }
-    ensures { λ _. ⌜ Sound (now (t .exit)) ⌝ }
+    requires { ⌜ EngineSound (now t) ⌝ }
+    ensures { λ _. ⌜ EngineSound (now (t .exit)) ⌝ }
 {
     link(t, g, 0);
     link(t, g, 1);
@@ -464,7 +464,7 @@ fn tower(t: &mut [u32], g: &mut [u64; 2])
 
 // Explains the ends of some storeys.
 fn look_down(t: &[u32], g: &mut [u64; 2], out: &mut [u32])
-    requires { ⌜ Sound (now t) × (2049 ≤ length (now out)) ⌝ }
+    requires { ⌜ EngineSound (now t) × (2049 ≤ length (now out)) ⌝ }
 {
     let i = draw(g, 341);
     let j = draw(g, 341);
@@ -475,7 +475,7 @@ fn look_down(t: &[u32], g: &mut [u64; 2], out: &mut [u32])
 }
 
 fn look_down_often(t: &[u32], g: &mut [u64; 2], out: &mut [u32])
-    requires { ⌜ Sound (now t) × (2049 ≤ length (now out)) ⌝ }
+    requires { ⌜ EngineSound (now t) × (2049 ≤ length (now out)) ⌝ }
 {
     let mut i = 0usize;
     while i < 16 {
@@ -486,8 +486,8 @@ fn look_down_often(t: &[u32], g: &mut [u64; 2], out: &mut [u32])
 
 // Congruences over congruences: a tower, levels taken back, and the tower made whole again.
 fn towers(t: &mut [u32], g: &mut [u64; 2], out: &mut [u32])
-    requires { ⌜ Sound (now t) × (2049 ≤ length (now out)) ⌝ }
-    ensures { λ _. ⌜ Sound (now (t .exit)) ⌝ }
+    requires { ⌜ EngineSound (now t) × (2049 ≤ length (now out)) ⌝ }
+    ensures { λ _. ⌜ EngineSound (now (t .exit)) ⌝ }
 {
     tower(t, g);
     look_down_often(t, g, out);
@@ -499,7 +499,7 @@ fn towers(t: &mut [u32], g: &mut [u64; 2], out: &mut [u32])
 
 // Explains the ends of the chain, in both orders in one list.
 fn explain_ends(t: &[u32], out: &mut [u32])
-    requires { ⌜ Sound (now t) × (2049 ≤ length (now out)) ⌝ }
+    requires { ⌜ EngineSound (now t) × (2049 ≤ length (now out)) ⌝ }
 {
     let p = equal_or_self(t, 0, 1023);
     let q = equal_or_self(t, 1023, 0);
@@ -508,8 +508,8 @@ fn explain_ends(t: &[u32], out: &mut [u32])
 
 // Few nodes: deep congruences, the same pairs again and again.
 fn few_nodes(t: &mut [u32], g: &mut [u64; 2], out: &mut [u32])
-    requires { ⌜ Sound (now t) × (2049 ≤ length (now out)) ⌝ }
-    ensures { λ _. ⌜ Sound (now (t .exit)) ⌝ }
+    requires { ⌜ EngineSound (now t) × (2049 ≤ length (now out)) ⌝ }
+    ensures { λ _. ⌜ EngineSound (now (t .exit)) ⌝ }
 {
     let p = Phase {
         nodes: 12,
@@ -526,8 +526,8 @@ fn few_nodes(t: &mut [u32], g: &mut [u64; 2], out: &mut [u32])
 
 // More nodes, and levels up to the limit.
 fn more_nodes(t: &mut [u32], g: &mut [u64; 2], out: &mut [u32])
-    requires { ⌜ Sound (now t) × (2049 ≤ length (now out)) ⌝ }
-    ensures { λ _. ⌜ Sound (now (t .exit)) ⌝ }
+    requires { ⌜ EngineSound (now t) × (2049 ≤ length (now out)) ⌝ }
+    ensures { λ _. ⌜ EngineSound (now (t .exit)) ⌝ }
 {
     let p = Phase {
         nodes: 64,
@@ -544,8 +544,8 @@ fn more_nodes(t: &mut [u32], g: &mut [u64; 2], out: &mut [u32])
 
 // All nodes, and argument pairs up to the limit.
 fn all_nodes(t: &mut [u32], g: &mut [u64; 2], out: &mut [u32])
-    requires { ⌜ Sound (now t) × (2049 ≤ length (now out)) ⌝ }
-    ensures { λ _. ⌜ Sound (now (t .exit)) ⌝ }
+    requires { ⌜ EngineSound (now t) × (2049 ≤ length (now out)) ⌝ }
+    ensures { λ _. ⌜ EngineSound (now (t .exit)) ⌝ }
 {
     let p = Phase {
         nodes: 1024,
@@ -562,8 +562,8 @@ fn all_nodes(t: &mut [u32], g: &mut [u64; 2], out: &mut [u32])
 
 // All nodes in one chain, levels taken back, and the chain made whole again.
 fn long_chain(t: &mut [u32], g: &mut [u64; 2], out: &mut [u32])
-    requires { ⌜ Sound (now t) × (2049 ≤ length (now out)) ⌝ }
-    ensures { λ _. ⌜ Sound (now (t .exit)) ⌝ }
+    requires { ⌜ EngineSound (now t) × (2049 ≤ length (now out)) ⌝ }
+    ensures { λ _. ⌜ EngineSound (now (t .exit)) ⌝ }
 {
     let p = Phase {
         nodes: 1024,

@@ -1,13 +1,13 @@
 use Prim.Native.Nat.{_-_}
 use mathlib.Core.Path.{_≡_}
 use lib.ListN.{length}
-use Rattle.core.specs.Table.{Sound}
+use Rattle.core.specs.Memory.Table.{ContextSound}
 use borrow.Author.Needs.{needs}
 use Rattle.core_main.proofs.tower.Statement.{statement}
 use Rattle.core_main.proofs.tower.Tie as tie
 
 abbrev Inv-loop : tie.InvT-loop
-Inv-loop t₀ f times i₀ t i = Sound t × (length t ≡ length t₀)
+Inv-loop t₀ f times i₀ t i = ContextSound t × (length t ≡ length t₀)
 
 abbrev μ-loop : tie.MeasureT-loop
 μ-loop t₀ f times i₀ t i = times - i

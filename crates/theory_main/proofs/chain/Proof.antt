@@ -1,13 +1,13 @@
 use Prim.Native.Nat.{_-_}
 use mathlib.Core.Path.{_≡_}
 use lib.ListN.{length}
-use Rattle.theory.specs.Table.{Sound}
+use Rattle.theory.specs.Memory.Table.{EngineSound}
 use borrow.Author.Needs.{needs}
 use Rattle.theory_main.proofs.chain.Statement.{statement}
 use Rattle.theory_main.proofs.chain.Tie as tie
 
 abbrev Inv-loop : tie.InvT-loop
-Inv-loop t₀ g₀ i₀ t g i = Sound t × (length t ≡ length t₀)
+Inv-loop t₀ g₀ i₀ t g i = EngineSound t × (length t ≡ length t₀)
 
 abbrev μ-loop : tie.MeasureT-loop
 μ-loop t₀ g₀ i₀ t g i = 1023 - i

@@ -1,5 +1,5 @@
 use native.Mathlib.Omega.{arith}
-use Rattle.theory.proofs.Leaves.{no-leaves}
+use Rattle.theory.proofs.Memory.Leaves.{no-leaves}
 use borrow.Author.Needs.{needs}
 use Rattle.theory_main.proofs.explain_both.Statement.{statement}
 use Rattle.theory_main.proofs.explain_both.Tie as tie

@@ -1,5 +1,5 @@
 use native.Mathlib.Omega.{arith}
-use Rattle.theory.proofs.Joining.{room-pairs}
+use Rattle.theory.proofs.Memory.Joining.{room-pairs}
 use borrow.Author.Needs.{needs}
 use Rattle.theory_main.proofs.join.Statement.{statement}
 use Rattle.theory_main.proofs.join.Tie as tie

@@ -1,13 +1,13 @@
 use Prim.Native.Nat.{_-_}
 use mathlib.Core.Path.{_≡_}
 use lib.ListN.{length}
-use Rattle.theory.specs.Table.{Sound}
+use Rattle.theory.specs.Memory.Table.{EngineSound}
 use borrow.Author.Needs.{needs}
 use Rattle.theory_main.proofs.run_afresh.Statement.{statement}
 use Rattle.theory_main.proofs.run_afresh.Tie as tie
 
 abbrev Inv-loop : tie.InvT-loop
-Inv-loop t₀ g₀ out₀ p hundreds i₀ t g out i = Sound t × (length t ≡ length t₀) × (length out ≡ length out₀)
+Inv-loop t₀ g₀ out₀ p hundreds i₀ t g out i = EngineSound t × (length t ≡ length t₀) × (length out ≡ length out₀)
 
 abbrev μ-loop : tie.MeasureT-loop
 μ-loop t₀ g₀ out₀ p hundreds i₀ t g out i = hundreds - i

@@ -2,7 +2,7 @@ use mathlib.Core.Path.{_≡_}
 use Prim.Native.Nat.{_-_}
 use native.Mathlib.Omega.{arith}
 use lib.ListN.{length}
-use Rattle.core.proofs.Symbols.{Selecting, select-first, selector-room, select-next, select-done}
+use Rattle.core.proofs.Memory.Symbols.{Selecting, select-first, selector-room, select-next, select-done}
 use borrow.Author.Needs.{needs}
 use Rattle.core.proofs.context.add_selectors.Statement.{statement}
 use Rattle.core.proofs.context.add_selectors.Tie as tie
@@ -25,26 +25,8 @@ add-add-symbol-2 c = let a = c .before .before .before .before .before .pre .roo
 add-add-symbol-3 : tie.Need-add-add-symbol-3 Inv-loop μ-loop
 add-add-symbol-3 c = let a = c .before .before .before .before .before .pre .room in omega arith
 
-mul-wide : tie.Need-mul-wide Inv-loop μ-loop
-mul-wide c = search needs
-
-shared-slice-read-wide : tie.Need-shared-slice-read-wide Inv-loop μ-loop
-shared-slice-read-wide c = search needs
-
-wide-requires : tie.Need-wide-requires Inv-loop μ-loop
-wide-requires c κs = search needs
-
-slice-aggregate-add-symbol : tie.Need-slice-aggregate-add-symbol Inv-loop μ-loop
-slice-aggregate-add-symbol c = search needs
-
 add-symbol-requires : tie.Need-add-symbol-requires Inv-loop μ-loop
 add-symbol-requires c κs = selector-room _ _ _ _ _ _ _ (c .before .before .before .before .before .before .before .before .pre) (c .before .before .before .before .before .loop .inv) (c .before .before .before .before .loop-test .taken) (c .before .wide .ensures)
-
-add-i : tie.Need-add-i Inv-loop μ-loop
-add-i c = search needs
-
-loop-less : tie.Need-loop-less Inv-loop μ-loop
-loop-less c = search needs
 
 loop-again : tie.Need-loop-again Inv-loop μ-loop
 loop-again c =
@@ -67,13 +49,13 @@ add-selectors-spec =
     add-add-symbol
     add-add-symbol-2
     add-add-symbol-3
-    mul-wide
-    shared-slice-read-wide
-    wide-requires
-    slice-aggregate-add-symbol
+    (λ c. search needs)
+    (λ c. search needs)
+    (λ c κs. search needs)
+    (λ c. search needs)
     add-symbol-requires
-    add-i
-    loop-less
+    (λ c. search needs)
+    (λ c. search needs)
     loop-again
     same-length
     returns)

@@ -4,7 +4,7 @@ use native.Mathlib.Omega.{arith}
 use mathlib.Core.Path.{sym, _∙_}
 use mathlib.Core.Logic.{⊎-elim}
 use borrow.Author.Count.{below-more}
-use Rattle.core.proofs.Constructors.{GroundedBelow, one-not-grounded, each-grounded, other-sort}
+use Rattle.core.proofs.Memory.Constructors.{GroundedBelow, one-not-grounded, each-grounded, other-sort}
 use borrow.Author.Needs.{needs}
 use Rattle.core.proofs.context.all_grounded.Statement.{statement}
 use Rattle.core.proofs.context.all_grounded.Tie as tie
@@ -15,29 +15,14 @@ Inv-loop t n s₀ s = GroundedBelow t s
 abbrev μ-loop : tie.MeasureT-loop
 μ-loop t n s₀ s = n - s
 
-get-requires : tie.Need-get-requires Inv-loop μ-loop
-get-requires c κs = search needs
-
 loop-holds : tie.Need-loop-holds Inv-loop μ-loop
 loop-holds c = λ k h. absurd (omega arith)
-
-add-get : tie.Need-add-get Inv-loop μ-loop
-add-get c = search needs
 
 get-requires-2 : tie.Need-get-requires-2 Inv-loop μ-loop
 get-requires-2 c κs = let z = c .before .before .before .before .pre in let e = c .before .before .get .ensures .0 in let l = z .long in let f = z .sorts-fit in omega arith
 
-grounded-requires : tie.Need-grounded-requires Inv-loop μ-loop
-grounded-requires c κs = search needs
-
 returns : tie.Need-returns Inv-loop μ-loop
 returns c = one-not-grounded _ _ _ _ (c .before .before .before .before .before .before .get .ensures .0) (c .before .before .before .before .loop-test .taken) (c .before .before .before .get2 .ensures .0) (c .before .before .if1 .taken) (sym (c .before .grounded .ensures) ∙ not-true _ (c .if2 .taken))
-
-add-s : tie.Need-add-s Inv-loop μ-loop
-add-s c = search needs
-
-loop-less : tie.Need-loop-less Inv-loop μ-loop
-loop-less c = search needs
 
 loop-again : tie.Need-loop-again Inv-loop μ-loop
 loop-again c =
@@ -54,13 +39,13 @@ all-grounded-spec =
     (tie.spec
     Inv-loop
     μ-loop
-    get-requires
+    (λ c κs. search needs)
     loop-holds
-    add-get
+    (λ c. search needs)
     get-requires-2
-    grounded-requires
+    (λ c κs. search needs)
     returns
-    add-s
-    loop-less
+    (λ c. search needs)
+    (λ c. search needs)
     loop-again
     returns-2)

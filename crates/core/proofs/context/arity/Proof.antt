@@ -1,19 +1,10 @@
-use Rattle.core.proofs.Words.{symbols-below, arity-is}
+use Rattle.core.proofs.Memory.Words.{symbols-below, arity-is}
 use borrow.Author.Needs.{needs}
 use Rattle.core.proofs.context.arity.Statement.{statement}
 use Rattle.core.proofs.context.arity.Tie as tie
-
-cast-i : tie.Need-cast-i
-cast-i c = search needs
-
-add-get : tie.Need-add-get
-add-get c = search needs
-
-get-requires : tie.Need-get-requires
-get-requires c κs = search needs
 
 returns : tie.Need-returns
 returns c = (arity-is _ _ _ (symbols-below _ _ (c .before .before .before .pre .1)) (c .get .ensures .0), rw (c .get .ensures .0) (c .before .before .before .pre .0 .arity _ (symbols-below _ _ (c .before .before .before .pre .1))))
 
 pub arity-spec : {M : Type 1} → statement M
-arity-spec = tie.close (tie.spec cast-i add-get get-requires returns)
+arity-spec = tie.close (tie.spec (λ c. search needs) (λ c. search needs) (λ c κs. search needs) returns)

@@ -1,32 +1,8 @@
-use Rattle.core.proofs.Words.{terms-below, stretch}
+use Rattle.core.proofs.Memory.Words.{terms-below, stretch}
 use native.Mathlib.Omega.{arith}
 use borrow.Author.Needs.{needs}
 use Rattle.core.proofs.context.children.Statement.{statement}
 use Rattle.core.proofs.context.children.Tie as tie
-
-cast-i : tie.Need-cast-i
-cast-i c = search needs
-
-add-get : tie.Need-add-get
-add-get c = search needs
-
-get-requires : tie.Need-get-requires
-get-requires c κs = search needs
-
-add-start : tie.Need-add-start
-add-start c = search needs
-
-add-get-2 : tie.Need-add-get-2
-add-get-2 c = search needs
-
-get-requires-2 : tie.Need-get-requires-2
-get-requires-2 c κs = search needs
-
-add-end : tie.Need-add-end
-add-end c = search needs
-
-mul-result : tie.Need-mul-result
-mul-result c = search needs
 
 sub-result : tie.Need-sub-result
 sub-result c = let z = c .before .before .before .before .pre in let s = stretch _ _ _ _ (z .0) (terms-below _ _ (z .1)) (c .before .get .ensures .0) (c .get2 .ensures .0) in omega arith
@@ -44,14 +20,14 @@ pub children-spec : {M : Type 1} → statement M
 children-spec =
     tie.close
     (tie.spec
-    cast-i
-    add-get
-    get-requires
-    add-start
-    add-get-2
-    get-requires-2
-    add-end
-    mul-result
+    (λ c. search needs)
+    (λ c. search needs)
+    (λ c κs. search needs)
+    (λ c. search needs)
+    (λ c. search needs)
+    (λ c κs. search needs)
+    (λ c. search needs)
+    (λ c. search needs)
     sub-result
     part-result-start
     part-result-end

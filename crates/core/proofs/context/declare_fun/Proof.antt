@@ -1,20 +1,11 @@
 use native.Mathlib.Omega.{arith}
-use Rattle.core.proofs.Symbols.{symbol-room, no-function, function-added}
+use Rattle.core.proofs.Memory.Symbols.{symbol-room, no-function, function-added}
 use borrow.Author.Needs.{needs}
 use Rattle.core.proofs.context.declare_fun.Statement.{statement}
 use Rattle.core.proofs.context.declare_fun.Tie as tie
 
-get-requires : tie.Need-get-requires
-get-requires c κs = search needs
-
-same-length : tie.Need-same-length
-same-length c = search needs
-
 returns : tie.Need-returns
 returns c = no-function _ _ _ _ (c .before .before .before .before .before .pre .0) (c .before .get .ensures .0) (c .if1 .taken)
-
-cast-sort : tie.Need-cast-sort
-cast-sort c = search needs
 
 add-symbol-requires : tie.Need-add-symbol-requires
 add-symbol-requires c κs =
@@ -24,9 +15,6 @@ add-symbol-requires c κs =
     let f = z .0 .symbols-fit in
     symbol-room _ _ _ _ _ (z .0) e (omega arith) (omega arith) (z .1) (z .2) (z .3)
 
-same-length-2 : tie.Need-same-length-2
-same-length-2 c = search needs
-
 returns-2 : tie.Need-returns-2
 returns-2 c = function-added _ _ _ _ _ (c .before .before .add-symbol .ensures)
 
@@ -34,10 +22,10 @@ pub declare-fun-spec : {M : Type 1} → statement M
 declare-fun-spec =
     tie.close
     (tie.spec
-    get-requires
-    same-length
+    (λ c κs. search needs)
+    (λ c. search needs)
     returns
-    cast-sort
+    (λ c. search needs)
     add-symbol-requires
-    same-length-2
+    (λ c. search needs)
     returns-2)

@@ -1,25 +1,13 @@
-use Rattle.core.proofs.Words.{symbols-below, role-is}
+use Rattle.core.proofs.Memory.Words.{symbols-below, role-is}
 use Prim.Native.Nat.{_+_}
-use Rattle.core.proofs.Codes.{role-below}
+use Rattle.core.proofs.Memory.Codes.{role-below}
 use mathlib.Core.Path.{ap, _∙_}
 use native.Mathlib.Omega.{arith}
-use Rattle.core.specs.Table.{role-of, context}
+use Rattle.core.specs.Memory.Table.{role-of, context}
 use lib.ListN.{length}
 use borrow.Author.Needs.{needs}
 use Rattle.core.proofs.context.dt_role.Statement.{statement}
 use Rattle.core.proofs.context.dt_role.Tie as tie
-
-cast-i : tie.Need-cast-i
-cast-i c = search needs
-
-add-get : tie.Need-add-get
-add-get c = search needs
-
-get-requires : tie.Need-get-requires
-get-requires c κs = search needs
-
-cast-role-from : tie.Need-cast-role-from
-cast-role-from c = search needs
 
 role-from-requires : tie.Need-role-from-requires
 role-from-requires c κs = let h = c .before .before .before .pre .0 .owner _ (symbols-below _ _ (c .before .before .before .pre .1)) in rw (c .get .ensures .0) (omega arith)
@@ -34,4 +22,4 @@ returns c =
 
 pub dt-role-spec : {M : Type 1} → statement M
 dt-role-spec =
-    tie.close (tie.spec cast-i add-get get-requires cast-role-from role-from-requires returns)
+    tie.close (tie.spec (λ c. search needs) (λ c. search needs) (λ c κs. search needs) (λ c. search needs) role-from-requires returns)

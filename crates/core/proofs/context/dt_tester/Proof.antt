@@ -3,12 +3,9 @@ use borrow.Author.Needs.{needs}
 use Rattle.core.proofs.context.dt_tester.Statement.{statement}
 use Rattle.core.proofs.context.dt_tester.Tie as tie
 
-add-t2 : tie.Need-add-t2
-add-t2 c = search needs
-
 returns : tie.Need-returns
 unfolding dt-tester
 returns c = search needs
 
 pub dt-tester-spec : {M : Type 1} → statement M
-dt-tester-spec = tie.close (tie.spec add-t2 returns)
+dt-tester-spec = tie.close (tie.spec (λ c. search needs) returns)

@@ -2,7 +2,7 @@ use mathlib.Core.Path.{sym, _∙_}
 use Prim.Native.Nat.{_-_, _≤_}
 use native.Mathlib.Omega.{arith}
 use borrow.Author.Count.{below-more}
-use Rattle.core.proofs.Apps.{NoneBelow, app-found, app-missing}
+use Rattle.core.proofs.Memory.Apps.{NoneBelow, app-found, app-missing}
 use borrow.Author.Needs.{needs}
 use Rattle.core.proofs.context.find_app.Statement.{statement}
 use Rattle.core.proofs.context.find_app.Tie as tie
@@ -13,9 +13,6 @@ Inv-loop t code args n i₀ i = (i ≤ n) × NoneBelow t code args i
 abbrev μ-loop : tie.MeasureT-loop
 μ-loop t code args n i₀ i = n - i
 
-get-requires : tie.Need-get-requires Inv-loop μ-loop
-get-requires c κs = search needs
-
 loop-holds : tie.Need-loop-holds Inv-loop μ-loop
 loop-holds c = (search needs, λ k h. absurd (omega arith))
 
@@ -24,12 +21,6 @@ is-app-requires c κs = (c .before .before .before .before .before .pre, search 
 
 returns : tie.Need-returns Inv-loop μ-loop
 returns c = app-found _ _ _ _ _ (c .before .before .before .before .get .ensures .0) (c .before .before .loop-test .taken) (c .before .before .before .loop .inv .1) (sym (c .if1 .taken) ∙ c .before .is-app .ensures)
-
-add-i : tie.Need-add-i Inv-loop μ-loop
-add-i c = search needs
-
-loop-less : tie.Need-loop-less Inv-loop μ-loop
-loop-less c = search needs
 
 loop-again : tie.Need-loop-again Inv-loop μ-loop
 loop-again c = (search needs, below-more _ _ (c .before .before .before .loop .inv .1) (sym (c .before .is-app .ensures) ∙ c .if1 .left))
@@ -43,11 +34,11 @@ find-app-spec =
     (tie.spec
     Inv-loop
     μ-loop
-    get-requires
+    (λ c κs. search needs)
     loop-holds
     is-app-requires
     returns
-    add-i
-    loop-less
+    (λ c. search needs)
+    (λ c. search needs)
     loop-again
     returns-2)

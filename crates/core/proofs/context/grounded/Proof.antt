@@ -5,7 +5,7 @@ use borrow.Author.Count.{below-more}
 use borrow.Author.Needs.{needs}
 use Prim.Native.Nat.{_-_}
 use native.Mathlib.Omega.{arith}
-use Rattle.core.proofs.Constructors.{UngroundedBelow, grounded-by, not-grounded}
+use Rattle.core.proofs.Memory.Constructors.{UngroundedBelow, grounded-by, not-grounded}
 use Rattle.core.proofs.context.grounded.Statement.{statement}
 use Rattle.core.proofs.context.grounded.Tie as tie
 
@@ -14,9 +14,6 @@ Inv-loop t dt n s₀ s = UngroundedBelow t dt s
 
 abbrev μ-loop : tie.MeasureT-loop
 μ-loop t dt n s₀ s = n - s
-
-get-requires : tie.Need-get-requires Inv-loop μ-loop
-get-requires c κs = search needs
 
 loop-holds : tie.Need-loop-holds Inv-loop μ-loop
 loop-holds c = λ k h. absurd (omega arith)
@@ -29,12 +26,6 @@ has-plain-fields-requires c κs = (c .before .before .before .before .before .be
 
 returns : tie.Need-returns Inv-loop μ-loop
 returns c = grounded-by _ _ _ _ (c .before .before .before .before .before .before .get .ensures .0) (c .before .before .before .before .loop-test .taken) (sym (c .before .before .if1 .taken) ∙ c .before .before .before .builds .ensures) (sym (c .if2 .taken) ∙ c .before .has-plain-fields .ensures)
-
-add-s : tie.Need-add-s Inv-loop μ-loop
-add-s c = search needs
-
-loop-less : tie.Need-loop-less Inv-loop μ-loop
-loop-less c = search needs
 
 loop-again : tie.Need-loop-again Inv-loop μ-loop
 loop-again c =
@@ -50,12 +41,12 @@ grounded-spec =
     (tie.spec
     Inv-loop
     μ-loop
-    get-requires
+    (λ c κs. search needs)
     loop-holds
     builds-requires
     has-plain-fields-requires
     returns
-    add-s
-    loop-less
+    (λ c. search needs)
+    (λ c. search needs)
     loop-again
     returns-2)

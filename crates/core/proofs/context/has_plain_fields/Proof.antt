@@ -1,7 +1,7 @@
 use Prim.Native.Nat.{_-_}
 use native.Mathlib.Omega.{arith}
 use borrow.Author.Count.{below-more}
-use Rattle.core.proofs.Constructors.{PlainBelow, field-is-datatype, field-is-plain, fields-are-plain}
+use Rattle.core.proofs.Memory.Constructors.{PlainBelow, field-is-datatype, field-is-plain, fields-are-plain}
 use borrow.Author.Needs.{needs}
 use Rattle.core.proofs.context.has_plain_fields.Statement.{statement}
 use Rattle.core.proofs.context.has_plain_fields.Tie as tie
@@ -12,41 +12,17 @@ Inv-loop t s n at i₀ i = PlainBelow t s i
 abbrev μ-loop : tie.MeasureT-loop
 μ-loop t s n at i₀ i = n - i
 
-add-get : tie.Need-add-get Inv-loop μ-loop
-add-get c = search needs
-
-get-requires : tie.Need-get-requires Inv-loop μ-loop
-get-requires c κs = search needs
-
-mul-at : tie.Need-mul-at Inv-loop μ-loop
-mul-at c = search needs
-
-add-at : tie.Need-add-at Inv-loop μ-loop
-add-at c = search needs
-
 loop-holds : tie.Need-loop-holds Inv-loop μ-loop
 loop-holds c = λ k h. absurd (omega arith)
 
-add-get-2 : tie.Need-add-get-2 Inv-loop μ-loop
-add-get-2 c = search needs
-
 get-requires-2 : tie.Need-get-requires-2 Inv-loop μ-loop
 get-requires-2 c κs = let z = c .before .before .before .before .pre in let e = c .before .before .get .ensures .0 in let m = z .0 .arity _ (z .1) in let l = z .0 .long in let f = z .0 .symbols-fit in omega arith
-
-add-get-3 : tie.Need-add-get-3 Inv-loop μ-loop
-add-get-3 c = search needs
 
 get-requires-3 : tie.Need-get-requires-3 Inv-loop μ-loop
 get-requires-3 c κs = let z = c .before .before .before .before .before .pre in let e = c .before .before .before .get .ensures .0 in let q = c .get2 .ensures .0 in let m = z .0 .param _ (z .1) (c .before .before .loop .i) (omega arith) in let l = z .0 .long in let f = z .0 .sorts-fit in omega arith
 
 returns : tie.Need-returns Inv-loop μ-loop
 returns c = let z = c .before .before .before .before .before .before .before .pre in field-is-datatype _ _ _ _ _ _ (z .0) (z .1) (c .before .before .before .before .before .get .ensures .0) (c .before .before .before .loop-test .taken) (c .before .before .get2 .ensures .0) (c .before .get3 .ensures .0) (c .if1 .taken)
-
-add-i : tie.Need-add-i Inv-loop μ-loop
-add-i c = search needs
-
-loop-less : tie.Need-loop-less Inv-loop μ-loop
-loop-less c = search needs
 
 loop-again : tie.Need-loop-again Inv-loop μ-loop
 loop-again c =
@@ -62,17 +38,17 @@ has-plain-fields-spec =
     (tie.spec
     Inv-loop
     μ-loop
-    add-get
-    get-requires
-    mul-at
-    add-at
+    (λ c. search needs)
+    (λ c κs. search needs)
+    (λ c. search needs)
+    (λ c. search needs)
     loop-holds
-    add-get-2
+    (λ c. search needs)
     get-requires-2
-    add-get-3
+    (λ c. search needs)
     get-requires-3
     returns
-    add-i
-    loop-less
+    (λ c. search needs)
+    (λ c. search needs)
     loop-again
     returns-2)

@@ -1,42 +1,18 @@
 use Prim.Native.Nat.{_≤_}
 use native.Mathlib.Omega.{arith}
-use Rattle.core.proofs.Intern.{made-old, no-more-terms, no-more-places, made-new, start-fits}
+use Rattle.core.proofs.Memory.Intern.{made-old, no-more-terms, no-more-places, made-new, start-fits}
 use borrow.Author.Needs.{needs}
 use Rattle.core.proofs.context.intern.Statement.{statement}
 use Rattle.core.proofs.context.intern.Tie as tie
 
-get-requires : tie.Need-get-requires
-get-requires c κs = search needs
-
-find-app-requires : tie.Need-find-app-requires
-find-app-requires c κs = search needs
-
-cast-t12 : tie.Need-cast-t12
-cast-t12 c = search needs
-
-same-length : tie.Need-same-length
-same-length c = search needs
-
 returns : tie.Need-returns
 returns c = made-old _ _ _ (c .before .before .before .before .before .before .before .pre .0) _ _ (c .before .before .before .get .ensures .0) (c .before .find-app .ensures) (c .if1 .taken)
-
-same-length-2 : tie.Need-same-length-2
-same-length-2 c = search needs
 
 returns-2 : tie.Need-returns-2
 returns-2 c = no-more-terms _ _ _ (c .before .before .before .before .before .before .before .before .pre .0) _ _ (c .before .before .before .before .get .ensures .0) (c .before .before .find-app .ensures) (c .before .if1 .left) (c .if2 .taken)
 
-add-get : tie.Need-add-get
-add-get c = search needs
-
-get-requires-2 : tie.Need-get-requires-2
-get-requires-2 c κs = search needs
-
 sub-if3 : tie.Need-sub-if3
 sub-if3 c = start-fits _ _ _ (c .before .before .before .before .before .before .before .before .before .before .pre .0) (c .before .before .before .before .before .before .get .ensures .0) (c .get2 .ensures .0)
-
-same-length-3 : tie.Need-same-length-3
-same-length-3 c = search needs
 
 returns-3 : tie.Need-returns-3
 returns-3 c = no-more-places _ _ _ (c .before .before .before .before .before .before .before .before .before .before .before .pre .0) _ _ _ (c .before .before .before .before .before .before .before .get .ensures .0) (c .before .before .before .before .before .find-app .ensures) (c .before .before .before .before .if1 .left) (c .before .get2 .ensures .0) (c .if3 .taken)
@@ -59,12 +35,6 @@ append-term-requires c κs =
       terms = λ j l. rw e (z .2 j l);
     }
 
-cast-t21 : tie.Need-cast-t21
-cast-t21 c = search needs
-
-same-length-4 : tie.Need-same-length-4
-same-length-4 c = search needs
-
 returns-4 : tie.Need-returns-4
 returns-4 c =
     let z = c .before .before .before .before .before .before .before .before .before .before .before .before .before .before .before .pre .0 in
@@ -80,19 +50,19 @@ pub intern-spec : {M : Type 1} → statement M
 intern-spec =
     tie.close
     (tie.spec
-    get-requires
-    find-app-requires
-    cast-t12
-    same-length
+    (λ c κs. search needs)
+    (λ c κs. search needs)
+    (λ c. search needs)
+    (λ c. search needs)
     returns
-    same-length-2
+    (λ c. search needs)
     returns-2
-    add-get
-    get-requires-2
+    (λ c. search needs)
+    (λ c κs. search needs)
     sub-if3
-    same-length-3
+    (λ c. search needs)
     returns-3
     append-term-requires
-    cast-t21
-    same-length-4
+    (λ c. search needs)
+    (λ c. search needs)
     returns-4)

@@ -1,30 +1,12 @@
 use native.Mathlib.Omega.{arith}
-use Rattle.core.proofs.Words.{stretch}
-use Rattle.core.proofs.Apps.{app-other-op, app-other-length, app-same}
+use Rattle.core.proofs.Memory.Words.{stretch}
+use Rattle.core.proofs.Memory.Apps.{app-other-op, app-other-length, app-same}
 use borrow.Author.Needs.{needs}
 use Rattle.core.proofs.context.is_app.Statement.{statement}
 use Rattle.core.proofs.context.is_app.Tie as tie
 
-add-get : tie.Need-add-get
-add-get c = search needs
-
-get-requires : tie.Need-get-requires
-get-requires c κs = search needs
-
 returns : tie.Need-returns
 returns c = app-other-op _ _ _ _ _ (c .before .get .ensures .0) (c .if1 .taken)
-
-add-get-2 : tie.Need-add-get-2
-add-get-2 c = search needs
-
-get-requires-2 : tie.Need-get-requires-2
-get-requires-2 c κs = search needs
-
-add-get-3 : tie.Need-add-get-3
-add-get-3 c = search needs
-
-get-requires-3 : tie.Need-get-requires-3
-get-requires-3 c κs = search needs
 
 sub-if2 : tie.Need-sub-if2
 sub-if2 c =
@@ -35,9 +17,6 @@ sub-if2 c =
 
 returns-2 : tie.Need-returns-2
 returns-2 c = app-other-length _ _ _ _ _ _ (c .before .before .get2 .ensures .0) (c .before .get3 .ensures .0) (c .if2 .taken)
-
-add-same-args : tie.Need-add-same-args
-add-same-args c = search needs
 
 same-args-requires : tie.Need-same-args-requires
 same-args-requires c κs =
@@ -53,15 +32,15 @@ pub is-app-spec : {M : Type 1} → statement M
 is-app-spec =
     tie.close
     (tie.spec
-    add-get
-    get-requires
+    (λ c. search needs)
+    (λ c κs. search needs)
     returns
-    add-get-2
-    get-requires-2
-    add-get-3
-    get-requires-3
+    (λ c. search needs)
+    (λ c κs. search needs)
+    (λ c. search needs)
+    (λ c κs. search needs)
     sub-if2
     returns-2
-    add-same-args
+    (λ c. search needs)
     same-args-requires
     returns-3)

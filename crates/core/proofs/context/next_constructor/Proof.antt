@@ -1,7 +1,7 @@
 use Prim.Native.Nat.{_-_, _≤_}
 use mathlib.Core.Path.{sym, _∙_}
 use native.Mathlib.Omega.{arith}
-use Rattle.core.proofs.Constructors.{Seeking, seek-first, seek-next, seek-found, seek-none}
+use Rattle.core.proofs.Memory.Constructors.{Seeking, seek-first, seek-next, seek-found, seek-none}
 use borrow.Author.Needs.{needs}
 use Rattle.core.proofs.context.next_constructor.Statement.{statement}
 use Rattle.core.proofs.context.next_constructor.Tie as tie
@@ -11,12 +11,6 @@ Inv-loop t from n sort s₀ s = (s ≤ n) × Seeking t sort from s
 
 abbrev μ-loop : tie.MeasureT-loop
 μ-loop t from n sort s₀ s = n - s
-
-get-requires : tie.Need-get-requires Inv-loop μ-loop
-get-requires c κs = search needs
-
-wide-requires : tie.Need-wide-requires Inv-loop μ-loop
-wide-requires c κs = search needs
 
 loop-holds : tie.Need-loop-holds Inv-loop μ-loop
 loop-holds c = let z = c .before .before .before .pre in let e = c .before .get .ensures .0 in (omega arith, seek-first _ _ _)
@@ -28,12 +22,6 @@ returns : tie.Need-returns Inv-loop μ-loop
 returns c =
     let e = c .before .before .before .before .wide .ensures in
     rw (← e) (seek-found _ _ _ _ _ (c .before .before .before .before .before .get .ensures .0) (c .before .before .before .loop .inv .1) (c .before .before .loop-test .taken) (sym (c .if1 .taken) ∙ c .before .builds .ensures))
-
-add-s : tie.Need-add-s Inv-loop μ-loop
-add-s c = search needs
-
-loop-less : tie.Need-loop-less Inv-loop μ-loop
-loop-less c = search needs
 
 loop-again : tie.Need-loop-again Inv-loop μ-loop
 loop-again c = (omega arith, seek-next _ _ _ _ (c .before .before .before .loop .inv .1) (sym (c .before .builds .ensures) ∙ c .if1 .left))
@@ -49,12 +37,12 @@ next-constructor-spec =
     (tie.spec
     Inv-loop
     μ-loop
-    get-requires
-    wide-requires
+    (λ c κs. search needs)
+    (λ c κs. search needs)
     loop-holds
     builds-requires
     returns
-    add-s
-    loop-less
+    (λ c. search needs)
+    (λ c. search needs)
     loop-again
     returns-2)

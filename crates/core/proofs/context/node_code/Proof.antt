@@ -1,5 +1,5 @@
-use Rattle.core.specs.Table.{node-of}
-use Rattle.core.specs.Codes.{declared-node}
+use Rattle.core.specs.Memory.Table.{node-of}
+use Rattle.core.specs.Memory.Codes.{declared-node}
 use borrow.Author.Needs.{needs}
 use Rattle.core.proofs.context.node_code.Statement.{statement}
 use Rattle.core.proofs.context.node_code.Tie as tie

@@ -1,27 +1,12 @@
-use Rattle.core.proofs.Words.{terms-below, op-is}
-use Rattle.core.proofs.Codes.{op-below}
+use Rattle.core.proofs.Memory.Words.{terms-below, op-is}
+use Rattle.core.proofs.Memory.Codes.{op-below}
 use mathlib.Core.Path.{ap, _∙_}
-use Rattle.core.specs.Table.{op-of, context}
+use Rattle.core.specs.Memory.Table.{op-of, context}
 use lib.ListN.{length}
 use native.Mathlib.Omega.{arith}
 use borrow.Author.Needs.{needs}
 use Rattle.core.proofs.context.op.Statement.{statement}
 use Rattle.core.proofs.context.op.Tie as tie
-
-cast-i : tie.Need-cast-i
-cast-i c = search needs
-
-add-get : tie.Need-add-get
-add-get c = search needs
-
-get-requires : tie.Need-get-requires
-get-requires c κs = search needs
-
-cast-op-from : tie.Need-cast-op-from
-cast-op-from c = search needs
-
-op-from-requires : tie.Need-op-from-requires
-op-from-requires c κs = search needs
 
 returns : tie.Need-returns
 returns c =
@@ -33,4 +18,4 @@ returns c =
     }
 
 pub op-spec : {M : Type 1} → statement M
-op-spec = tie.close (tie.spec cast-i add-get get-requires cast-op-from op-from-requires returns)
+op-spec = tie.close (tie.spec (λ c. search needs) (λ c. search needs) (λ c κs. search needs) (λ c. search needs) (λ c κs. search needs) returns)

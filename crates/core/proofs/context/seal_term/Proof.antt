@@ -1,29 +1,8 @@
-use Rattle.core.specs.Table.{sealed}
+use Rattle.core.specs.Memory.Table.{sealed}
 use Rattle.core.proofs.Lists.{set-after}
 use borrow.Author.Needs.{needs}
 use Rattle.core.proofs.context.seal_term.Statement.{statement}
 use Rattle.core.proofs.context.seal_term.Tie as tie
-
-add-put : tie.Need-add-put
-add-put c = search needs
-
-put-requires : tie.Need-put-requires
-put-requires c κs = search needs
-
-add-put-2 : tie.Need-add-put-2
-add-put-2 c = search needs
-
-put-requires-2 : tie.Need-put-requires-2
-put-requires-2 c κs = search needs
-
-add-put-3 : tie.Need-add-put-3
-add-put-3 c = search needs
-
-put-requires-3 : tie.Need-put-requires-3
-put-requires-3 c κs = search needs
-
-same-length : tie.Need-same-length
-same-length c = search needs
 
 returns : tie.Need-returns
 unfolding sealed
@@ -36,11 +15,11 @@ pub seal-term-spec : {M : Type 1} → statement M
 seal-term-spec =
     tie.close
     (tie.spec
-    add-put
-    put-requires
-    add-put-2
-    put-requires-2
-    add-put-3
-    put-requires-3
-    same-length
+    (λ c. search needs)
+    (λ c κs. search needs)
+    (λ c. search needs)
+    (λ c κs. search needs)
+    (λ c. search needs)
+    (λ c κs. search needs)
+    (λ c. search needs)
     returns)

@@ -1,17 +1,8 @@
 use native.Mathlib.Omega.{arith}
-use Rattle.core.proofs.Codes.{symbol-below, eq-sort, symbol-sort}
+use Rattle.core.proofs.Memory.Codes.{symbol-below, eq-sort, symbol-sort}
 use borrow.Author.Needs.{needs}
 use Rattle.core.proofs.context.sort_of.Statement.{statement}
 use Rattle.core.proofs.context.sort_of.Tie as tie
-
-op-requires : tie.Need-op-requires
-op-requires c κs = search needs
-
-enum-told : tie.Need-enum-told
-enum-told c = search needs
-
-enum-known-f : tie.Need-enum-known-f
-enum-known-f c = search needs
 
 result-sort-requires : tie.Need-result-sort-requires
 result-sort-requires c κs = (c .before .before .before .before .before .pre .0, symbol-below _ _ _ _ (c .before .before .before .op .ensures) (c .before .f .given .1))
@@ -24,4 +15,4 @@ returns-2 c = (symbol-sort _ _ _ _ _ (c .before .before .before .before .op .ens
 
 pub sort-of-spec : {M : Type 1} → statement M
 sort-of-spec =
-    tie.close (tie.spec op-requires enum-told enum-known-f result-sort-requires returns returns-2)
+    tie.close (tie.spec (λ c κs. search needs) (λ c. search needs) (λ c. search needs) result-sort-requires returns returns-2)

@@ -4,12 +4,6 @@ use borrow.Author.Needs.{needs}
 use Rattle.core.proofs.table.get.Statement.{statement}
 use Rattle.core.proofs.table.get.Tie as tie
 
-mul-result : tie.Need-mul-result
-mul-result c = search needs
-
-shared-slice-read-result : tie.Need-shared-slice-read-result
-shared-slice-read-result c = search needs
-
 cast-result : tie.Need-cast-result
 cast-result c = omega (arith, c .shared-slice-known .given (c .before .args .i))
 
@@ -17,4 +11,4 @@ returns : tie.Need-returns
 returns c = (refl, omega (arith, c .shared-slice-known .given (c .before .args .i)))
 
 pub get-spec : {M : Type 1} → statement M
-get-spec = tie.close (tie.spec mul-result shared-slice-read-result cast-result returns)
+get-spec = tie.close (tie.spec (λ c. search needs) (λ c. search needs) cast-result returns)

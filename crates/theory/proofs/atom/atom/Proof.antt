@@ -1,16 +1,10 @@
 use Prim.Native.Nat.{ℕ, _-_}
 use native.Mathlib.Omega.{arith}
 use mathlib.Core.Path.{_∙_, ap}
-use Rattle.theory.proofs.Registering.{registered-word, atom-is}
+use Rattle.theory.proofs.Memory.Registering.{registered-word, atom-is}
 use borrow.Author.Needs.{needs}
 use Rattle.theory.proofs.atom.atom.Statement.{statement}
 use Rattle.theory.proofs.atom.atom.Tie as tie
-
-cast-i : tie.Need-cast-i
-cast-i c = search needs
-
-add-get : tie.Need-add-get
-add-get c = search needs
 
 get-requires : tie.Need-get-requires
 get-requires c κs =
@@ -26,9 +20,6 @@ sub-t6 c =
     let e = c .get .ensures .0 in
     omega arith
 
-cast-t7 : tie.Need-cast-t7
-cast-t7 c = search needs
-
 returns : tie.Need-returns
 returns c =
     let z = c .before .before .before .pre in
@@ -37,4 +28,4 @@ returns c =
     (ap (λ (x : ℕ). x - 1) e ∙ atom-is _ _ (z .0) (w .0) (w .1), omega arith)
 
 pub atom-spec : {M : Type 1} → statement M
-atom-spec = tie.close (tie.spec cast-i add-get get-requires sub-t6 cast-t7 returns)
+atom-spec = tie.close (tie.spec (λ c. search needs) (λ c. search needs) get-requires sub-t6 (λ c. search needs) returns)

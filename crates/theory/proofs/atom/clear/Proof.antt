@@ -1,7 +1,7 @@
 use Prim.Native.Nat.{_-_}
 use mathlib.Core.Path.{_≡_, _∙_}
 use lib.ListN.{length}
-use Rattle.theory.proofs.Registers.{Emptying, empty-first, empty-next, empty-done}
+use Rattle.theory.proofs.Memory.Registers.{Emptying, empty-first, empty-next, empty-done}
 use borrow.Author.Needs.{needs}
 use Rattle.theory.proofs.atom.clear.Statement.{statement}
 use Rattle.theory.proofs.atom.clear.Tie as tie
@@ -12,29 +12,8 @@ Inv-loop t₀ k₀ t k = Emptying t₀ t k
 abbrev μ-loop : tie.MeasureT-loop
 μ-loop t₀ k₀ t k = 1024 - k
 
-put-requires : tie.Need-put-requires Inv-loop μ-loop
-put-requires c κs = search needs
-
 loop-holds : tie.Need-loop-holds Inv-loop μ-loop
 loop-holds c = empty-first (c .before .before .before .before .before .args .t .now) _ (c .before .before .before .before .before .pre) (c .before .before .put .ensures)
-
-add-put : tie.Need-add-put Inv-loop μ-loop
-add-put c = search needs
-
-put-requires-2 : tie.Need-put-requires-2 Inv-loop μ-loop
-put-requires-2 c κs = search needs
-
-add-put-2 : tie.Need-add-put-2 Inv-loop μ-loop
-add-put-2 c = search needs
-
-put-requires-3 : tie.Need-put-requires-3 Inv-loop μ-loop
-put-requires-3 c κs = search needs
-
-add-k : tie.Need-add-k Inv-loop μ-loop
-add-k c = search needs
-
-loop-less : tie.Need-loop-less Inv-loop μ-loop
-loop-less c = search needs
 
 loop-again : tie.Need-loop-again Inv-loop μ-loop
 loop-again c = empty-next _ _ _ _ _ (c .before .before .before .before .before .before .before .before .before .loop .inv) (c .before .before .before .before .before .before .before .before .loop-test .taken) (c .before .before .before .before .before .before .put2 .ensures) (c .before .before .put3 .ensures)
@@ -53,14 +32,14 @@ clear-spec =
     (tie.spec
     Inv-loop
     μ-loop
-    put-requires
+    (λ c κs. search needs)
     loop-holds
-    add-put
-    put-requires-2
-    add-put-2
-    put-requires-3
-    add-k
-    loop-less
+    (λ c. search needs)
+    (λ c κs. search needs)
+    (λ c. search needs)
+    (λ c κs. search needs)
+    (λ c. search needs)
+    (λ c. search needs)
     loop-again
     same-length
     returns)

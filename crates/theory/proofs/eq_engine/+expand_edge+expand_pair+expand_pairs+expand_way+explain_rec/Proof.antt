@@ -8,9 +8,9 @@ use native.Mathlib.Nat.{mod-lt}
 use borrow.Author.Needs.{needs}
 use lib.ListN.{length}
 use Rattle.theory.specs.EqEngine.{pairs-of, before, way}
-use Rattle.theory.specs.Table.{pair-at, just-at, merges}
-use Rattle.theory.specs.Explaining.{pairs-from, age, pairs-age, steps-age}
-use Rattle.theory.proofs.Explaining.{goes-one, goes-two, common-above, rec-older, Walking, walk-first, walk-rises, walk-ready, walk-older, walk-next, walk-done, Pairing, pair-first, pair-older, pair-next, pair-done, pair-few, pair-age, pair-nodes, pair-new, pair-known, edge-literal, edge-interface, edge-ready, edge-age, edge-goes, label-room, label-goes}
+use Rattle.theory.specs.Memory.Table.{pair-at, just-at, merges}
+use Rattle.theory.specs.Memory.Explaining.{pairs-from, age, pairs-age, steps-age}
+use Rattle.theory.proofs.Memory.Explaining.{goes-one, goes-two, common-above, rec-older, Walking, walk-first, walk-rises, walk-ready, walk-older, walk-next, walk-done, Pairing, pair-first, pair-older, pair-next, pair-done, pair-few, pair-age, pair-nodes, pair-new, pair-known, edge-literal, edge-interface, edge-ready, edge-age, edge-goes, label-room, label-goes}
 use Prim.Native.Nat.{ℕ, _<_}
 use borrow.Fn.Kinds.{In}
 use borrow.Fn.PlainCycle.{Measures, is, falls, and}

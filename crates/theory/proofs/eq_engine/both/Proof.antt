@@ -1,4 +1,4 @@
-use Rattle.theory.proofs.Marks.{both-first, both-not}
+use Rattle.theory.proofs.Memory.Marks.{both-first, both-not}
 use Rattle.theory.proofs.eq_engine.both.Statement.{statement}
 use Rattle.theory.proofs.eq_engine.both.Tie as tie
 

@@ -1,7 +1,7 @@
 use mathlib.Core.Path.{_≡_, _∙_}
 use lib.ListN.{length}
 use Prim.Native.Nat.{_-_}
-use Rattle.theory.proofs.Clearing.{Clearing, clear-first, clear-next, clear-done}
+use Rattle.theory.proofs.Memory.Clearing.{Clearing, clear-first, clear-next, clear-done}
 use borrow.Author.Needs.{needs}
 use Rattle.theory.proofs.eq_engine.clear.Statement.{statement}
 use Rattle.theory.proofs.eq_engine.clear.Tie as tie
@@ -12,23 +12,11 @@ Inv-loop t₀ n₀ t n = Clearing t₀ t n
 abbrev μ-loop : tie.MeasureT-loop
 μ-loop t₀ n₀ t n = 1024 - n
 
-put-requires : tie.Need-put-requires Inv-loop μ-loop
-put-requires c κs = search needs
-
-put-requires-2 : tie.Need-put-requires-2 Inv-loop μ-loop
-put-requires-2 c κs = search needs
-
 loop-holds : tie.Need-loop-holds Inv-loop μ-loop
 loop-holds c = clear-first (c .before .before .before .before .before .before .before .before .before .args .t .now) _ _ (c .before .before .before .before .before .before .before .before .before .pre) (c .before .before .before .before .before .before .put .ensures) (c .before .before .put2 .ensures)
 
 alone-requires : tie.Need-alone-requires Inv-loop μ-loop
 alone-requires c κs = (c .before .before .loop .inv .fits, search needs)
-
-add-n : tie.Need-add-n Inv-loop μ-loop
-add-n c = search needs
-
-loop-less : tie.Need-loop-less Inv-loop μ-loop
-loop-less c = search needs
 
 loop-again : tie.Need-loop-again Inv-loop μ-loop
 loop-again c = clear-next _ _ _ _ (c .before .before .before .before .before .loop .inv) (c .before .before .before .before .loop-test .taken) (c .before .before .alone .ensures)
@@ -47,12 +35,12 @@ clear-spec =
     (tie.spec
     Inv-loop
     μ-loop
-    put-requires
-    put-requires-2
+    (λ c κs. search needs)
+    (λ c κs. search needs)
     loop-holds
     alone-requires
-    add-n
-    loop-less
+    (λ c. search needs)
+    (λ c. search needs)
     loop-again
     same-length
     returns)

@@ -1,7 +1,7 @@
 use native.Mathlib.Omega.{arith}
 use Prim.Native.Nat.{_-_}
 use lib.ListN.{length}
-use Rattle.theory.proofs.Copying.{CopyingPairs, copying-first, copying-next, copying-done}
+use Rattle.theory.proofs.Memory.Copying.{CopyingPairs, copying-first, copying-next, copying-done}
 use borrow.Author.Needs.{needs}
 use Rattle.theory.proofs.eq_engine.copy_pairs.Statement.{statement}
 use Rattle.theory.proofs.eq_engine.copy_pairs.Tie as tie
@@ -15,35 +15,8 @@ abbrev μ-loop : tie.MeasureT-loop
 loop-holds : tie.Need-loop-holds Inv-loop μ-loop
 loop-holds c = copying-first _ _ _ _
 
-add-put : tie.Need-add-put Inv-loop μ-loop
-add-put c = search needs
-
-add-put-2 : tie.Need-add-put-2 Inv-loop μ-loop
-add-put-2 c = search needs
-
-get-requires : tie.Need-get-requires Inv-loop μ-loop
-get-requires c κs = search needs
-
-put-requires : tie.Need-put-requires Inv-loop μ-loop
-put-requires c κs = search needs
-
-add-put-3 : tie.Need-add-put-3 Inv-loop μ-loop
-add-put-3 c = search needs
-
-add-put-4 : tie.Need-add-put-4 Inv-loop μ-loop
-add-put-4 c = search needs
-
 get-requires-2 : tie.Need-get-requires-2 Inv-loop μ-loop
 get-requires-2 c κs = let p = c .before .before .before .before .before .before .before .before .before .before .before .pre .1 in let h = c .before .before .before .before .before .before .loop-test .taken in omega arith
-
-put-requires-2 : tie.Need-put-requires-2 Inv-loop μ-loop
-put-requires-2 c κs = search needs
-
-add-i : tie.Need-add-i Inv-loop μ-loop
-add-i c = search needs
-
-loop-less : tie.Need-loop-less Inv-loop μ-loop
-loop-less c = search needs
 
 loop-again : tie.Need-loop-again Inv-loop μ-loop
 loop-again c = copying-next _ _ _ _ _ _ _ _ _ _ (c .before .before .before .before .before .before .before .before .before .before .before .loop .inv) (c .before .before .before .before .before .before .before .before .before .before .before .before .before .before .before .pre .0) (c .before .before .before .before .before .before .before .before .before .before .before .before .before .before .before .pre .2) (c .before .before .before .before .before .before .before .before .before .before .loop-test .taken) (c .before .before .before .before .before .before .before .before .get .ensures .0) (c .before .before .before .get2 .ensures .0) (c .before .before .before .before .before .before .before .put .ensures) (c .before .before .put2 .ensures)
@@ -61,16 +34,16 @@ copy-pairs-spec =
     Inv-loop
     μ-loop
     loop-holds
-    add-put
-    add-put-2
-    get-requires
-    put-requires
-    add-put-3
-    add-put-4
+    (λ c. search needs)
+    (λ c. search needs)
+    (λ c κs. search needs)
+    (λ c κs. search needs)
+    (λ c. search needs)
+    (λ c. search needs)
     get-requires-2
-    put-requires-2
-    add-i
-    loop-less
+    (λ c κs. search needs)
+    (λ c. search needs)
+    (λ c. search needs)
     loop-again
     same-length
     returns)

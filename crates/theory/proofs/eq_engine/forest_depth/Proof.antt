@@ -1,8 +1,8 @@
 use native.Mathlib.Omega.{arith}
 use lib.ListN.{length}
 use Rattle.theory.specs.EqEngine.{way}
-use Rattle.theory.specs.Table.{merges}
-use Rattle.theory.proofs.Walks.{Counted, count-first, count-rises, count-next, count-done}
+use Rattle.theory.specs.Memory.Table.{merges}
+use Rattle.theory.proofs.Memory.Walks.{Counted, count-first, count-rises, count-next, count-done}
 use borrow.Author.Needs.{needs}
 use Rattle.theory.proofs.eq_engine.forest_depth.Statement.{statement}
 use Rattle.theory.proofs.eq_engine.forest_depth.Tie as tie
@@ -12,12 +12,6 @@ Inv-loop t node n₀ d₀ up₀ n d up = Counted t node n d up
 
 abbrev μ-loop : tie.MeasureT-loop
 μ-loop t node n₀ d₀ up₀ n d up = length (way (merges t) n)
-
-add-get : tie.Need-add-get Inv-loop μ-loop
-add-get c = search needs
-
-get-requires : tie.Need-get-requires Inv-loop μ-loop
-get-requires c κs = search needs
 
 loop-holds : tie.Need-loop-holds Inv-loop μ-loop
 loop-holds c = let z = c .before .before .pre in count-first _ _ _ (z .0) (z .1) (c .get .ensures .0)
@@ -57,8 +51,8 @@ forest-depth-spec =
     (tie.spec
     Inv-loop
     μ-loop
-    add-get
-    get-requires
+    (λ c. search needs)
+    (λ c κs. search needs)
     loop-holds
     add-d
     add-get-2

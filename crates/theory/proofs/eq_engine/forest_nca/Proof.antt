@@ -1,7 +1,7 @@
 use Prim.Native.Nat.{_+_}
 use borrow.Author.Needs.{needs}
 use native.Mathlib.Omega.{arith}
-use Rattle.theory.proofs.Walks.{Nearing, near-first, near-x, near-y, x-deep, near-done}
+use Rattle.theory.proofs.Memory.Walks.{Nearing, near-first, near-x, near-y, x-deep, near-done}
 use Rattle.theory.proofs.eq_engine.forest_nca.Statement.{statement}
 use Rattle.theory.proofs.eq_engine.forest_nca.Tie as tie
 
@@ -11,12 +11,6 @@ Inv-loop t a b x₀ y₀ dx₀ dy₀ x y dx dy = Nearing t a b x y dx dy
 abbrev μ-loop : tie.MeasureT-loop
 μ-loop t a b x₀ y₀ dx₀ dy₀ x y dx dy = dx + dy
 
-forest-depth-requires : tie.Need-forest-depth-requires Inv-loop μ-loop
-forest-depth-requires c κs = search needs
-
-forest-depth-requires-2 : tie.Need-forest-depth-requires-2 Inv-loop μ-loop
-forest-depth-requires-2 c κs = search needs
-
 loop-holds : tie.Need-loop-holds Inv-loop μ-loop
 loop-holds c = let p = c .before .before .before .pre in near-first _ _ _ _ _ (p .0) (p .1) (p .2) (p .3) (c .before .forest-depth .ensures) (c .forest-depth2 .ensures)
 
@@ -25,12 +19,6 @@ add-get c = let w = c .before .before .loop .inv .y-within in omega arith
 
 get-requires : tie.Need-get-requires Inv-loop μ-loop
 get-requires c κs = let w = c .before .before .loop .inv .y-within in let l = c .before .before .before .before .before .before .pre .0 .long in omega arith
-
-sub-dy : tie.Need-sub-dy Inv-loop μ-loop
-sub-dy c = search needs
-
-loop-less : tie.Need-loop-less Inv-loop μ-loop
-loop-less c = search needs
 
 loop-again : tie.Need-loop-again Inv-loop μ-loop
 loop-again c = near-y _ _ _ _ _ _ _ (c .before .before .before .before .before .before .before .pre .0) (c .before .before .before .loop .inv) (c .before .before .loop-test .taken) _ (c .before .if1 .taken) (c .get .ensures .0)
@@ -59,13 +47,13 @@ forest-nca-spec =
     (tie.spec
     Inv-loop
     μ-loop
-    forest-depth-requires
-    forest-depth-requires-2
+    (λ c κs. search needs)
+    (λ c κs. search needs)
     loop-holds
     add-get
     get-requires
-    sub-dy
-    loop-less
+    (λ c. search needs)
+    (λ c. search needs)
     loop-again
     add-get-2
     get-requires-2

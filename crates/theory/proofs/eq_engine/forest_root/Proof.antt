@@ -1,8 +1,8 @@
 use native.Mathlib.Omega.{arith}
 use lib.ListN.{length}
 use Rattle.theory.specs.EqEngine.{way}
-use Rattle.theory.specs.Table.{merges}
-use Rattle.theory.proofs.Walks.{Rise, rise-first, rise-within, rise-next, rise-less, rise-done}
+use Rattle.theory.specs.Memory.Table.{merges}
+use Rattle.theory.proofs.Memory.Walks.{Rise, rise-first, rise-within, rise-next, rise-less, rise-done}
 use borrow.Author.Needs.{needs}
 use Rattle.theory.proofs.eq_engine.forest_root.Statement.{statement}
 use Rattle.theory.proofs.eq_engine.forest_root.Tie as tie
@@ -12,12 +12,6 @@ Inv-loop t node n₀ up₀ n up = Rise t node n up
 
 abbrev μ-loop : tie.MeasureT-loop
 μ-loop t node n₀ up₀ n up = length (way (merges t) n)
-
-add-get : tie.Need-add-get Inv-loop μ-loop
-add-get c = search needs
-
-get-requires : tie.Need-get-requires Inv-loop μ-loop
-get-requires c κs = search needs
 
 loop-holds : tie.Need-loop-holds Inv-loop μ-loop
 loop-holds c = let z = c .before .before .pre in rise-first _ _ _ (z .1) (c .get .ensures .0)
@@ -47,8 +41,8 @@ forest-root-spec =
     (tie.spec
     Inv-loop
     μ-loop
-    add-get
-    get-requires
+    (λ c. search needs)
+    (λ c κs. search needs)
     loop-holds
     add-get-2
     get-requires-2

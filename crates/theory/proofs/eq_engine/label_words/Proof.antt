@@ -1,24 +1,9 @@
 use mathlib.Core.Path.{refl, sym, subst}
 use Rattle.theory.specs.declared.types.EqJust as Given
-use Rattle.theory.specs.Steps.{HoldsLabel}
+use Rattle.theory.specs.Memory.Steps.{HoldsLabel}
 use borrow.Author.Needs.{needs}
 use Rattle.theory.proofs.eq_engine.label_words.Statement.{statement}
 use Rattle.theory.proofs.eq_engine.label_words.Tie as tie
-
-enum-known-j : tie.Need-enum-known-j
-enum-known-j c = search needs
-
-cast-t5 : tie.Need-cast-t5
-cast-t5 c = search needs
-
-enum-known-j-2 : tie.Need-enum-known-j-2
-enum-known-j-2 c = search needs
-
-cast-t6 : tie.Need-cast-t6
-cast-t6 c = search needs
-
-cast-t7 : tie.Need-cast-t7
-cast-t7 c = search needs
 
 returns : tie.Need-returns
 unfolding HoldsLabel
@@ -30,4 +15,4 @@ returns-2 c = subst (λ (j : Given.EqJust). HoldsLabel j (record { kind = 2; the
 
 pub label-words-spec : {M : Type 1} → statement M
 label-words-spec =
-    tie.close (tie.spec enum-known-j cast-t5 enum-known-j-2 cast-t6 cast-t7 returns returns-2)
+    tie.close (tie.spec (λ c. search needs) (λ c. search needs) (λ c. search needs) (λ c. search needs) (λ c. search needs) returns returns-2)

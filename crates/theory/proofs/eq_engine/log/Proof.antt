@@ -1,40 +1,7 @@
-use Rattle.theory.proofs.Merging.{put-logged}
+use Rattle.theory.proofs.Memory.Merging.{put-logged}
 use borrow.Author.Needs.{needs}
 use Rattle.theory.proofs.eq_engine.log.Statement.{statement}
 use Rattle.theory.proofs.eq_engine.log.Tie as tie
-
-add-put : tie.Need-add-put
-add-put c = search needs
-
-put-requires : tie.Need-put-requires
-put-requires c κs = search needs
-
-add-put-2 : tie.Need-add-put-2
-add-put-2 c = search needs
-
-put-requires-2 : tie.Need-put-requires-2
-put-requires-2 c κs = search needs
-
-add-put-3 : tie.Need-add-put-3
-add-put-3 c = search needs
-
-put-requires-3 : tie.Need-put-requires-3
-put-requires-3 c κs = search needs
-
-add-put-4 : tie.Need-add-put-4
-add-put-4 c = search needs
-
-put-requires-4 : tie.Need-put-requires-4
-put-requires-4 c κs = search needs
-
-add-put-5 : tie.Need-add-put-5
-add-put-5 c = search needs
-
-put-requires-5 : tie.Need-put-requires-5
-put-requires-5 c κs = search needs
-
-same-length : tie.Need-same-length
-same-length c = search needs
 
 returns : tie.Need-returns
 returns c = let z = c .before .before .before .before .before .before .before .before .before .before .before .before .before .before .before .before .before .before .before .before .before .pre in put-logged _ _ _ _ _ _ _ _ _ _ _ _ (z .0) (z .1) (c .before .before .before .before .before .before .before .before .before .before .before .before .before .before .before .before .before .before .put .ensures) (c .before .before .before .before .before .before .before .before .before .before .before .before .before .before .put2 .ensures) (c .before .before .before .before .before .before .before .before .before .before .put3 .ensures) (c .before .before .before .before .before .before .put4 .ensures) (c .before .before .put5 .ensures)
@@ -43,15 +10,15 @@ pub log-spec : {M : Type 1} → statement M
 log-spec =
     tie.close
     (tie.spec
-    add-put
-    put-requires
-    add-put-2
-    put-requires-2
-    add-put-3
-    put-requires-3
-    add-put-4
-    put-requires-4
-    add-put-5
-    put-requires-5
-    same-length
+    (λ c. search needs)
+    (λ c κs. search needs)
+    (λ c. search needs)
+    (λ c κs. search needs)
+    (λ c. search needs)
+    (λ c κs. search needs)
+    (λ c. search needs)
+    (λ c κs. search needs)
+    (λ c. search needs)
+    (λ c κs. search needs)
+    (λ c. search needs)
     returns)

@@ -1,28 +1,7 @@
-use Rattle.theory.proofs.Marks.{mark-one, mark-none}
+use Rattle.theory.proofs.Memory.Marks.{mark-one, mark-none}
 use borrow.Author.Needs.{needs}
 use Rattle.theory.proofs.eq_engine.mark_pair.Statement.{statement}
 use Rattle.theory.proofs.eq_engine.mark_pair.Tie as tie
-
-add-get : tie.Need-add-get
-add-get c = search needs
-
-get-requires : tie.Need-get-requires
-get-requires c κs = search needs
-
-add-get-2 : tie.Need-add-get-2
-add-get-2 c = search needs
-
-get-requires-2 : tie.Need-get-requires-2
-get-requires-2 c κs = search needs
-
-same-pair-requires : tie.Need-same-pair-requires
-same-pair-requires c κs = search needs
-
-put-requires : tie.Need-put-requires
-put-requires c κs = search needs
-
-same-length : tie.Need-same-length
-same-length c = search needs
 
 returns : tie.Need-returns
 returns c =
@@ -41,12 +20,12 @@ pub mark-pair-spec : {M : Type 1} → statement M
 mark-pair-spec =
     tie.close
     (tie.spec
-    add-get
-    get-requires
-    add-get-2
-    get-requires-2
-    same-pair-requires
-    put-requires
-    same-length
+    (λ c. search needs)
+    (λ c κs. search needs)
+    (λ c. search needs)
+    (λ c κs. search needs)
+    (λ c κs. search needs)
+    (λ c κs. search needs)
+    (λ c. search needs)
     returns
     returns-2)

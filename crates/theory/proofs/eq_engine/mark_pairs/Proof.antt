@@ -1,7 +1,7 @@
 use Prim.Native.Nat.{_-_}
 use native.Mathlib.Omega.{arith}
 use borrow.Author.Needs.{needs}
-use Rattle.theory.proofs.Marks.{Marking, marking-first, marking-next, marking-done}
+use Rattle.theory.proofs.Memory.Marks.{Marking, marking-first, marking-next, marking-done}
 use Rattle.theory.proofs.eq_engine.mark_pairs.Statement.{statement}
 use Rattle.theory.proofs.eq_engine.mark_pairs.Tie as tie
 
@@ -28,9 +28,6 @@ mark-pair-requires c κs =
 add-j : tie.Need-add-j Inv-loop μ-loop
 add-j c = let f = c .before .before .before .before .before .loop .inv .few in omega arith
 
-loop-less : tie.Need-loop-less Inv-loop μ-loop
-loop-less c = search needs
-
 loop-again : tie.Need-loop-again Inv-loop μ-loop
 loop-again c = marking-next _ _ _ _ _ _ _ _ (c .before .before .before .before .before .loop .inv) (c .before .before .before .before .loop-test .taken) (c .before .before .mark-pair .ensures)
 
@@ -50,7 +47,7 @@ mark-pairs-spec =
     loop-holds
     mark-pair-requires
     add-j
-    loop-less
+    (λ c. search needs)
     loop-again
     same-length
     returns)

@@ -1,22 +1,13 @@
-use Rattle.theory.proofs.Pairs.{pairs-none, pairs-newest}
+use Rattle.theory.proofs.Memory.Pairs.{pairs-none, pairs-newest}
 use borrow.Author.Needs.{needs}
 use Rattle.theory.proofs.eq_engine.pairs_in_force.Statement.{statement}
 use Rattle.theory.proofs.eq_engine.pairs_in_force.Tie as tie
 
-get-requires : tie.Need-get-requires
-get-requires c κs = search needs
-
 returns : tie.Need-returns
 returns c = pairs-none _ _ (c .before .get .ensures .0) (c .if1 .taken)
-
-add-get : tie.Need-add-get
-add-get c = search needs
-
-get-requires-2 : tie.Need-get-requires-2
-get-requires-2 c κs = search needs
 
 returns-2 : tie.Need-returns-2
 returns-2 c = pairs-newest _ _ _ (c .before .before .before .before .pre) (c .before .before .get .ensures .0) (c .before .if1 .left) (c .get2 .ensures .0)
 
 pub pairs-in-force-spec : {M : Type 1} → statement M
-pairs-in-force-spec = tie.close (tie.spec get-requires returns add-get get-requires-2 returns-2)
+pairs-in-force-spec = tie.close (tie.spec (λ c κs. search needs) returns (λ c. search needs) (λ c κs. search needs) returns-2)

@@ -2,8 +2,8 @@ use mathlib.Core.Path.{_∙_}
 use native.Mathlib.Omega.{arith}
 use lib.ListN.{length}
 use Rattle.theory.specs.EqEngine.{way}
-use Rattle.theory.specs.Table.{merges}
-use Rattle.theory.proofs.Turning.{Turning, turn-first, turn-within, turn-edge, turn-less, turn-next, turn-done}
+use Rattle.theory.specs.Memory.Table.{merges}
+use Rattle.theory.proofs.Memory.Turning.{Turning, turn-first, turn-within, turn-edge, turn-less, turn-next, turn-done}
 use borrow.Author.Needs.{needs}
 use Rattle.theory.proofs.eq_engine.reroot_forest.Statement.{statement}
 use Rattle.theory.proofs.eq_engine.reroot_forest.Tie as tie
@@ -13,18 +13,6 @@ Inv-loop t₀ node top prev₀ edge₀ cur₀ t prev edge cur = Turning t₀ t n
 
 abbrev μ-loop : tie.MeasureT-loop
 μ-loop t₀ node top prev₀ edge₀ cur₀ t prev edge cur = length (way (merges t₀) prev)
-
-add-get : tie.Need-add-get Inv-loop μ-loop
-add-get c = search needs
-
-get-requires : tie.Need-get-requires Inv-loop μ-loop
-get-requires c κs = search needs
-
-add-get-2 : tie.Need-add-get-2 Inv-loop μ-loop
-add-get-2 c = search needs
-
-get-requires-2 : tie.Need-get-requires-2 Inv-loop μ-loop
-get-requires-2 c κs = search needs
 
 loop-holds : tie.Need-loop-holds Inv-loop μ-loop
 loop-holds c = turn-first _ _ _ _ _ (c .before .before .before .before .before .pre .1) (c .before .before .before .before .before .pre .2) (c .before .before .get .ensures .0) (c .get2 .ensures .0)
@@ -59,9 +47,6 @@ loop-less c = turn-less _ _ _ _ _ _ _ (c .before .before .before .before .before
 loop-again : tie.Need-loop-again Inv-loop μ-loop
 loop-again c = turn-next _ _ _ _ _ _ _ (c .before .before .before .before .before .before .before .before .before .before .before .before .before .before .before .before .before .before .before .pre .0) (c .before .before .before .before .before .before .before .before .before .before .before .before .before .loop .inv) _ _ (c .before .before .before .before .before .before .before .before .before .before .before .before .loop-test .taken) (c .before .before .before .before .before .before .put .ensures) (c .before .before .put2 .ensures) _ _ (c .before .before .before .before .before .before .before .before .before .before .get3 .ensures .0) (c .before .before .before .before .before .before .before .before .get4 .ensures .0)
 
-add-put-3 : tie.Need-add-put-3 Inv-loop μ-loop
-add-put-3 c = search needs
-
 put-requires-3 : tie.Need-put-requires-3 Inv-loop μ-loop
 put-requires-3 c κs = let l = c .before .before .loop .inv .long in let m = c .before .before .before .before .before .before .before .before .pre .0 .long in (omega arith, omega arith)
 
@@ -77,10 +62,10 @@ reroot-forest-spec =
     (tie.spec
     Inv-loop
     μ-loop
-    add-get
-    get-requires
-    add-get-2
-    get-requires-2
+    (λ c. search needs)
+    (λ c κs. search needs)
+    (λ c. search needs)
+    (λ c κs. search needs)
     loop-holds
     add-get-3
     get-requires-3
@@ -92,7 +77,7 @@ reroot-forest-spec =
     put-requires-2
     loop-less
     loop-again
-    add-put-3
+    (λ c. search needs)
     put-requires-3
     same-length
     returns)

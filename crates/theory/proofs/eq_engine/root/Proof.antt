@@ -1,7 +1,7 @@
 use native.Mathlib.Omega.{arith}
-use Rattle.theory.specs.Table.{merges}
+use Rattle.theory.specs.Memory.Table.{merges}
 use Rattle.theory.proofs.UnionFind.{depth}
-use Rattle.theory.proofs.Nodes.{Climb, climb-first, climb-within, climb-next, climb-less, climb-done}
+use Rattle.theory.proofs.Memory.Nodes.{Climb, climb-first, climb-within, climb-next, climb-less, climb-done}
 use borrow.Author.Needs.{needs}
 use Rattle.theory.proofs.eq_engine.root.Statement.{statement}
 use Rattle.theory.proofs.eq_engine.root.Tie as tie
@@ -11,12 +11,6 @@ Inv-loop t node n₀ up₀ n up = Climb t node n up
 
 abbrev μ-loop : tie.MeasureT-loop
 μ-loop t node n₀ up₀ n up = depth (merges t) n
-
-add-get : tie.Need-add-get Inv-loop μ-loop
-add-get c = search needs
-
-get-requires : tie.Need-get-requires Inv-loop μ-loop
-get-requires c κs = search needs
 
 loop-holds : tie.Need-loop-holds Inv-loop μ-loop
 loop-holds c = let z = c .before .before .pre in climb-first _ _ _ (z .0) (z .1) (c .get .ensures .0)
@@ -46,8 +40,8 @@ root-spec =
     (tie.spec
     Inv-loop
     μ-loop
-    add-get
-    get-requires
+    (λ c. search needs)
+    (λ c κs. search needs)
     loop-holds
     add-get-2
     get-requires-2

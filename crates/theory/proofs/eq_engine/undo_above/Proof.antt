@@ -1,7 +1,7 @@
 use mathlib.Core.Path.{sym, _∙_}
 use native.Mathlib.Omega.{arith}
-use Rattle.theory.specs.Table.{merges#}
-use Rattle.theory.proofs.Popping.{Popping, popping-first, some-above, popping-next, popping-done}
+use Rattle.theory.specs.Memory.Table.{merges#}
+use Rattle.theory.proofs.Memory.Popping.{Popping, popping-first, some-above, popping-next, popping-done}
 use Rattle.theory.proofs.eq_engine.undo_above.Statement.{statement}
 use Rattle.theory.proofs.eq_engine.undo_above.Tie as tie
 

@@ -1,7 +1,7 @@
 use Prim.Native.Nat.{_-_}
 use borrow.Author.Needs.{needs}
 use native.Mathlib.Omega.{arith}
-use Rattle.theory.proofs.Leaves.{Looking, look-first, look-next, look-found, look-missing}
+use Rattle.theory.proofs.Memory.Leaves.{Looking, look-first, look-next, look-found, look-missing}
 use Rattle.theory.proofs.types.has_leaf.Statement.{statement}
 use Rattle.theory.proofs.types.has_leaf.Tie as tie
 
@@ -11,9 +11,6 @@ Inv-loop out kind value n i₀ i = Looking out kind value n i
 abbrev μ-loop : tie.MeasureT-loop
 μ-loop out kind value n i₀ i = n - i
 
-get-requires : tie.Need-get-requires Inv-loop μ-loop
-get-requires c κs = search needs
-
 loop-holds : tie.Need-loop-holds Inv-loop μ-loop
 loop-holds c = look-first _ _ _ _ (c .get .ensures .0)
 
@@ -22,12 +19,6 @@ leaf-is-requires c κs = let e = c .before .loop .inv .count in (c .before .befo
 
 returns : tie.Need-returns Inv-loop μ-loop
 returns c = look-found _ _ _ _ _ (c .before .before .before .loop .inv) (c .before .before .loop-test .taken) (c .before .leaf-is .ensures) (c .if1 .taken)
-
-add-i : tie.Need-add-i Inv-loop μ-loop
-add-i c = search needs
-
-loop-less : tie.Need-loop-less Inv-loop μ-loop
-loop-less c = search needs
 
 loop-again : tie.Need-loop-again Inv-loop μ-loop
 loop-again c = look-next _ _ _ _ _ _ (c .before .before .before .loop .inv) (c .before .before .loop-test .taken) (c .before .leaf-is .ensures) (c .if1 .left)
@@ -41,11 +32,11 @@ has-leaf-spec =
     (tie.spec
     Inv-loop
     μ-loop
-    get-requires
+    (λ c κs. search needs)
     loop-holds
     leaf-is-requires
     returns
-    add-i
-    loop-less
+    (λ c. search needs)
+    (λ c. search needs)
     loop-again
     returns-2)

@@ -1,31 +1,13 @@
 use native.Mathlib.Omega.{arith}
 use lib.ListN.{length}
 use mathlib.Core.Path.{_≡_}
-use Rattle.theory.proofs.Leaves.{appended, pushed-old, pushed-new, room}
+use Rattle.theory.proofs.Memory.Leaves.{appended, pushed-old, pushed-new, room}
 use borrow.Author.Needs.{needs}
 use Rattle.theory.proofs.types.push_leaf.Statement.{statement}
 use Rattle.theory.proofs.types.push_leaf.Tie as tie
 
-has-leaf-requires : tie.Need-has-leaf-requires
-has-leaf-requires c κs = search needs
-
-same-length : tie.Need-same-length
-same-length c = search needs
-
 returns : tie.Need-returns
 returns c = pushed-old _ _ _ (c .before .has-leaf .ensures) (c .if1 .taken)
-
-get-requires : tie.Need-get-requires
-get-requires c κs = search needs
-
-add-put : tie.Need-add-put
-add-put c = search needs
-
-put-requires : tie.Need-put-requires
-put-requires c κs = search needs
-
-add-put-2 : tie.Need-add-put-2
-add-put-2 c = search needs
 
 put-requires-2 : tie.Need-put-requires-2
 put-requires-2 c κs =
@@ -37,15 +19,6 @@ put-requires-2 c κs =
     let l : length (c .before .before .before .put .last .0) ≡ length (start .args .out .now) = search needs in
     let k = start .pre in
     (omega arith, k .3)
-
-add-put-3 : tie.Need-add-put-3
-add-put-3 c = search needs
-
-put-requires-3 : tie.Need-put-requires-3
-put-requires-3 c κs = search needs
-
-same-length-2 : tie.Need-same-length-2
-same-length-2 c = search needs
 
 returns-2 : tie.Need-returns-2
 returns-2 c =
@@ -61,15 +34,15 @@ pub push-leaf-spec : {M : Type 1} → statement M
 push-leaf-spec =
     tie.close
     (tie.spec
-    has-leaf-requires
-    same-length
+    (λ c κs. search needs)
+    (λ c. search needs)
     returns
-    get-requires
-    add-put
-    put-requires
-    add-put-2
+    (λ c κs. search needs)
+    (λ c. search needs)
+    (λ c κs. search needs)
+    (λ c. search needs)
     put-requires-2
-    add-put-3
-    put-requires-3
-    same-length-2
+    (λ c. search needs)
+    (λ c κs. search needs)
+    (λ c. search needs)
     returns-2)

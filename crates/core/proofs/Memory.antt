@@ -1,0 +1,12 @@
+pub mod Stores
+pub mod Counted
+pub mod Searching
+pub mod Words
+pub mod Codes
+pub mod Parts
+pub mod Apps
+pub mod Append
+pub mod Intern
+pub mod Declare
+pub mod Symbols
+pub mod Constructors

@@ -1,0 +1,80 @@
+-- Laws of the numbers that stand for operations and roles.
+use Prim.Native.Nat.{ℕ, zero, suc, _+_, _-_, _≤_, _<_}
+use mathlib.Core.Path.{_≡_, refl, sym, ap, _∙_, subst}
+use mathlib.Core.List.{List}
+use native.Mathlib.Omega.{arith}
+use lib.ListN.{length}
+use Rattle.core.specs.Term.{Role, Constructor, Tester, Selector, Function, Eq, Uninterpreted}
+use Rattle.core.specs.Memory.Table.{op-of, role-of, member-role, context}
+use Rattle.core.specs.Context.{symbol, sort-of, result-of}
+use Rattle.core.specs.declared.ids.SymbolId.{SymbolId}
+use Rattle.core.specs.Memory.Codes.{op-meaning, OpBelow, RoleBelow, OpAt}
+use Rattle.core.specs.declared.term.Op as Op
+use Rattle.core.specs.declared.term.DtRole as DtRole
+
+pub op-of-zero : (w : ℕ) → w ≡ 0 → Eq ≡ op-of w
+unfolding op-of
+op-of-zero w e = rw e
+
+pub op-of-pred : (w : ℕ) → (w ≡ 0 → ⊥) → Uninterpreted (w - 1) ≡ op-of w
+unfolding op-of
+op-of-pred zero n = absurd (n refl)
+op-of-pred (suc w) n = let e : suc w - 1 ≡ w = omega arith in ap Uninterpreted e
+
+member-at : (c d : ℕ) (k : ℕ) → d ≡ k → member-role c k ≡ member-role c d
+member-at c d k e = ap (member-role c) (sym e)
+
+pub role-of-zero : (s w : ℕ) → w ≡ 0 → Function ≡ role-of s w
+unfolding role-of
+role-of-zero s w e = rw e
+
+pub role-of-ctor : (s w : ℕ) → (w ≡ 0 → ⊥) → s ≡ w - 1 → Constructor ≡ role-of s w
+unfolding role-of member-role
+role-of-ctor s zero n e = absurd (n refl)
+role-of-ctor s (suc c) n e = let d : s - c ≡ 0 = omega arith in member-at c (s - c) 0 d
+
+pub role-of-tester : (s w : ℕ) → (w ≡ 0 → ⊥) → s - (w - 1) ≡ 1 → Tester (w - 1) ≡ role-of s w
+unfolding role-of member-role
+role-of-tester s zero n e = absurd (n refl)
+role-of-tester s (suc c) n e =
+    let p : suc c - 1 ≡ c = omega arith in
+    let d : s - c ≡ 1 = omega arith in
+    ap Tester p ∙ member-at c (s - c) 1 d
+
+selector-at : (s c x : ℕ) → x ≡ c → x ≤ s → (s ≡ x → ⊥) → (s - x ≡ 1 → ⊥) → Selector x (s - x - 2) ≡ member-role c (s - c)
+unfolding member-role
+selector-at s c x e l a b =
+    subst (λ (y : ℕ). Selector x (s - x - 2) ≡ member-role y (s - y)) e
+    (let d : s - x ≡ suc (suc (s - x - 2)) = omega arith in member-at x (s - x) (suc (suc (s - x - 2))) d)
+
+pub role-of-selector : (s w : ℕ) → (w ≡ 0 → ⊥) → w - 1 ≤ s → (s ≡ w - 1 → ⊥) → (s - (w - 1) ≡ 1 → ⊥) → Selector (w - 1) (s - (w - 1) - 2) ≡ role-of s w
+unfolding role-of
+role-of-selector s zero n l a b = absurd (n refl)
+role-of-selector s (suc c) n l a b = selector-at s c (suc c - 1) (omega arith) l a b
+
+-- a declared symbol stays below a larger bound
+pub op-below : (m n : ℕ) (r : Op.Op) → m ≤ n → OpBelow m r → OpBelow n r
+unfolding OpBelow
+op-below m n Op.the-variants.Eq h b = tt
+op-below m n (Op.the-variants.Uninterpreted s) h b = omega arith
+
+pub role-below : (m n : ℕ) (r : DtRole.DtRole) → m ≤ n → RoleBelow m r → RoleBelow n r
+unfolding RoleBelow
+role-below m n DtRole.the-variants.Constructor h b = tt
+role-below m n (DtRole.the-variants.Tester c) h b = omega arith
+role-below m n (DtRole.the-variants.Selector c i) h b = omega arith
+role-below m n DtRole.the-variants.Function h b = tt
+
+-- ---- an operation that a match has found
+
+pub symbol-below : (t : List ℕ) (x : ℕ) (r : Op.Op) (f : SymbolId) → OpAt t x r → r ≡ Op.the-variants.Uninterpreted f → f .0 < length (context t .symbols)
+unfolding OpBelow
+symbol-below t x r f o e = subst (OpBelow (length (context t .symbols))) e (o .declared)
+
+pub eq-sort : (t : List ℕ) (x : ℕ) (r : Op.Op) → OpAt t x r → r ≡ Op.the-variants.Eq → 0 ≡ sort-of (context t) x
+unfolding sort-of result-of op-meaning
+eq-sort t x r o e = ap (result-of (context t)) (sym (ap op-meaning e) ∙ o .is)
+
+pub symbol-sort : (t : List ℕ) (x : ℕ) (r : Op.Op) (f : SymbolId) (q : ℕ) → OpAt t x r → r ≡ Op.the-variants.Uninterpreted f → q ≡ symbol (context t) (f .0) .result → q ≡ sort-of (context t) x
+unfolding sort-of result-of op-meaning
+symbol-sort t x r f q o e p = p ∙ ap (result-of (context t)) (sym (ap op-meaning e) ∙ o .is)

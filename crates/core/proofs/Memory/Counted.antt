@@ -1,0 +1,49 @@
+-- Counted lists: a list of n entries, entry i given by a function of i. Looking up, cutting, one more, and lists of entries that agree.
+use Prim.Native.Nat.{ℕ, zero, suc, _+_, _≤_, _<_}
+use mathlib.Core.Path.{_≡_, refl, sym, ap, ap₂, _∙_}
+use mathlib.Core.List.{List, [], _∷_, _++_, map}
+use native.Mathlib.Nat.{zero-add}
+use native.Mathlib.Omega.{arith}
+use lib.ListN.{length, getD, take}
+use lib.Seq.{ext-getD}
+use Rattle.core.specs.Lists.{range}
+use Rattle.core.specs.Memory.Words.{at, counted, stretch}
+use Rattle.core.proofs.Lists.{In, length-map-range, getD-map-range, map-range-cong, map-range-suc, take-map-range}
+
+module _ {A : Type 0} where
+  pub counted-length : (f : ℕ → A) (n : ℕ) → length (counted f n) ≡ n
+  unfolding counted
+  counted-length f n = length-map-range f 0 n
+
+  pub counted-at : (f : ℕ → A) (n i : ℕ) (d : A) → i < n → getD (counted f n) i d ≡ f i
+  unfolding counted
+  counted-at f n i d h = getD-map-range f 0 n i d h ∙ ap f (zero-add i)
+
+  pub counted-same : (f g : ℕ → A) (n : ℕ) → ((i : ℕ) → i < n → f i ≡ g i) → counted f n ≡ counted g n
+  unfolding counted
+  counted-same f g n h = map-range-cong f g 0 n (λ i l k. h i (omega arith))
+
+  pub counted-more : (f : ℕ → A) (n : ℕ) → counted f (suc n) ≡ counted f n ++ (f n ∷ [])
+  unfolding counted
+  counted-more f n = map-range-suc f 0 n ∙ ap (λ (k : ℕ). map f (range 0 n) ++ (f k ∷ [])) (zero-add n)
+
+  pub counted-cut : (f : ℕ → A) (n m : ℕ) → m ≤ n → take m (counted f n) ≡ counted f m
+  unfolding counted
+  counted-cut f n m h = take-map-range f 0 n m h
+
+  -- the entries that were there, and one more
+  pub counted-grown : (f g : ℕ → A) (n m : ℕ) (x : A) → m ≡ suc n → ((i : ℕ) → i < n → g i ≡ f i) → g n ≡ x → counted g m ≡ counted f n ++ (x ∷ [])
+  counted-grown f g n m x e old new =
+      ap (counted g) e ∙ counted-more g n ∙ ap₂ (λ (xs : List A) (y : A). xs ++ (y ∷ [])) (counted-same g f n old) new
+
+pub stretch-length : (t : List ℕ) (b i n : ℕ) → length (stretch t b i n) ≡ n
+unfolding stretch
+stretch-length t b i n = counted-length (λ j. at t b (i + j)) n
+
+pub stretch-at : (t : List ℕ) (b i n j : ℕ) → j < n → getD (stretch t b i n) j 0 ≡ at t b (i + j)
+unfolding stretch
+stretch-at t b i n j h = counted-at (λ k. at t b (i + k)) n j 0 h
+
+pub stretch-same : (t u : List ℕ) (b i n : ℕ) → ((j : ℕ) → i ≤ j → j < i + n → at u b j ≡ at t b j) → stretch u b i n ≡ stretch t b i n
+unfolding stretch
+stretch-same t u b i n h = counted-same (λ j. at u b (i + j)) (λ j. at t b (i + j)) n (λ j l. h (i + j) (omega arith) (omega arith))

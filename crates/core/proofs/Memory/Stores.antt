@@ -1,0 +1,107 @@
+-- Stores by region: what stands in a table after words of a region were written. `room` gives the room of each region, `size` is
+-- how many words the table has at least. Whether two regions lie apart is computed, so at named regions `tt` proves it.
+use Prim.Native.Nat.{ℕ, _+_, _≤_, _<_}
+use mathlib.Core.Path.{_≡_, refl, sym, ap, _∙_, subst}
+use mathlib.Core.Logic.{_⊎_, inl, inr}
+use mathlib.Core.Bool.{Bool, true, false, cond, _||_, _&&_}
+use mathlib.Core.List.{List, [], _∷_}
+use native.Mathlib.Decide.{ℕ-discrete}
+use native.Mathlib.Omega.{arith}
+use borrow.Author.Tests.{eq-eqb, ne-eqb, eqb-true}
+use lib.Dec.{T, eqb, leb, leb→le}
+use lib.ListN.{length, getD, length-set}
+use lib.Seq.{getD-set-same, getD-set-other, length-sets, sets}
+use Rattle.core.specs.Memory.Words.{at, put, put-all, apart, clear-of, one-of, Kept}
+use Rattle.core.proofs.Lists.{T-and, getD-sets-in, getD-sets-out}
+
+pub length-put : (t : List ℕ) (b x v : ℕ) → length (put t b x v) ≡ length t
+unfolding put
+length-put t b x v = length-set t (b + x) v
+
+pub length-put-all : (t : List ℕ) (b x : ℕ) (vs : List ℕ) → length (put-all t b x vs) ≡ length t
+unfolding put-all
+length-put-all t b x vs = length-sets t (b + x) vs
+
+pub other-place : (t : List ℕ) (b x y v : ℕ) → (y ≡ x → ⊥) → at (put t b x v) b y ≡ at t b y
+unfolding at put
+other-place t b x y v d = getD-set-other t (b + x) (b + y) v 0 (λ e. d (omega arith))
+
+module _ (room : ℕ → ℕ) where
+  -- the places of regions that lie apart are ordered
+  ordered : (b c : ℕ) → T (apart room b c) → (b + room b ≤ c) ⊎ (c + room c ≤ b)
+  ordered b c = go (leb (b + room b) c) (leb (c + room c) b) (leb→le (b + room b) c) (leb→le (c + room c) b)
+    where
+      go : (p q : Bool) → (T p → b + room b ≤ c) → (T q → c + room c ≤ b) → T (p || q) → (b + room b ≤ c) ⊎ (c + room c ≤ b)
+      go true q f g t = inl (f tt)
+      go false q f g t = inr (g t)
+
+  -- a store in region c leaves region b as it was
+  pub other-region : (t : List ℕ) (b c x y v : ℕ) → T (apart room b c) → x < room b → y < room c → at (put t c y v) b x ≡ at t b x
+  unfolding at put
+  other-region t b c x y v a h k = getD-set-other t (c + y) (b + x) v 0 (differ (ordered b c a))
+    where
+      differ : (b + room b ≤ c) ⊎ (c + room c ≤ b) → b + x ≡ c + y → ⊥
+      differ (inl l) e = omega arith
+      differ (inr l) e = omega arith
+
+  -- and so does a run of stores
+  pub all-other : (t : List ℕ) (b c x y : ℕ) (vs : List ℕ) → T (apart room b c) → x < room b → y + length vs ≤ room c → at (put-all t c y vs) b x ≡ at t b x
+  unfolding at put-all
+  all-other t b c x y vs a h k = getD-sets-out t (c + y) vs (b + x) 0 (outside (ordered b c a))
+    where
+      outside : (b + room b ≤ c) ⊎ (c + room c ≤ b) → (b + x < c + y) ⊎ (c + y + length vs ≤ b + x)
+      outside (inl l) = inl (omega arith)
+      outside (inr l) = inr (omega arith)
+
+  -- ---- what stores in some regions keep
+
+  clear-apart : (b c : ℕ) (ws : List ℕ) → T (clear-of room b ws) → T (one-of c ws) → T (apart room b c)
+  clear-apart b c [] a m = absurd m
+  clear-apart b c (w ∷ ws) a m =
+      let (here, there) = T-and (apart room b w) (clear-of room b ws) a in
+      go (eqb c w) refl here (clear-apart b c ws there) m
+    where
+      go : (d : Bool) → eqb c w ≡ d → T (apart room b w) → (T (one-of c ws) → T (apart room b c)) → T (cond d true (one-of c ws)) → T (apart room b c)
+      go true e h f n = subst (λ (k : ℕ). T (apart room b k)) (sym (eqb-true c w e)) h
+      go false e h f n = f n
+
+  pub kept-none : (ws t : List ℕ) → Kept room ws t t
+  kept-none ws t = record { long = refl; rest = λ b x a h. refl }
+
+  pub kept-then : (ws t u v : List ℕ) → Kept room ws t u → Kept room ws u v → Kept room ws t v
+  kept-then ws t u v p q = record { long = q .long ∙ p .long; rest = λ b x a h. q .rest b x a h ∙ p .rest b x a h }
+
+  pub kept-put : (ws t u : List ℕ) (c y v : ℕ) → T (one-of c ws) → y < room c → Kept room ws t u → Kept room ws t (put u c y v)
+  kept-put ws t u c y v m k p = record {
+    long = length-put u c y v ∙ p .long;
+    rest = λ b x a h. other-region u b c x y v (clear-apart b c ws a m) h k ∙ p .rest b x a h;
+  }
+
+  module _ (size : ℕ) where
+    pub same-place : (t : List ℕ) (b x v : ℕ) → T (leb (b + room b) size) → size ≤ length t → x < room b → at (put t b x v) b x ≡ v
+    unfolding at put
+    same-place t b x v f l h = let m = leb→le (b + room b) size f in getD-set-same t (b + x) v 0 (omega arith)
+
+    pub same-region : (t : List ℕ) (b x y v : ℕ) → T (leb (b + room b) size) → size ≤ length t → x < room b → at (put t b x v) b y ≡ cond (eqb y x) v (at t b y)
+    same-region t b x y v f l h = go (ℕ-discrete y x)
+      where
+        go : Dec (y ≡ x) → at (put t b x v) b y ≡ cond (eqb y x) v (at t b y)
+        go (yes e) = ap (at (put t b x v) b) e ∙ same-place t b x v f l h ∙ sym (ap (λ (q : Bool). cond q v (at t b y)) (eq-eqb y x e))
+        go (no d) = other-place t b x y v d ∙ sym (ap (λ (q : Bool). cond q v (at t b y)) (ne-eqb y x d))
+
+    pub put-long : (t : List ℕ) (b x v : ℕ) → size ≤ length t → size ≤ length (put t b x v)
+    put-long t b x v l = let e = length-put t b x v in omega arith
+
+    -- a run of stores: its own words, and those of its region before and behind it
+    pub all-same : (t : List ℕ) (b x : ℕ) (vs : List ℕ) (k : ℕ) → T (leb (b + room b) size) → size ≤ length t → x + length vs ≤ room b → k < length vs → at (put-all t b x vs) b (x + k) ≡ at vs 0 k
+    unfolding at put-all
+    all-same t b x vs k f l h g =
+        let m = leb→le (b + room b) size f in
+        let e : b + (x + k) ≡ b + x + k = omega arith in
+        let z : k ≡ 0 + k = omega arith in
+        ap (λ (i : ℕ). getD (sets t (b + x) vs) i 0) e ∙ getD-sets-in t (b + x) vs k 0 g (omega arith) ∙ ap (λ (i : ℕ). getD vs i 0) z
+
+    pub all-outside : (t : List ℕ) (b x : ℕ) (vs : List ℕ) (k : ℕ) → (k < x) ⊎ (x + length vs ≤ k) → at (put-all t b x vs) b k ≡ at t b k
+    unfolding at put-all
+    all-outside t b x vs k (inl h) = getD-sets-out t (b + x) vs (b + k) 0 (inl (omega arith))
+    all-outside t b x vs k (inr h) = getD-sets-out t (b + x) vs (b + k) 0 (inr (omega arith))
