@@ -10,7 +10,7 @@ use borrow.Author.Tests.{eq-eqb, ne-eqb, eqb-true, eqb-false, leb-false, lt-leb}
 use Rattle.core.proofs.Lists.{In}
 use Rattle.theory.specs.Types.{EqJust}
 pub use Rattle.theory.specs.Memory.Table.{BothSides}
-use Rattle.theory.specs.EqEngine.{Merge, Classes, singletons, under, lower, higher, union, classes, find, are-equal, merge, pop-merges}
+use Rattle.theory.specs.EqEngine.{Merge, Classes, singletons, under, child, root, union, classes, find, are-equal, merge, pop-merges}
 
 -- ---- one class
 
@@ -59,13 +59,13 @@ same-alone x y e = sym (find-alone x) ∙ e ∙ find-alone y
 
 -- the side whose class went under, and the other
 pub record Union (m : Merge) (ms : List Merge) : Type 0 where
-  pub low : ℕ
-  pub high : ℕ
-  pub sides : BothSides m low high
-  pub is-under : classes (m ∷ ms) ≡ under (classes ms) (find ms low) (find ms high)
+  pub child : ℕ
+  pub root : ℕ
+  pub sides : BothSides m child root
+  pub is-under : classes (m ∷ ms) ≡ under (classes ms) (find ms child) (find ms root)
 
 pub union-of : (m : Merge) (ms : List Merge) → Union m ms
-unfolding find classes union lower higher
+unfolding find classes union child root
 union-of m ms = go (leb (classes ms .size rb) (classes ms .size ra)) refl
   where
     ra : ℕ
@@ -78,35 +78,35 @@ union-of m ms = go (leb (classes ms .size rb) (classes ms .size ra)) refl
     pick b = under (classes ms) (cond b rb ra) (cond b ra rb)
 
     go : (b : Bool) → leb (classes ms .size rb) (classes ms .size ra) ≡ b → Union m ms
-    go true e = record { low = m .b; high = m .a; sides = inr (refl, refl); is-under = ap pick e }
-    go false e = record { low = m .a; high = m .b; sides = inl (refl, refl); is-under = ap pick e }
+    go true e = record { child = m .b; root = m .a; sides = inr (refl, refl); is-under = ap pick e }
+    go false e = record { child = m .a; root = m .b; sides = inl (refl, refl); is-under = ap pick e }
 
 module _ (m : Merge) (ms : List Merge) (u : Union m ms) where
   -- who was with the lower side has the higher side's root, the others keep theirs
-  pub root-low : (x : ℕ) → Same ms x (u .low) → find (m ∷ ms) x ≡ find ms (u .high)
+  pub find-under : (x : ℕ) → Same ms x (u .child) → find (m ∷ ms) x ≡ find ms (u .root)
   unfolding find under
-  root-low x e =
+  find-under x e =
       ap (λ (c : Classes). c .find x) (u .is-under)
-      ∙ ap (λ (b : Bool). cond b (find ms (u .high)) (find ms x)) (eq-eqb (find ms x) (find ms (u .low)) e)
+      ∙ ap (λ (b : Bool). cond b (find ms (u .root)) (find ms x)) (eq-eqb (find ms x) (find ms (u .child)) e)
 
-  pub root-other : (x : ℕ) → (Same ms x (u .low) → ⊥) → find (m ∷ ms) x ≡ find ms x
+  pub root-other : (x : ℕ) → (Same ms x (u .child) → ⊥) → find (m ∷ ms) x ≡ find ms x
   unfolding find under
   root-other x h =
       ap (λ (c : Classes). c .find x) (u .is-under)
-      ∙ ap (λ (b : Bool). cond b (find ms (u .high)) (find ms x)) (ne-eqb (find ms x) (find ms (u .low)) h)
+      ∙ ap (λ (b : Bool). cond b (find ms (u .root)) (find ms x)) (ne-eqb (find ms x) (find ms (u .child)) h)
 
-  pub root-high : (x : ℕ) → Same ms x (u .high) → find (m ∷ ms) x ≡ find ms (u .high)
-  root-high x e = go (same? ms x (u .low))
+  pub find-over : (x : ℕ) → Same ms x (u .root) → find (m ∷ ms) x ≡ find ms (u .root)
+  find-over x e = go (same? ms x (u .child))
     where
-      go : Dec (Same ms x (u .low)) → find (m ∷ ms) x ≡ find ms (u .high)
-      go (yes s) = root-low x s
+      go : Dec (Same ms x (u .child)) → find (m ∷ ms) x ≡ find ms (u .root)
+      go (yes s) = find-under x s
       go (no h) = root-other x h ∙ e
 
   -- the roots of the two sides differ, if the sides did
-  pub roots-differ : are-equal ms (m .a) (m .b) ≡ false → Same ms (u .low) (u .high) → ⊥
+  pub roots-differ : are-equal ms (m .a) (m .b) ≡ false → Same ms (u .child) (u .root) → ⊥
   roots-differ j e = unequal ms (m .a) (m .b) j (go (u .sides))
     where
-      go : BothSides m (u .low) (u .high) → Same ms (m .a) (m .b)
+      go : BothSides m (u .child) (u .root) → Same ms (m .a) (m .b)
       go (inl (p, q)) = ap (find ms) (sym p) ∙ e ∙ ap (find ms) q
       go (inr (p, q)) = ap (find ms) (sym q) ∙ sym e ∙ ap (find ms) p
 
@@ -126,20 +126,20 @@ turned-sides m p q (inr (e, f)) = inl (f, e)
 pub same-kept : (m : Merge) (ms : List Merge) (x y : ℕ) → Same ms x y → Same (m ∷ ms) x y
 same-kept m ms x y e = go (union-of m ms)
   where
-    pick : (u : Union m ms) → Dec (Same ms x (u .low)) → Same (m ∷ ms) x y
-    pick u (yes s) = root-low m ms u x s ∙ sym (root-low m ms u y (sym e ∙ s))
+    pick : (u : Union m ms) → Dec (Same ms x (u .child)) → Same (m ∷ ms) x y
+    pick u (yes s) = find-under m ms u x s ∙ sym (find-under m ms u y (sym e ∙ s))
     pick u (no h) = root-other m ms u x h ∙ e ∙ sym (root-other m ms u y (λ s. h (e ∙ s)))
 
     go : Union m ms → Same (m ∷ ms) x y
-    go u = pick u (same? ms x (u .low))
+    go u = pick u (same? ms x (u .child))
 
 -- the sides are joined
 pub same-sides : (m : Merge) (ms : List Merge) → Same (m ∷ ms) (m .a) (m .b)
 same-sides m ms = go (union-of m ms)
   where
-    joined : (u : Union m ms) → BothSides m (u .low) (u .high) → Same (m ∷ ms) (m .a) (m .b)
-    joined u (inl (p, q)) = root-low m ms u (m .a) (ap (find ms) (sym p)) ∙ sym (root-high m ms u (m .b) (ap (find ms) (sym q)))
-    joined u (inr (p, q)) = root-high m ms u (m .a) (ap (find ms) (sym q)) ∙ sym (root-low m ms u (m .b) (ap (find ms) (sym p)))
+    joined : (u : Union m ms) → BothSides m (u .child) (u .root) → Same (m ∷ ms) (m .a) (m .b)
+    joined u (inl (p, q)) = find-under m ms u (m .a) (ap (find ms) (sym p)) ∙ sym (find-over m ms u (m .b) (ap (find ms) (sym q)))
+    joined u (inr (p, q)) = find-over m ms u (m .a) (ap (find ms) (sym q)) ∙ sym (find-under m ms u (m .b) (ap (find ms) (sym p)))
 
     go : Union m ms → Same (m ∷ ms) (m .a) (m .b)
     go u = joined u (u .sides)
@@ -148,15 +148,15 @@ same-sides m ms = go (union-of m ms)
 pub same-split : (m : Merge) (ms : List Merge) (x y : ℕ) → Same (m ∷ ms) x y → Same ms x y ⊎ Across m ms x y
 same-split m ms x y e = go (union-of m ms)
   where
-    pick : (u : Union m ms) → Dec (Same ms x (u .low)) → Dec (Same ms y (u .low)) → Same ms x y ⊎ Across m ms x y
+    pick : (u : Union m ms) → Dec (Same ms x (u .child)) → Dec (Same ms y (u .child)) → Same ms x y ⊎ Across m ms x y
     pick u (yes s) (yes t) = inl (s ∙ sym t)
-    pick u (yes s) (no k) = inr (across m ms x y (u .low) (u .high) (u .sides) s (sym (root-low m ms u x s) ∙ e ∙ root-other m ms u y k))
+    pick u (yes s) (no k) = inr (across m ms x y (u .child) (u .root) (u .sides) s (sym (find-under m ms u x s) ∙ e ∙ root-other m ms u y k))
     pick u (no h) (yes t) =
-        inr (across m ms x y (u .high) (u .low) (turned-sides m (u .low) (u .high) (u .sides)) (sym (root-other m ms u x h) ∙ e ∙ root-low m ms u y t) (sym t))
+        inr (across m ms x y (u .root) (u .child) (turned-sides m (u .child) (u .root) (u .sides)) (sym (root-other m ms u x h) ∙ e ∙ find-under m ms u y t) (sym t))
     pick u (no h) (no k) = inl (sym (root-other m ms u x h) ∙ e ∙ root-other m ms u y k)
 
     go : Union m ms → Same ms x y ⊎ Across m ms x y
-    go u = pick u (same? ms x (u .low)) (same? ms y (u .low))
+    go u = pick u (same? ms x (u .child)) (same? ms y (u .child))
 
 -- ---- suffixes: the merges of some time before
 

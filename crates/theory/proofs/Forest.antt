@@ -342,11 +342,11 @@ module _ (W : ℕ → List Step) (F : Forest W) where
       go : (b : Bool) → mem y (nodes x (W x)) ≡ b → (v ≡ y) ⊎ Above W v (s .up) → (Above W v (s .up) → Meet W x (s .up) rest) → Meet W x y (Option·getD (cond b (some y) (first (λ n. mem n (nodes x (W x))) (s .up ∷ map (λ (t : Step). t .up) w))) d)
       go true e k f = record { on-x = mem-on y x (subst T (sym e) tt); on-y = inl refl; lowest = λ u k l. shorter u y l }
       go false e (inl k) f = absurd (subst T e (on-mem y x (subst (λ (u : ℕ). Above W u x) k i)))
-      go false e (inr k) f = record { on-x = f k .on-x; on-y = from-step rest y s w p (f k .on-y); lowest = λ u l o. low u l (at-step u y s w p o) }
+      go false e (inr k) f = record { on-x = f k .on-x; on-y = from-step rest y s w p (f k .on-y); lowest = λ u l o. child u l (at-step u y s w p o) }
         where
-          low : (u : ℕ) → Above W u x → (u ≡ y) ⊎ Above W u (s .up) → length (W u) ≤ length (W rest)
-          low u l (inl q) = absurd (subst T e (on-mem y x (subst (λ (z : ℕ). Above W z x) q l)))
-          low u l (inr o) = f k .lowest u l o
+          child : (u : ℕ) → Above W u x → (u ≡ y) ⊎ Above W u (s .up) → length (W u) ≤ length (W rest)
+          child u l (inl q) = absurd (subst T e (on-mem y x (subst (λ (z : ℕ). Above W z x) q l)))
+          child u l (inr o) = f k .lowest u l o
 
   pub common-meets : (x y v : ℕ) → Above W v x → Above W v y → Meet W x y (common x (W x) y (W y))
   unfolding common nodes

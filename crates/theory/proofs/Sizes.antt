@@ -13,10 +13,10 @@ use Rattle.core.specs.Lists.{range, total}
 use Rattle.core.proofs.Lists.{In, in-range}
 use Rattle.theory.specs.EqEngine.{Merge, Classes, singletons, under, classes, find, are-equal}
 use Rattle.theory.proofs.Members.{Apart, apart-length}
-use Rattle.theory.proofs.Classes.{Same, same?, find-alone, BothSides, Union, union-of, root-low, root-high, root-other, roots-differ}
+use Rattle.theory.proofs.Classes.{Same, same?, find-alone, BothSides, Union, union-of, find-under, find-over, root-other, roots-differ}
 use Rattle.theory.proofs.Forest.{Joins}
 
-size-under : (m : Merge) (ms : List Merge) (u : Union m ms) (r : ℕ) → classes (m ∷ ms) .size r ≡ cond (eqb r (find ms (u .high))) (classes ms .size (find ms (u .low)) + classes ms .size (find ms (u .high))) (classes ms .size r)
+size-under : (m : Merge) (ms : List Merge) (u : Union m ms) (r : ℕ) → classes (m ∷ ms) .size r ≡ cond (eqb r (find ms (u .root))) (classes ms .size (find ms (u .child)) + classes ms .size (find ms (u .root))) (classes ms .size r)
 unfolding under
 size-under m ms u r = ap (λ (c : Classes). c .size r) (u .is-under)
 
@@ -27,21 +27,21 @@ pub find-find : (ms : List Merge) (x : ℕ) → find ms (find ms x) ≡ find ms 
 find-find [] x = ap (find []) (find-alone x)
 find-find (m ∷ ms) x = go (union-of m ms) (find-find ms)
   where
-    pick : (u : Union m ms) → ((z : ℕ) → find ms (find ms z) ≡ find ms z) → Dec (Same ms x (u .low)) → find (m ∷ ms) (find (m ∷ ms) x) ≡ find (m ∷ ms) x
-    pick u h (yes s) = ap (find (m ∷ ms)) (root-low m ms u x s) ∙ root-high m ms u (find ms (u .high)) (h (u .high)) ∙ sym (root-low m ms u x s)
+    pick : (u : Union m ms) → ((z : ℕ) → find ms (find ms z) ≡ find ms z) → Dec (Same ms x (u .child)) → find (m ∷ ms) (find (m ∷ ms) x) ≡ find (m ∷ ms) x
+    pick u h (yes s) = ap (find (m ∷ ms)) (find-under m ms u x s) ∙ find-over m ms u (find ms (u .root)) (h (u .root)) ∙ sym (find-under m ms u x s)
     pick u h (no k) = ap (find (m ∷ ms)) (root-other m ms u x k) ∙ root-other m ms u (find ms x) (λ s. k (sym (h x) ∙ s)) ∙ h x ∙ sym (root-other m ms u x k)
 
     go : Union m ms → ((z : ℕ) → find ms (find ms z) ≡ find ms z) → find (m ∷ ms) (find (m ∷ ms) x) ≡ find (m ∷ ms) x
-    go u h = pick u h (same? ms x (u .low))
+    go u h = pick u h (same? ms x (u .child))
 
 -- a root after the merge was one before, and is not the one that went under
-root-stays : (m : Merge) (ms : List Merge) (u : Union m ms) → are-equal ms (m .a) (m .b) ≡ false → (r : ℕ) → find (m ∷ ms) r ≡ r → (find ms r ≡ r) × (r ≡ find ms (u .low) → ⊥)
-root-stays m ms u j r e = go (same? ms r (u .low))
+root-stays : (m : Merge) (ms : List Merge) (u : Union m ms) → are-equal ms (m .a) (m .b) ≡ false → (r : ℕ) → find (m ∷ ms) r ≡ r → (find ms r ≡ r) × (r ≡ find ms (u .child) → ⊥)
+root-stays m ms u j r e = go (same? ms r (u .child))
   where
-    go : Dec (Same ms r (u .low)) → (find ms r ≡ r) × (r ≡ find ms (u .low) → ⊥)
+    go : Dec (Same ms r (u .child)) → (find ms r ≡ r) × (r ≡ find ms (u .child) → ⊥)
     go (yes s) =
-        let q : r ≡ find ms (u .high) = sym e ∙ root-low m ms u r s in
-        absurd (roots-differ m ms u j (sym s ∙ ap (find ms) q ∙ find-find ms (u .high)))
+        let q : r ≡ find ms (u .root) = sym e ∙ find-under m ms u r s in
+        absurd (roots-differ m ms u j (sym s ∙ ap (find ms) q ∙ find-find ms (u .root)))
     go (no h) = let q = sym (root-other m ms u r h) ∙ e in (q, λ p. h (q ∙ p))
 
 -- the sides of all merges are terms below n
@@ -56,12 +56,12 @@ pub find-within : (n : ℕ) (ms : List Merge) → Within n ms → (x : ℕ) → 
 find-within n [] w x l = subst (λ (z : ℕ). z < n) (sym (find-alone x)) l
 find-within n (m ∷ ms) w x l = go (union-of m ms) (find-within n ms (λ k i. w k (inr i)))
   where
-    pick : (u : Union m ms) → ((z : ℕ) → z < n → find ms z < n) → Dec (Same ms x (u .low)) → find (m ∷ ms) x < n
-    pick u h (yes s) = subst (λ (z : ℕ). z < n) (sym (root-low m ms u x s)) (h (u .high) (side-within n m (u .low) (u .high) (w m (inl refl)) (u .sides) .1))
+    pick : (u : Union m ms) → ((z : ℕ) → z < n → find ms z < n) → Dec (Same ms x (u .child)) → find (m ∷ ms) x < n
+    pick u h (yes s) = subst (λ (z : ℕ). z < n) (sym (find-under m ms u x s)) (h (u .root) (side-within n m (u .child) (u .root) (w m (inl refl)) (u .sides) .1))
     pick u h (no k) = subst (λ (z : ℕ). z < n) (sym (root-other m ms u x k)) (h x l)
 
     go : Union m ms → ((z : ℕ) → z < n → find ms z < n) → find (m ∷ ms) x < n
-    go u h = pick u h (same? ms x (u .low))
+    go u h = pick u h (same? ms x (u .child))
 
 -- ---- merges are fewer than terms
 
@@ -75,22 +75,22 @@ record Gone (n : ℕ) (ms : List Merge) : Type 0 where
 
 gone-more : (n : ℕ) (m : Merge) (ms : List Merge) (u : Union m ms) → are-equal ms (m .a) (m .b) ≡ false → Within n (m ∷ ms) → Gone n ms → Gone n (m ∷ ms)
 gone-more n m ms u j w g = record {
-  gone = find ms (u .low) ∷ g .gone;
+  gone = find ms (u .child) ∷ g .gone;
   count = ap suc (g .count);
-  apart = (g .never (u .low), g .apart);
-  never = λ x i. never x (same? ms x (u .low)) i;
+  apart = (g .never (u .child), g .apart);
+  never = λ x i. never x (same? ms x (u .child)) i;
   within = within;
 }
   where
-    never : (x : ℕ) → Dec (Same ms x (u .low)) → In (find (m ∷ ms) x) (find ms (u .low) ∷ g .gone) → ⊥
-    never x (yes s) (inl e) = roots-differ m ms u j (sym e ∙ root-low m ms u x s)
-    never x (yes s) (inr i) = g .never (u .high) (subst (λ (z : ℕ). In z (g .gone)) (root-low m ms u x s) i)
+    never : (x : ℕ) → Dec (Same ms x (u .child)) → In (find (m ∷ ms) x) (find ms (u .child) ∷ g .gone) → ⊥
+    never x (yes s) (inl e) = roots-differ m ms u j (sym e ∙ find-under m ms u x s)
+    never x (yes s) (inr i) = g .never (u .root) (subst (λ (z : ℕ). In z (g .gone)) (find-under m ms u x s) i)
     never x (no h) (inl e) = h (sym (root-other m ms u x h) ∙ e)
     never x (no h) (inr i) = g .never x (subst (λ (z : ℕ). In z (g .gone)) (root-other m ms u x h) i)
 
-    within : (r : ℕ) → In r (find ms (u .low) ∷ g .gone) → r < n
+    within : (r : ℕ) → In r (find ms (u .child) ∷ g .gone) → r < n
     within r (inl e) =
-        subst (λ (z : ℕ). z < n) (sym e) (find-within n ms (λ k i. w k (inr i)) (u .low) (side-within n m (u .low) (u .high) (w m (inl refl)) (u .sides) .0))
+        subst (λ (z : ℕ). z < n) (sym e) (find-within n ms (λ k i. w k (inr i)) (u .child) (side-within n m (u .child) (u .root) (w m (inl refl)) (u .sides) .0))
     within r (inr i) = g .within r i
 
 gone-of : (n : ℕ) (ms : List Merge) → Joins ms → Within n ms → Gone n ms
@@ -120,30 +120,30 @@ abbrev sizes : List Merge → List ℕ → ℕ
 sizes ms rs = total (map (λ r. classes ms .size r) rs)
 
 module _ (m : Merge) (ms : List Merge) (u : Union m ms) where
-  size-other : (r : ℕ) → (r ≡ find ms (u .high) → ⊥) → classes (m ∷ ms) .size r ≡ classes ms .size r
+  size-other : (r : ℕ) → (r ≡ find ms (u .root) → ⊥) → classes (m ∷ ms) .size r ≡ classes ms .size r
   size-other r h =
       size-under m ms u r
-      ∙ ap (λ (b : Bool). cond b (classes ms .size (find ms (u .low)) + classes ms .size (find ms (u .high))) (classes ms .size r)) (ne-eqb r (find ms (u .high)) h)
+      ∙ ap (λ (b : Bool). cond b (classes ms .size (find ms (u .child)) + classes ms .size (find ms (u .root))) (classes ms .size r)) (ne-eqb r (find ms (u .root)) h)
 
-  size-high : (r : ℕ) → r ≡ find ms (u .high) → classes (m ∷ ms) .size r ≡ classes ms .size (find ms (u .low)) + classes ms .size r
-  size-high r e =
+  size-root : (r : ℕ) → r ≡ find ms (u .root) → classes (m ∷ ms) .size r ≡ classes ms .size (find ms (u .child)) + classes ms .size r
+  size-root r e =
       size-under m ms u r
-      ∙ ap (λ (b : Bool). cond b (classes ms .size (find ms (u .low)) + classes ms .size (find ms (u .high))) (classes ms .size r)) (eq-eqb r (find ms (u .high)) e)
-      ∙ ap (λ (z : ℕ). classes ms .size (find ms (u .low)) + classes ms .size z) (sym e)
+      ∙ ap (λ (b : Bool). cond b (classes ms .size (find ms (u .child)) + classes ms .size (find ms (u .root))) (classes ms .size r)) (eq-eqb r (find ms (u .root)) e)
+      ∙ ap (λ (z : ℕ). classes ms .size (find ms (u .child)) + classes ms .size z) (sym e)
 
-  sizes-other : (rs : List ℕ) → (In (find ms (u .high)) rs → ⊥) → sizes (m ∷ ms) rs ≡ sizes ms rs
+  sizes-other : (rs : List ℕ) → (In (find ms (u .root)) rs → ⊥) → sizes (m ∷ ms) rs ≡ sizes ms rs
   unfolding total
   sizes-other [] h = refl
   sizes-other (r ∷ rs) h = let e = size-other r (λ q. h (inl (sym q))) in let f = sizes-other rs (λ i. h (inr i)) in omega arith
 
   -- different roots together gain at most the class that went under
-  sizes-grow : (rs : List ℕ) → Apart rs → sizes (m ∷ ms) rs ≤ classes ms .size (find ms (u .low)) + sizes ms rs
+  sizes-grow : (rs : List ℕ) → Apart rs → sizes (m ∷ ms) rs ≤ classes ms .size (find ms (u .child)) + sizes ms rs
   unfolding total
   sizes-grow [] a = omega arith
-  sizes-grow (r ∷ rs) (h, a) = go (ℕ-discrete r (find ms (u .high))) (sizes-grow rs a)
+  sizes-grow (r ∷ rs) (h, a) = go (ℕ-discrete r (find ms (u .root))) (sizes-grow rs a)
     where
-      go : Dec (r ≡ find ms (u .high)) → sizes (m ∷ ms) rs ≤ classes ms .size (find ms (u .low)) + sizes ms rs → classes (m ∷ ms) .size r + sizes (m ∷ ms) rs ≤ classes ms .size (find ms (u .low)) + (classes ms .size r + sizes ms rs)
-      go (yes e) l = omega (arith, size-high r e, sizes-other rs (λ i. h (subst (λ (z : ℕ). In z rs) (sym e) i)))
+      go : Dec (r ≡ find ms (u .root)) → sizes (m ∷ ms) rs ≤ classes ms .size (find ms (u .child)) + sizes ms rs → classes (m ∷ ms) .size r + sizes (m ∷ ms) rs ≤ classes ms .size (find ms (u .child)) + (classes ms .size r + sizes ms rs)
+      go (yes e) l = omega (arith, size-root r e, sizes-other rs (λ i. h (subst (λ (z : ℕ). In z rs) (sym e) i)))
       go (no k) l = omega (arith, size-other r k)
 
 sizes-alone : (rs : List ℕ) → sizes [] rs ≡ length rs
@@ -158,10 +158,10 @@ sizes-bound [] j rs a f = omega (arith, sizes-alone rs)
 sizes-bound (m ∷ ms) j rs a f = go (union-of m ms) (sizes-bound ms (j .1))
   where
     go : Union m ms → ((qs : List ℕ) → Apart qs → ((r : ℕ) → In r qs → find ms r ≡ r) → sizes ms qs ≤ length ms + length qs) → sizes (m ∷ ms) rs ≤ length (m ∷ ms) + length rs
-    go u h = omega (arith, sizes-grow m ms u rs a, h (find ms (u .low) ∷ rs) (λ i. root-stays m ms u (j .0) (find ms (u .low)) (f (find ms (u .low)) i) .1 refl, a) roots)
+    go u h = omega (arith, sizes-grow m ms u rs a, h (find ms (u .child) ∷ rs) (λ i. root-stays m ms u (j .0) (find ms (u .child)) (f (find ms (u .child)) i) .1 refl, a) roots)
       where
-        roots : (r : ℕ) → In r (find ms (u .low) ∷ rs) → find ms r ≡ r
-        roots r (inl e) = ap (find ms) e ∙ find-find ms (u .low) ∙ sym e
+        roots : (r : ℕ) → In r (find ms (u .child) ∷ rs) → find ms r ≡ r
+        roots r (inl e) = ap (find ms) e ∙ find-find ms (u .child) ∙ sym e
         roots r (inr i) = root-stays m ms u (j .0) r (f r i) .0
 
 -- two classes together
@@ -185,11 +185,11 @@ unfolding classes singletons
 size-bound [] j r = omega arith
 size-bound (m ∷ ms) j r = go (union-of m ms) (size-bound ms (j .1) r)
   where
-    pick : (u : Union m ms) → classes ms .size r ≤ suc (length ms) → Dec (r ≡ find ms (u .high)) → classes (m ∷ ms) .size r ≤ suc (suc (length ms))
+    pick : (u : Union m ms) → classes ms .size r ≤ suc (length ms) → Dec (r ≡ find ms (u .root)) → classes (m ∷ ms) .size r ≤ suc (suc (length ms))
     pick u l (yes e) =
         let h = ap (λ (z : ℕ). classes ms .size z) e in
-        omega (arith, size-high m ms u r e, sizes-two ms (u .low) (u .high) (j .1) (roots-differ m ms u (j .0)))
+        omega (arith, size-root m ms u r e, sizes-two ms (u .child) (u .root) (j .1) (roots-differ m ms u (j .0)))
     pick u l (no k) = omega (arith, size-other m ms u r k)
 
     go : Union m ms → classes ms .size r ≤ suc (length ms) → classes (m ∷ ms) .size r ≤ suc (suc (length ms))
-    go u l = pick u l (ℕ-discrete r (find ms (u .high)))
+    go u l = pick u l (ℕ-discrete r (find ms (u .root)))

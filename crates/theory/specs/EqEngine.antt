@@ -26,25 +26,25 @@ pub record Classes : Type 0 where
 unfoldable pub singletons : Classes
 singletons = record { find = λ x. x; size = λ r. 1 }
 
--- the class of root low goes under the root high
+-- the class of root child goes under the root
 unfoldable pub under : Classes → ℕ → ℕ → Classes
-under c low high = record {
-  find = λ x. let r = c .find x in cond (eqb r low) high r;
-  size = λ r. cond (eqb r high) (c .size low + c .size high) (c .size r);
+under c child root = record {
+  find = λ x. let r = c .find x in cond (eqb r child) root r;
+  size = λ r. cond (eqb r root) (c .size child + c .size root) (c .size r);
 }
 
 -- The smaller class goes under the larger; on a tie the first side's root stays. Of two roots, the one that goes under, and the other:
-unfoldable pub lower : (ℕ → ℕ) → ℕ → ℕ → ℕ
-lower size ra rb = cond (leb (size rb) (size ra)) rb ra
+unfoldable pub child : (ℕ → ℕ) → ℕ → ℕ → ℕ
+child size ra rb = cond (leb (size rb) (size ra)) rb ra
 
-unfoldable pub higher : (ℕ → ℕ) → ℕ → ℕ → ℕ
-higher size ra rb = cond (leb (size rb) (size ra)) ra rb
+unfoldable pub root : (ℕ → ℕ) → ℕ → ℕ → ℕ
+root size ra rb = cond (leb (size rb) (size ra)) ra rb
 
 unfoldable pub union : Classes → ℕ → ℕ → Classes
 union c a b =
     let ra = c .find a in
     let rb = c .find b in
-    under c (lower (c .size) ra rb) (higher (c .size) ra rb)
+    under c (child (c .size) ra rb) (root (c .size) ra rb)
 
 unfoldable pub classes : List Merge → Classes
 classes [] = singletons
@@ -176,5 +176,5 @@ unfoldable pub firsts : List EqLeaf → List EqLeaf
 firsts ls = firsts-after [] ls
 
 unfoldable pub engine-definitions : Unit {0}
-unfolding singletons under lower higher union classes find are-equal merge pop-merges pairs-of pairs-in-force before turned nodes common rehung way same-pair visit cite path expand-edge explain-rec explain firsts-after firsts
+unfolding singletons under child root union classes find are-equal merge pop-merges pairs-of pairs-in-force before turned nodes common rehung way same-pair visit cite path expand-edge explain-rec explain firsts-after firsts
 engine-definitions = tt

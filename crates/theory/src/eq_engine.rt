@@ -13,7 +13,7 @@ ghost use lib.Dec.{eqb, leb};
 ghost use lib.ListN.{length, set};
 ghost use Rattle.core.specs.Lists.{zip};
 ghost use Rattle.theory.specs.Types.{Congruence};
-ghost use Rattle.theory.specs.EqEngine.{lower, higher, find, are-equal, merge, pop-merges, pairs-of, pairs-in-force, before, common, way, same-pair, explain, firsts-after};
+ghost use Rattle.theory.specs.EqEngine.{child, root, find, are-equal, merge, pop-merges, pairs-of, pairs-in-force, before, common, way, same-pair, explain, firsts-after};
 ghost use Rattle.theory.specs.Memory.Table.{merges#, parent-word, size-word, left-word, right-word, pair-at, label, just-at, merges-below, merges, end, just-meaning, EqualPairs, level, EngineSound, Engine};
 ghost use Rattle.theory.specs.Memory.Answer.{leaves, AnswerSound};
 ghost use Rattle.theory.specs.Memory.Steps.{On, Rerooted, Spliced, United, Logged, Joinable, HoldsLabel, Copied, Separated, newest-above};
@@ -45,7 +45,7 @@ const LABEL: usize = 6208;
 
 const VALUE: usize = 7232;
 
-const LOW: usize = 8256;
+const CHILD: usize = 8256;
 
 const FROOT: usize = 9280;
 
@@ -198,21 +198,21 @@ fn splice(t: &mut [u32], a: usize, b: usize, i: usize)
     put(t, FROOT + i, r);
 }
 
-// The class of root low goes under the root high.
-fn put_under(t: &mut [u32], low: usize, high: usize, i: usize)
-    requires { ⌜ (16384 ≤ length (now t)) × (low < 1024) × (high < 1024) × (i < 1024) × (size-word (now t) low + size-word (now t) high < 4294967296) ⌝ }
-    ensures { λ _. ⌜ United (now (t .entry)) (now (t .exit)) low high i ⌝ }
+// The class of root child goes under the root.
+fn put_under(t: &mut [u32], child: usize, root: usize, i: usize)
+    requires { ⌜ (16384 ≤ length (now t)) × (child < 1024) × (root < 1024) × (i < 1024) × (size-word (now t) child + size-word (now t) root < 4294967296) ⌝ }
+    ensures { λ _. ⌜ United (now (t .entry)) (now (t .exit)) child root i ⌝ }
 {
-    let size = get(t, SIZE + low) + get(t, SIZE + high);
-    put(t, PARENT + low, high);
-    put(t, SIZE + high, size);
-    put(t, LOW + i, low);
+    let size = get(t, SIZE + child) + get(t, SIZE + root);
+    put(t, PARENT + child, root);
+    put(t, SIZE + root, size);
+    put(t, CHILD + i, child);
 }
 
 // The smaller class goes under the larger; on a tie the first side's root stays.
 fn union(t: &mut [u32], ra: usize, rb: usize, i: usize)
     requires { ⌜ (16384 ≤ length (now t)) × (ra < 1024) × (rb < 1024) × (i < 1024) × (size-word (now t) ra + size-word (now t) rb < 4294967296) ⌝ }
-    ensures { λ _. ⌜ United (now (t .entry)) (now (t .exit)) (lower (size-word (now (t .entry))) ra rb) (higher (size-word (now (t .entry))) ra rb) i ⌝ }
+    ensures { λ _. ⌜ United (now (t .entry)) (now (t .exit)) (child (size-word (now (t .entry))) ra rb) (root (size-word (now (t .entry))) ra rb) i ⌝ }
 {
     if get(t, SIZE + rb) <= get(t, SIZE + ra) {
         put_under(t, rb, ra, i);
@@ -329,16 +329,16 @@ pub fn merge_congruence(t: &mut [u32], a: TermId, b: TermId, xs: &[u32], ys: &[u
 
 // ---- undoing
 
-// The class of root low, which was under another, is its own again.
-fn separate(t: &mut [u32], low: usize)
-    requires { ⌜ (16384 ≤ length (now t)) × (low < 1024) × (parent-word (now t) low < 1024) × (size-word (now t) low ≤ size-word (now t) (parent-word (now t) low)) ⌝ }
-    ensures { λ _. ⌜ Separated (now (t .entry)) (now (t .exit)) low (parent-word (now (t .entry)) low) ⌝ }
+// The class of root child, which was under another, is its own again.
+fn separate(t: &mut [u32], child: usize)
+    requires { ⌜ (16384 ≤ length (now t)) × (child < 1024) × (parent-word (now t) child < 1024) × (size-word (now t) child ≤ size-word (now t) (parent-word (now t) child)) ⌝ }
+    ensures { λ _. ⌜ Separated (now (t .entry)) (now (t .exit)) child (parent-word (now (t .entry)) child) ⌝ }
 {
-    let high = get(t, PARENT + low);
-    let both = get(t, SIZE + high);
-    let rest = both - get(t, SIZE + low);
-    put(t, SIZE + high, rest);
-    put(t, PARENT + low, low);
+    let root = get(t, PARENT + child);
+    let both = get(t, SIZE + root);
+    let rest = both - get(t, SIZE + child);
+    put(t, SIZE + root, rest);
+    put(t, PARENT + child, child);
 }
 
 // The newest merge is taken back: the way from the old root of the first side's tree is turned again.
@@ -348,10 +348,10 @@ fn undo(t: &mut [u32])
 {
     let i = get(t, COUNT) - 1;
     let a = get(t, SIDE_A + i);
-    let low = get(t, LOW + i);
+    let child = get(t, CHILD + i);
     let r = get(t, FROOT + i);
     reroot_forest(t, r, a);
-    separate(t, low);
+    separate(t, child);
     put(t, COUNT, i);
 }
 

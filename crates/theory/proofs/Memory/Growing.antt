@@ -11,15 +11,15 @@ use lib.Dec.{eqb, leb}
 use lib.ListN.{length, set}
 use Rattle.core.specs.Lists.{In}
 use Rattle.core.specs.Memory.Table.{word}
-use Rattle.theory.specs.EqEngine.{Merge, lower, higher, classes, find, are-equal, pairs-of, pairs-in-force, Step, before, way}
-use Rattle.theory.specs.Memory.Table.{merges#, level-word, parent-word, size-word, fparent-word, fedge-word, a-word, b-word, label-word, value-word, low-word, froot-word, after-word, label, begins, just-at, merge-at, pairs-start, merges-below, merges, low-root, high-root, parent, end, BothSides, FirstEdge, Justified, EqualPairs, EngineSound}
+use Rattle.theory.specs.EqEngine.{Merge, child, root, classes, find, are-equal, pairs-of, pairs-in-force, Step, before, way}
+use Rattle.theory.specs.Memory.Table.{merges#, level-word, parent-word, size-word, fparent-word, fedge-word, a-word, b-word, label-word, value-word, child-word, froot-word, after-word, label, begins, just-at, merge-at, pairs-start, merges-below, merges, child-of, root-of, parent, end, BothSides, FirstEdge, Justified, EqualPairs, EngineSound}
 use Rattle.theory.specs.Memory.Steps.{SameLog, Spliced, United, Logged, Joinable}
 use Rattle.theory.proofs.Members.{in-right}
 use Rattle.theory.proofs.Classes.{turned-sides}
 use Rattle.theory.proofs.Explain.{justified-joins}
 use Rattle.theory.proofs.Forest.{Forest, Above, above?, Below, below, split, back, first-side, turned-above, other-stays, other-root}
 use Rattle.theory.proofs.Sizes.{Within, find-within, merges-fewer, size-bound}
-use Rattle.theory.proofs.UnionFind.{size-more, low-within, high-within}
+use Rattle.theory.proofs.UnionFind.{size-more, child-within, root-within}
 use Rattle.theory.proofs.Memory.Nodes.{merges-within, sound-joins}
 use Rattle.theory.proofs.Memory.Puts.{word-put, word-kept, length-put}
 use Rattle.theory.proofs.Memory.KindWords.{kind-level, kind-kind, kind-theory}
@@ -46,7 +46,7 @@ pub record Grown (t u : List ℕ) (m : Merge) : Type 0 where
   pub nodes : (m .a < 1024) × (m .b < 1024)
   pub two : are-equal (merges t) (m .a) (m .b) ≡ false
   pub pairs : EqualPairs (merges t) (pairs-of (m .just))
-  pub low : low-word u (merges# t) ≡ low-root (merges t) m
+  pub child : child-word u (merges# t) ≡ child-of (merges t) m
   pub froot : froot-word u (merges# t) ≡ end (m .a) (way (merges t) (m .a))
   pub start : pairs-start u (merges# t) ≡ pairs-in-force (merges t)
   pub fit : (pairs-start u (merges# t) ≤ after-word u (merges# t)) × (after-word u (merges# t) ≤ 2048)
@@ -106,9 +106,9 @@ module _ (t u : List ℕ) (m : Merge) (z : EngineSound t) (g : Grown t u m) wher
         (λ i h. let e = g .log .entries i h in let f = z .nodes i h in let a = e .a in let b = e .b in (omega arith, omega arith))
         (let f = g .nodes in let a = side-a in let b = side-b in (omega arith, omega arith));
     pair-nodes = λ k i p j. pair-nodes-now k (subst (λ (ms : List Merge). In k ms) grown-merges i) p j;
-    low = every-merge (λ i. low-word u i ≡ low-root (merges-below u i) (merge-at u i))
-        (λ i h. g .log .entries i h .low ∙ z .low i h ∙ ap₂ low-root (sym (older i h)) (sym (same i h)))
-        (g .low ∙ ap₂ low-root (sym rest) (sym (g .new)));
+    child = every-merge (λ i. child-word u i ≡ child-of (merges-below u i) (merge-at u i))
+        (λ i h. g .log .entries i h .child ∙ z .child i h ∙ ap₂ child-of (sym (older i h)) (sym (same i h)))
+        (g .child ∙ ap₂ child-of (sym rest) (sym (g .new)));
     froot = every-merge (λ i. froot-word u i ≡ end (a-word u i) (way (merges-below u i) (a-word u i)))
         (λ i h. g .log .entries i h .froot ∙ z .froot i h ∙ ap₂ (λ (ms : List Merge) (a : ℕ). end a (way ms a)) (sym (older i h)) (sym (g .log .entries i h .a)))
         (g .froot ∙ ap₂ (λ (ms : List Merge) (a : ℕ). end a (way ms a)) (sym rest) (sym side-a));
@@ -221,7 +221,7 @@ module _ (t s u : List ℕ) (m : Merge) (z : EngineSound t) (two : are-equal (me
 
 -- ---- all steps together
 
-module _ (t t₁ t₂ t₃ t₄ : List ℕ) (a b kind h v e ra rb : ℕ) (z : EngineSound t) (J : Joinable t a b kind h v e) (fa : ra ≡ find (merges t) a) (fb : rb ≡ find (merges t) b) (c₁ : Spliced t t₁ a b (merges# t)) (c₂ : United t₁ t₂ (lower (size-word t₁) ra rb) (higher (size-word t₁) ra rb) (merges# t)) (c₃ : Logged t₂ t₃ (merges# t) a b (262144 * level-word t + 65536 * kind + h) v e) (e₄ : t₄ ≡ set t₃ 0 (merges# t + 1)) where
+module _ (t t₁ t₂ t₃ t₄ : List ℕ) (a b kind h v e ra rb : ℕ) (z : EngineSound t) (J : Joinable t a b kind h v e) (fa : ra ≡ find (merges t) a) (fb : rb ≡ find (merges t) b) (c₁ : Spliced t t₁ a b (merges# t)) (c₂ : United t₁ t₂ (child (size-word t₁) ra rb) (root (size-word t₁) ra rb) (merges# t)) (c₃ : Logged t₂ t₃ (merges# t) a b (262144 * level-word t + 65536 * kind + h) v e) (e₄ : t₄ ≡ set t₃ 0 (merges# t + 1)) where
   m : Merge
   m = record { a = a; b = b; just = label t kind h v e; level = level-word t }
 
@@ -243,13 +243,13 @@ module _ (t t₁ t₂ t₃ t₄ : List ℕ) (a b kind h v e ra rb : ℕ) (z : En
   compared : leb (size-word t₁ rb) (size-word t₁ ra) ≡ leb (classes (merges t) .size (find (merges t) b)) (classes (merges t) .size (find (merges t) a))
   compared = ap₂ leb (size-then rb root-b ∙ ap (λ (k : ℕ). classes (merges t) .size k) fb) (size-then ra root-a ∙ ap (λ (k : ℕ). classes (merges t) .size k) fa)
 
-  lower-is : lower (size-word t₁) ra rb ≡ low-root (merges t) m
-  unfolding lower low-root find m
-  lower-is = ap (λ (d : Bool). cond d rb ra) compared ∙ ap₂ (λ (x y : ℕ). cond (leb (classes (merges t) .size (find (merges t) b)) (classes (merges t) .size (find (merges t) a))) x y) fb fa
+  child-is : child (size-word t₁) ra rb ≡ child-of (merges t) m
+  unfolding child child-of find m
+  child-is = ap (λ (d : Bool). cond d rb ra) compared ∙ ap₂ (λ (x y : ℕ). cond (leb (classes (merges t) .size (find (merges t) b)) (classes (merges t) .size (find (merges t) a))) x y) fb fa
 
-  higher-is : higher (size-word t₁) ra rb ≡ high-root (merges t) m
-  unfolding higher high-root find m
-  higher-is = ap (λ (d : Bool). cond d ra rb) compared ∙ ap₂ (λ (x y : ℕ). cond (leb (classes (merges t) .size (find (merges t) b)) (classes (merges t) .size (find (merges t) a))) x y) fa fb
+  root-is-of : root (size-word t₁) ra rb ≡ root-of (merges t) m
+  unfolding root root-of find m
+  root-is-of = ap (λ (d : Bool). cond d ra rb) compared ∙ ap₂ (λ (x y : ℕ). cond (leb (classes (merges t) .size (find (merges t) b)) (classes (merges t) .size (find (merges t) a))) x y) fa fb
 
   same-log : SameLog t t₄ (merges# t)
   same-log =
@@ -306,27 +306,27 @@ module _ (t t₁ t₂ t₃ t₄ : List ℕ) (a b kind h v e ra rb : ℕ) (z : En
       let l₃ = c₃ .long in
       word-put t₃ t₄ 0 (merges# t + 1) e₄ (omega arith) ∙ add-one (merges# t)
 
-  low-node : low-root (merges t) m < 1024
+  child-node : child-of (merges t) m < 1024
   unfolding m
-  low-node = low-within 1024 m (merges t) (merges-within t z) (J .nodes)
+  child-node = child-within 1024 m (merges t) (merges-within t z) (J .nodes)
 
-  high-node : high-root (merges t) m < 1024
+  root-of-node : root-of (merges t) m < 1024
   unfolding m
-  high-node = high-within 1024 m (merges t) (merges-within t z) (J .nodes)
+  root-of-node = root-within 1024 m (merges t) (merges-within t z) (J .nodes)
 
   parent-then : (x : ℕ) → x < 1024 → parent-word t₄ x ≡ parent (m ∷ merges t) x
   unfolding parent
   parent-then x l =
       last (64 + x) (omega arith) ∙ c₃ .before (64 + x) (omega arith) ∙ c₂ .parents x l
-      ∙ ap₂ (λ (p q : ℕ). cond (eqb x p) q (parent-word t₁ x)) lower-is higher-is
-      ∙ ap (cond (eqb x (low-root (merges t) m)) (high-root (merges t) m)) (c₁ .before (64 + x) (omega arith) ∙ z .parents x l)
+      ∙ ap₂ (λ (p q : ℕ). cond (eqb x p) q (parent-word t₁ x)) child-is root-is-of
+      ∙ ap (cond (eqb x (child-of (merges t) m)) (root-of (merges t) m)) (c₁ .before (64 + x) (omega arith) ∙ z .parents x l)
 
   size-now : (x : ℕ) → x < 1024 → size-word t₄ x ≡ classes (m ∷ merges t) .size x
   size-now x l =
       last (1088 + x) (omega arith) ∙ c₃ .before (1088 + x) (omega arith) ∙ c₂ .sizes x l
-      ∙ ap₂ (λ (p q : ℕ). cond (eqb x q) (size-word t₁ p + size-word t₁ q) (size-word t₁ x)) lower-is higher-is
-      ∙ ap₂ (cond (eqb x (high-root (merges t) m)))
-      (ap₂ _+_ (size-then (low-root (merges t) m) low-node) (size-then (high-root (merges t) m) high-node))
+      ∙ ap₂ (λ (p q : ℕ). cond (eqb x q) (size-word t₁ p + size-word t₁ q) (size-word t₁ x)) child-is root-is-of
+      ∙ ap₂ (cond (eqb x (root-of (merges t) m)))
+      (ap₂ _+_ (size-then (child-of (merges t) m) child-node) (size-then (root-of (merges t) m) root-of-node))
       (size-then x l)
       ∙ sym (size-more m (merges t) x)
 
@@ -348,7 +348,7 @@ module _ (t t₁ t₂ t₃ t₄ : List ℕ) (a b kind h v e ra rb : ℕ) (z : En
     nodes = J .nodes;
     two = J .two;
     pairs = J .pairs;
-    low = last (8256 + merges# t) (omega arith) ∙ c₃ .roots .0 ∙ c₂ .low-noted ∙ lower-is;
+    child = last (8256 + merges# t) (omega arith) ∙ c₃ .roots .0 ∙ c₂ .child-noted ∙ child-is;
     froot =
         last (9280 + merges# t) (omega arith) ∙ c₃ .roots .1
         ∙ c₂ .behind (9280 + merges# t) (omega arith) (λ q. absurd (omega arith)) ∙ c₁ .old-root;
@@ -364,11 +364,11 @@ module _ (t t₁ t₂ t₃ t₄ : List ℕ) (a b kind h v e ra rb : ℕ) (z : En
   joined = (grown-sound t t₄ m z grown, grown-merges t t₄ m z grown, grown .level)
 
 -- the same for the count and the level as they were read
-pub joined-at : (t t₁ t₂ t₃ t₄ : List ℕ) (a b kind h v e ra rb i l : ℕ) → EngineSound t → Joinable t a b kind h v e → i ≡ word t 0 → l ≡ word t 1 → ra ≡ find (merges t) a → rb ≡ find (merges t) b → Spliced t t₁ a b i → United t₁ t₂ (lower (size-word t₁) ra rb) (higher (size-word t₁) ra rb) i → Logged t₂ t₃ i a b (262144 * l + 65536 * kind + h) v e → t₄ ≡ set t₃ 0 (i + 1) → EngineSound t₄ × (merges t₄ ≡ record { a = a; b = b; just = label t kind h v e; level = level-word t } ∷ merges t) × (level-word t₄ ≡ level-word t)
+pub joined-at : (t t₁ t₂ t₃ t₄ : List ℕ) (a b kind h v e ra rb i l : ℕ) → EngineSound t → Joinable t a b kind h v e → i ≡ word t 0 → l ≡ word t 1 → ra ≡ find (merges t) a → rb ≡ find (merges t) b → Spliced t t₁ a b i → United t₁ t₂ (child (size-word t₁) ra rb) (root (size-word t₁) ra rb) i → Logged t₂ t₃ i a b (262144 * l + 65536 * kind + h) v e → t₄ ≡ set t₃ 0 (i + 1) → EngineSound t₄ × (merges t₄ ≡ record { a = a; b = b; just = label t kind h v e; level = level-word t } ∷ merges t) × (level-word t₄ ≡ level-word t)
 joined-at t t₁ t₂ t₃ t₄ a b kind h v e ra rb i l z J p q fa fb c₁ c₂ c₃ e₄ =
     joined t t₁ t₂ t₃ t₄ a b kind h v e ra rb z J fa fb
     (subst (Spliced t t₁ a b) p c₁)
-    (subst (United t₁ t₂ (lower (size-word t₁) ra rb) (higher (size-word t₁) ra rb)) p c₂)
+    (subst (United t₁ t₂ (child (size-word t₁) ra rb) (root (size-word t₁) ra rb)) p c₂)
     (subst (λ (k : ℕ). Logged t₂ t₃ k a b (262144 * level-word t + 65536 * kind + h) v e) p (subst (λ (k : ℕ). Logged t₂ t₃ i a b (262144 * k + 65536 * kind + h) v e) q c₃))
     (e₄ ∙ ap (λ (k : ℕ). set t₃ 0 (k + 1)) p)
 

@@ -140,7 +140,7 @@ module _ (t u : List ℕ) (start : ℕ) (xs ys : List ℕ) (z : EngineSound t) (
           b = c .before (5184 + i) (omega arith);
           kind = c .before (6208 + i) (omega arith);
           value = c .before (7232 + i) (omega arith);
-          low = c .before (8256 + i) (omega arith);
+          child = c .before (8256 + i) (omega arith);
           froot = c .before (9280 + i) (omega arith);
           after = c .before (10304 + i) (omega arith);
         };

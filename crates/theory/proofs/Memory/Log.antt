@@ -56,7 +56,7 @@ entry-then t u v i p q = record {
   b = q .b ∙ p .b;
   kind = q .kind ∙ p .kind;
   value = q .value ∙ p .value;
-  low = q .low ∙ p .low;
+  child = q .child ∙ p .child;
   froot = q .froot ∙ p .froot;
   after = q .after ∙ p .after;
 }
@@ -78,7 +78,7 @@ log-words t u n f = record {
     b = f (5184 + i) (omega arith);
     kind = f (6208 + i) (omega arith);
     value = f (7232 + i) (omega arith);
-    low = f (8256 + i) (omega arith);
+    child = f (8256 + i) (omega arith);
     froot = f (9280 + i) (omega arith);
     after = f (10304 + i) (omega arith);
   };
@@ -93,7 +93,7 @@ log-but t u base n b l m f = record {
     b = f (5184 + i) (omega arith) (λ q. absurd (omega arith));
     kind = f (6208 + i) (omega arith) (λ q. absurd (omega arith));
     value = f (7232 + i) (omega arith) (λ q. absurd (omega arith));
-    low = f (8256 + i) (omega arith) (λ q. absurd (omega arith));
+    child = f (8256 + i) (omega arith) (λ q. absurd (omega arith));
     froot = f (9280 + i) (omega arith) (λ q. absurd (omega arith));
     after = f (10304 + i) (omega arith) (λ q. absurd (omega arith));
   };

@@ -11,7 +11,7 @@ use lib.ListN.{length, set}
 use borrow.Author.Tests.{eq-eqb, ne-eqb, le-leb, lt-leb}
 use Rattle.core.specs.Lists.{In}
 use Rattle.core.specs.Memory.Table.{word}
-use Rattle.theory.specs.EqEngine.{lower, higher, Step, before, way}
+use Rattle.theory.specs.EqEngine.{child, root, Step, before, way}
 use Rattle.theory.specs.Memory.Table.{parent-word, size-word, merges, end, EngineSound}
 use Rattle.theory.specs.Memory.Steps.{On, Rerooted, Spliced, United, Logged}
 use Rattle.theory.proofs.Forest.{before-end, apart}
@@ -73,60 +73,60 @@ module _ (t t₁ t₂ t₃ t₄ : List ℕ) (a b i r : ℕ) (z : EngineSound t) 
 
 -- ---- classes
 
-module _ (t t₁ t₂ t₃ : List ℕ) (low high i n : ℕ) (l : 16384 ≤ length t) (p : low < 1024) (q : high < 1024) (k : i < 1024) (s : n ≡ size-word t low + size-word t high) (e₁ : t₁ ≡ set t (64 + low) high) (e₂ : t₂ ≡ set t₁ (1088 + high) n) (e₃ : t₃ ≡ set t₂ (8256 + i) low) where
-  other : (m : ℕ) → (m ≡ 64 + low → ⊥) → (m ≡ 1088 + high → ⊥) → (m ≡ 8256 + i → ⊥) → word t₃ m ≡ word t m
-  other m a b c = word-kept t₂ t₃ (8256 + i) low e₃ m c ∙ word-kept t₁ t₂ (1088 + high) n e₂ m b ∙ word-kept t t₁ (64 + low) high e₁ m a
+module _ (t t₁ t₂ t₃ : List ℕ) (child root i n : ℕ) (l : 16384 ≤ length t) (p : child < 1024) (q : root < 1024) (k : i < 1024) (s : n ≡ size-word t child + size-word t root) (e₁ : t₁ ≡ set t (64 + child) root) (e₂ : t₂ ≡ set t₁ (1088 + root) n) (e₃ : t₃ ≡ set t₂ (8256 + i) child) where
+  other : (m : ℕ) → (m ≡ 64 + child → ⊥) → (m ≡ 1088 + root → ⊥) → (m ≡ 8256 + i → ⊥) → word t₃ m ≡ word t m
+  other m a b c = word-kept t₂ t₃ (8256 + i) child e₃ m c ∙ word-kept t₁ t₂ (1088 + root) n e₂ m b ∙ word-kept t t₁ (64 + child) root e₁ m a
 
   grown : (length t₁ ≡ length t) × (length t₂ ≡ length t) × (length t₃ ≡ length t)
   grown =
-      let a = length-put t t₁ (64 + low) high e₁ in
-      let b = length-put t₁ t₂ (1088 + high) n e₂ ∙ a in
-      (a, b, length-put t₂ t₃ (8256 + i) low e₃ ∙ b)
+      let a = length-put t t₁ (64 + child) root e₁ in
+      let b = length-put t₁ t₂ (1088 + root) n e₂ ∙ a in
+      (a, b, length-put t₂ t₃ (8256 + i) child e₃ ∙ b)
 
-  parent-now : (x : ℕ) → x < 1024 → Dec (x ≡ low) → parent-word t₃ x ≡ cond (eqb x low) high (parent-word t x)
+  parent-now : (x : ℕ) → x < 1024 → Dec (x ≡ child) → parent-word t₃ x ≡ cond (eqb x child) root (parent-word t x)
   parent-now x h (yes e) =
       let (a, b, c) = grown in
       ap (parent-word t₃) e
-      ∙ word-kept t₂ t₃ (8256 + i) low e₃ (64 + low) (λ r. absurd (omega arith))
-      ∙ word-kept t₁ t₂ (1088 + high) n e₂ (64 + low) (λ r. absurd (omega arith))
-      ∙ word-put t t₁ (64 + low) high e₁ (omega arith)
-      ∙ sym (ap (λ (v : Bool). cond v high (parent-word t x)) (eq-eqb x low e))
+      ∙ word-kept t₂ t₃ (8256 + i) child e₃ (64 + child) (λ r. absurd (omega arith))
+      ∙ word-kept t₁ t₂ (1088 + root) n e₂ (64 + child) (λ r. absurd (omega arith))
+      ∙ word-put t t₁ (64 + child) root e₁ (omega arith)
+      ∙ sym (ap (λ (v : Bool). cond v root (parent-word t x)) (eq-eqb x child e))
   parent-now x h (no d) =
       other (64 + x) (λ r. d (omega arith)) (λ r. absurd (omega arith)) (λ r. absurd (omega arith))
-      ∙ sym (ap (λ (v : Bool). cond v high (parent-word t x)) (ne-eqb x low d))
+      ∙ sym (ap (λ (v : Bool). cond v root (parent-word t x)) (ne-eqb x child d))
 
-  size-now : (x : ℕ) → x < 1024 → Dec (x ≡ high) → size-word t₃ x ≡ cond (eqb x high) (size-word t low + size-word t high) (size-word t x)
+  size-now : (x : ℕ) → x < 1024 → Dec (x ≡ root) → size-word t₃ x ≡ cond (eqb x root) (size-word t child + size-word t root) (size-word t x)
   size-now x h (yes e) =
       let (a, b, c) = grown in
       ap (size-word t₃) e
-      ∙ word-kept t₂ t₃ (8256 + i) low e₃ (1088 + high) (λ r. absurd (omega arith))
-      ∙ word-put t₁ t₂ (1088 + high) n e₂ (omega arith)
+      ∙ word-kept t₂ t₃ (8256 + i) child e₃ (1088 + root) (λ r. absurd (omega arith))
+      ∙ word-put t₁ t₂ (1088 + root) n e₂ (omega arith)
       ∙ s
-      ∙ sym (ap (λ (v : Bool). cond v (size-word t low + size-word t high) (size-word t x)) (eq-eqb x high e))
+      ∙ sym (ap (λ (v : Bool). cond v (size-word t child + size-word t root) (size-word t x)) (eq-eqb x root e))
   size-now x h (no d) =
       other (1088 + x) (λ r. absurd (omega arith)) (λ r. d (omega arith)) (λ r. absurd (omega arith))
-      ∙ sym (ap (λ (v : Bool). cond v (size-word t low + size-word t high) (size-word t x)) (ne-eqb x high d))
+      ∙ sym (ap (λ (v : Bool). cond v (size-word t child + size-word t root) (size-word t x)) (ne-eqb x root d))
 
-  pub put-united : United t t₃ low high i
+  pub put-united : United t t₃ child root i
   put-united =
       let (a, b, c) = grown in
       record {
         long = c;
         before = λ m h. other m (λ r. absurd (omega arith)) (λ r. absurd (omega arith)) (λ r. absurd (omega arith));
         behind = λ m h d. other m (λ r. absurd (omega arith)) (λ r. absurd (omega arith)) d;
-        parents = λ x h. parent-now x h (ℕ-discrete x low);
-        sizes = λ x h. size-now x h (ℕ-discrete x high);
-        low-noted = word-put t₂ t₃ (8256 + i) low e₃ (omega arith);
+        parents = λ x h. parent-now x h (ℕ-discrete x child);
+        sizes = λ x h. size-now x h (ℕ-discrete x root);
+        child-noted = word-put t₂ t₃ (8256 + i) child e₃ (omega arith);
       }
 
 -- the two roots by the test of their sizes
-pub united-second : (t u : List ℕ) (ra rb i x y : ℕ) → x ≡ size-word t rb → y ≡ size-word t ra → x ≤ y → United t u rb ra i → United t u (lower (size-word t) ra rb) (higher (size-word t) ra rb) i
-unfolding lower higher
+pub united-second : (t u : List ℕ) (ra rb i x y : ℕ) → x ≡ size-word t rb → y ≡ size-word t ra → x ≤ y → United t u rb ra i → United t u (child (size-word t) ra rb) (root (size-word t) ra rb) i
+unfolding child root
 united-second t u ra rb i x y p q h c =
     subst (λ (v : Bool). United t u (cond v rb ra) (cond v ra rb) i) (sym (le-leb (size-word t rb) (size-word t ra) (omega arith))) c
 
-pub united-first : (t u : List ℕ) (ra rb i x y : ℕ) → x ≡ size-word t rb → y ≡ size-word t ra → y < x → United t u ra rb i → United t u (lower (size-word t) ra rb) (higher (size-word t) ra rb) i
-unfolding lower higher
+pub united-first : (t u : List ℕ) (ra rb i x y : ℕ) → x ≡ size-word t rb → y ≡ size-word t ra → y < x → United t u ra rb i → United t u (child (size-word t) ra rb) (root (size-word t) ra rb) i
+unfolding child root
 united-first t u ra rb i x y p q h c =
     subst (λ (v : Bool). United t u (cond v rb ra) (cond v ra rb) i) (sym (lt-leb (size-word t rb) (size-word t ra) (omega arith))) c
 
@@ -168,7 +168,7 @@ module _ (t t₁ t₂ t₃ t₄ t₅ : List ℕ) (i a b w v e : ℕ) (l : 16384 
             b = older-at 5184 j h (inr (inl refl));
             kind = older-at 6208 j h (inr (inr (inl refl)));
             value = older-at 7232 j h (inr (inr (inr (inl refl))));
-            low = clear-of (8256 + j) (inr (inl (omega arith, omega arith)));
+            child = clear-of (8256 + j) (inr (inl (omega arith, omega arith)));
             froot = clear-of (9280 + j) (inr (inl (omega arith, omega arith)));
             after = older-at 10304 j h (inr (inr (inr (inr refl))));
           };

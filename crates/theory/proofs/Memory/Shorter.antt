@@ -10,7 +10,7 @@ use lib.ListN.{length, set}
 use Rattle.core.specs.Lists.{In}
 use Rattle.core.specs.Memory.Table.{word}
 use Rattle.theory.specs.EqEngine.{Merge, classes, pairs-in-force, Step, way}
-use Rattle.theory.specs.Memory.Table.{merges#, level-word, parent-word, size-word, fparent-word, fedge-word, label-word, just-at, merge-at, merges-below, merges, low-root, parent, end, BothSides, FirstEdge, Justified, EngineSound}
+use Rattle.theory.specs.Memory.Table.{merges#, level-word, parent-word, size-word, fparent-word, fedge-word, label-word, just-at, merge-at, merges-below, merges, child-of, parent, end, BothSides, FirstEdge, Justified, EngineSound}
 use Rattle.theory.specs.Memory.Steps.{SameLog}
 use Rattle.theory.proofs.Classes.{Suffix, in-suffix}
 use Rattle.theory.proofs.Explain.{justified-suffix}
@@ -85,8 +85,8 @@ module _ (t u : List ℕ) (n : ℕ) (z : EngineSound t) (s : Shortened t u n) wh
     justified = subst Justified (sym shorter-merges) (justified-suffix (merges-below t n) (merges t) suffix (z .justified));
     nodes = λ i h. let e = s .log .entries i (there i h) in let g = z .nodes i (inside i (there i h)) in let a = e .a in let b = e .b in (omega arith, omega arith);
     pair-nodes = λ m i p j. z .pair-nodes m (in-suffix (merges-below t n) (merges t) m suffix (subst (λ (ms : List Merge). In m ms) shorter-merges i)) p j;
-    low = λ i h. let k = there i h in
-        s .log .entries i k .low ∙ z .low i (inside i k) ∙ ap₂ low-root (sym (older i k)) (sym (same i k));
+    child = λ i h. let k = there i h in
+        s .log .entries i k .child ∙ z .child i (inside i k) ∙ ap₂ child-of (sym (older i k)) (sym (same i k));
     froot = λ i h. let k = there i h in
         s .log .entries i k .froot ∙ z .froot i (inside i k)
         ∙ ap₂ (λ (ms : List Merge) (a : ℕ). end a (way ms a)) (sym (older i k)) (sym (s .log .entries i k .a));

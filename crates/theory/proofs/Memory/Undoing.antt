@@ -12,13 +12,13 @@ use borrow.Author.Tests.{eq-eqb, ne-eqb}
 use Rattle.core.specs.Lists.{In}
 use Rattle.core.specs.Memory.Table.{word}
 use Rattle.theory.specs.EqEngine.{Merge, classes, find, Step, before, turned, way}
-use Rattle.theory.specs.Memory.Table.{merges#, level-word, parent-word, size-word, fparent-word, fedge-word, a-word, low-word, froot-word, merge-at, merges-below, merges, low-root, high-root, parent, end, BothSides, FirstEdge, EngineSound}
+use Rattle.theory.specs.Memory.Table.{merges#, level-word, parent-word, size-word, fparent-word, fedge-word, a-word, child-word, froot-word, merge-at, merges-below, merges, child-of, root-of, parent, end, BothSides, FirstEdge, EngineSound}
 use Rattle.theory.specs.Memory.Steps.{SameLog, On, Rerooted, Separated}
 use Rattle.theory.proofs.Members.{in-right}
 use Rattle.theory.proofs.Classes.{Same, unequal, turned-sides}
 use Rattle.theory.proofs.Forest.{Joins, Forest, Above, way-over, above?, split, apart, back, new-step, end-on, end-above, step-above, way-forest, step-same, before-skip, before-stop, turned-in, in-turned, turned-above, other-stays, other-root, from-old-root}
 use Rattle.theory.proofs.Sizes.{Within}
-use Rattle.theory.proofs.UnionFind.{size-more, low-within, high-within, roots-apart, low-parent, parent-low, parent-kept}
+use Rattle.theory.proofs.UnionFind.{size-more, child-within, root-within, roots-apart, child-parent, parent-child, parent-kept}
 use Rattle.theory.proofs.Memory.Nodes.{merges-within, sound-joins}
 use Rattle.theory.proofs.Memory.Puts.{word-put, word-kept, length-put}
 use Rattle.theory.proofs.Memory.Log.{log-words}
@@ -28,44 +28,44 @@ use Rattle.theory.proofs.Memory.Shorter.{edge-words, Shortened, shorter
 
 -- ---- classes
 
-module _ (t t₁ t₂ : List ℕ) (low high n : ℕ) (l : 16384 ≤ length t) (p : low < 1024) (q : high < 1024) (s : n ≡ size-word t high - size-word t low) (e₁ : t₁ ≡ set t (1088 + high) n) (e₂ : t₂ ≡ set t₁ (64 + low) low) where
-  other : (k : ℕ) → (k ≡ 1088 + high → ⊥) → (k ≡ 64 + low → ⊥) → word t₂ k ≡ word t k
-  other k a b = word-kept t₁ t₂ (64 + low) low e₂ k b ∙ word-kept t t₁ (1088 + high) n e₁ k a
+module _ (t t₁ t₂ : List ℕ) (child root n : ℕ) (l : 16384 ≤ length t) (p : child < 1024) (q : root < 1024) (s : n ≡ size-word t root - size-word t child) (e₁ : t₁ ≡ set t (1088 + root) n) (e₂ : t₂ ≡ set t₁ (64 + child) child) where
+  other : (k : ℕ) → (k ≡ 1088 + root → ⊥) → (k ≡ 64 + child → ⊥) → word t₂ k ≡ word t k
+  other k a b = word-kept t₁ t₂ (64 + child) child e₂ k b ∙ word-kept t t₁ (1088 + root) n e₁ k a
 
   long₁ : length t₁ ≡ length t
-  long₁ = length-put t t₁ (1088 + high) n e₁
+  long₁ = length-put t t₁ (1088 + root) n e₁
 
-  parent-now : (x : ℕ) → x < 1024 → Dec (x ≡ low) → parent-word t₂ x ≡ cond (eqb x low) low (parent-word t x)
+  parent-now : (x : ℕ) → x < 1024 → Dec (x ≡ child) → parent-word t₂ x ≡ cond (eqb x child) child (parent-word t x)
   parent-now x h (yes e) =
       let a = long₁ in
-      ap (parent-word t₂) e ∙ word-put t₁ t₂ (64 + low) low e₂ (omega arith)
-      ∙ sym (ap (λ (v : Bool). cond v low (parent-word t x)) (eq-eqb x low e))
+      ap (parent-word t₂) e ∙ word-put t₁ t₂ (64 + child) child e₂ (omega arith)
+      ∙ sym (ap (λ (v : Bool). cond v child (parent-word t x)) (eq-eqb x child e))
   parent-now x h (no d) =
       other (64 + x) (λ r. absurd (omega arith)) (λ r. d (omega arith))
-      ∙ sym (ap (λ (v : Bool). cond v low (parent-word t x)) (ne-eqb x low d))
+      ∙ sym (ap (λ (v : Bool). cond v child (parent-word t x)) (ne-eqb x child d))
 
-  size-now : (x : ℕ) → x < 1024 → Dec (x ≡ high) → size-word t₂ x ≡ cond (eqb x high) (size-word t high - size-word t low) (size-word t x)
+  size-now : (x : ℕ) → x < 1024 → Dec (x ≡ root) → size-word t₂ x ≡ cond (eqb x root) (size-word t root - size-word t child) (size-word t x)
   size-now x h (yes e) =
-      ap (size-word t₂) e ∙ word-kept t₁ t₂ (64 + low) low e₂ (1088 + high) (λ r. absurd (omega arith)) ∙ word-put t t₁ (1088 + high) n e₁ (omega arith) ∙ s
-      ∙ sym (ap (λ (v : Bool). cond v (size-word t high - size-word t low) (size-word t x)) (eq-eqb x high e))
+      ap (size-word t₂) e ∙ word-kept t₁ t₂ (64 + child) child e₂ (1088 + root) (λ r. absurd (omega arith)) ∙ word-put t t₁ (1088 + root) n e₁ (omega arith) ∙ s
+      ∙ sym (ap (λ (v : Bool). cond v (size-word t root - size-word t child) (size-word t x)) (eq-eqb x root e))
   size-now x h (no d) =
       other (1088 + x) (λ r. d (omega arith)) (λ r. absurd (omega arith))
-      ∙ sym (ap (λ (v : Bool). cond v (size-word t high - size-word t low) (size-word t x)) (ne-eqb x high d))
+      ∙ sym (ap (λ (v : Bool). cond v (size-word t root - size-word t child) (size-word t x)) (ne-eqb x root d))
 
-  put-separated : Separated t t₂ low high
+  put-separated : Separated t t₂ child root
   put-separated = record {
-    long = length-put t₁ t₂ (64 + low) low e₂ ∙ long₁;
+    long = length-put t₁ t₂ (64 + child) child e₂ ∙ long₁;
     before = λ k h. other k (λ r. absurd (omega arith)) (λ r. absurd (omega arith));
     behind = λ k h. other k (λ r. absurd (omega arith)) (λ r. absurd (omega arith));
-    parents = λ x h. parent-now x h (ℕ-discrete x low);
-    sizes = λ x h. size-now x h (ℕ-discrete x high);
+    parents = λ x h. parent-now x h (ℕ-discrete x child);
+    sizes = λ x h. size-now x h (ℕ-discrete x root);
   }
 
 -- with the words as they were read
-pub separated : (t t₁ t₂ : List ℕ) (low high a b : ℕ) → 16384 ≤ length t → low < 1024 → parent-word t low < 1024 → high ≡ word t (64 + low) → a ≡ word t (1088 + high) → b ≡ word t (1088 + low) → t₁ ≡ set t (1088 + high) (a - b) → t₂ ≡ set t₁ (64 + low) low → Separated t t₂ low (parent-word t low)
-separated t t₁ t₂ low high a b l p q e c d e₁ e₂ =
-    subst (Separated t t₂ low) e
-    (put-separated t t₁ t₂ low high (a - b) l p (subst (λ (k : ℕ). k < 1024) (sym e) q) (ap₂ _-_ c d) e₁ e₂)
+pub separated : (t t₁ t₂ : List ℕ) (child root a b : ℕ) → 16384 ≤ length t → child < 1024 → parent-word t child < 1024 → root ≡ word t (64 + child) → a ≡ word t (1088 + root) → b ≡ word t (1088 + child) → t₁ ≡ set t (1088 + root) (a - b) → t₂ ≡ set t₁ (64 + child) child → Separated t t₂ child (parent-word t child)
+separated t t₁ t₂ child root a b l p q e c d e₁ e₂ =
+    subst (Separated t t₂ child) e
+    (put-separated t t₁ t₂ child root (a - b) l p (subst (λ (k : ℕ). k < 1024) (sym e) q) (ap₂ _-_ c d) e₁ e₂)
 
 -- ---- the table without its newest merge
 
@@ -97,8 +97,8 @@ module _ (t : List ℕ) (i : ℕ) (z : EngineSound t) (N : merges# t ≡ suc i) 
   unfolding merge-at
   old-root = z .froot i in-log
 
-  low-noted : low-word t i ≡ low-root ms m
-  low-noted = z .low i in-log
+  child-noted : child-word t i ≡ child-of ms m
+  child-noted = z .child i in-log
 
   nodes : (m .a < 1024) × (m .b < 1024)
   unfolding merge-at
@@ -169,41 +169,41 @@ module _ (t : List ℕ) (i : ℕ) (z : EngineSound t) (N : merges# t ≡ suc i) 
 
   -- ---- classes
 
-  pub low-node : low-word t i < 1024
-  low-node = subst (λ (k : ℕ). k < 1024) (sym low-noted) (low-within 1024 m ms older-within nodes)
+  pub child-node : child-word t i < 1024
+  child-node = subst (λ (k : ℕ). k < 1024) (sym child-noted) (child-within 1024 m ms older-within nodes)
 
-  high-node : high-root ms m < 1024
-  high-node = high-within 1024 m ms older-within nodes
+  root-of-node : root-of ms m < 1024
+  root-of-node = root-within 1024 m ms older-within nodes
 
   -- what the word above the root that went under says
-  high-is : parent-word t (low-word t i) ≡ high-root ms m
-  high-is = z .parents (low-word t i) low-node ∙ ap (λ (l : List Merge). parent l (low-word t i)) split-log ∙ parent-low m ms (low-word t i) low-noted
+  root-is : parent-word t (child-word t i) ≡ root-of ms m
+  root-is = z .parents (child-word t i) child-node ∙ ap (λ (l : List Merge). parent l (child-word t i)) split-log ∙ parent-child m ms (child-word t i) child-noted
 
-  pub high-below : parent-word t (low-word t i) < 1024
-  high-below = subst (λ (k : ℕ). k < 1024) (sym high-is) high-node
+  pub root-below : parent-word t (child-word t i) < 1024
+  root-below = subst (λ (k : ℕ). k < 1024) (sym root-is) root-of-node
 
-  size-then : (x : ℕ) → x < 1024 → size-word t x ≡ cond (eqb x (high-root ms m)) (classes ms .size (low-root ms m) + classes ms .size (high-root ms m)) (classes ms .size x)
+  size-then : (x : ℕ) → x < 1024 → size-word t x ≡ cond (eqb x (root-of ms m)) (classes ms .size (child-of ms m) + classes ms .size (root-of ms m)) (classes ms .size x)
   size-then x h = z .sizes x h ∙ ap (λ (l : List Merge). classes l .size x) split-log ∙ size-more m ms x
 
-  size-high : size-word t (high-root ms m) ≡ classes ms .size (low-root ms m) + classes ms .size (high-root ms m)
-  size-high =
-      size-then (high-root ms m) high-node
-      ∙ ap (λ (b : Bool). cond b (classes ms .size (low-root ms m) + classes ms .size (high-root ms m)) (classes ms .size (high-root ms m))) (eq-eqb (high-root ms m) (high-root ms m) refl)
+  size-root : size-word t (root-of ms m) ≡ classes ms .size (child-of ms m) + classes ms .size (root-of ms m)
+  size-root =
+      size-then (root-of ms m) root-of-node
+      ∙ ap (λ (b : Bool). cond b (classes ms .size (child-of ms m) + classes ms .size (root-of ms m)) (classes ms .size (root-of ms m))) (eq-eqb (root-of ms m) (root-of ms m) refl)
 
-  size-other : (x : ℕ) → x < 1024 → (x ≡ high-root ms m → ⊥) → size-word t x ≡ classes ms .size x
+  size-other : (x : ℕ) → x < 1024 → (x ≡ root-of ms m → ⊥) → size-word t x ≡ classes ms .size x
   size-other x h d =
       size-then x h
-      ∙ ap (λ (b : Bool). cond b (classes ms .size (low-root ms m) + classes ms .size (high-root ms m)) (classes ms .size x)) (ne-eqb x (high-root ms m) d)
+      ∙ ap (λ (b : Bool). cond b (classes ms .size (child-of ms m) + classes ms .size (root-of ms m)) (classes ms .size x)) (ne-eqb x (root-of ms m) d)
 
-  size-low : size-word t (low-word t i) ≡ classes ms .size (low-root ms m)
-  size-low = size-other (low-word t i) low-node (λ q. roots-apart m ms (joins .0) (sym low-noted ∙ q)) ∙ ap (λ (k : ℕ). classes ms .size k) low-noted
+  size-child : size-word t (child-word t i) ≡ classes ms .size (child-of ms m)
+  size-child = size-other (child-word t i) child-node (λ q. roots-apart m ms (joins .0) (sym child-noted ∙ q)) ∙ ap (λ (k : ℕ). classes ms .size k) child-noted
 
-  pub low-smaller : size-word t (low-word t i) ≤ size-word t (parent-word t (low-word t i))
-  low-smaller = let a = size-low in let b = ap (size-word t) high-is ∙ size-high in omega arith
+  pub child-smaller : size-word t (child-word t i) ≤ size-word t (parent-word t (child-word t i))
+  child-smaller = let a = size-child in let b = ap (size-word t) root-is ∙ size-root in omega arith
 
   -- ---- the table after it
 
-  module _ (t₁ t₂ t₃ : List ℕ) (c : Rerooted t t₁ (froot-word t i) (before (a-word t i) (way (merges t) (froot-word t i)))) (d : Separated t₁ t₂ (low-word t i) (parent-word t₁ (low-word t i))) (e₃ : t₃ ≡ set t₂ 0 i) where
+  module _ (t₁ t₂ t₃ : List ℕ) (c : Rerooted t t₁ (froot-word t i) (before (a-word t i) (way (merges t) (froot-word t i)))) (d : Separated t₁ t₂ (child-word t i) (parent-word t₁ (child-word t i))) (e₃ : t₃ ≡ set t₂ 0 i) where
     last : (k : ℕ) → 0 < k → word t₃ k ≡ word t₂ k
     last k l = word-kept t₂ t₃ 0 i e₃ k (λ q. absurd (omega arith))
 
@@ -222,17 +222,17 @@ module _ (t : List ℕ) (i : ℕ) (z : EngineSound t) (N : merges# t ≡ suc i) 
     forest-then : (x : ℕ) → x < 1024 → (fparent-word t₃ x ≡ fparent-word t₁ x) × (fedge-word t₃ x ≡ fedge-word t₁ x)
     forest-then x h = (last (2112 + x) (omega arith) ∙ d .behind (2112 + x) (omega arith), last (3136 + x) (omega arith) ∙ d .behind (3136 + x) (omega arith))
 
-    high-then : parent-word t₁ (low-word t i) ≡ high-root ms m
-    high-then = let n = low-node in c .before (64 + low-word t i) (omega arith) ∙ high-is
+    root-then : parent-word t₁ (child-word t i) ≡ root-of ms m
+    root-then = let n = child-node in c .before (64 + child-word t i) (omega arith) ∙ root-is
 
-    parent-then : (x : ℕ) → x < 1024 → Dec (x ≡ low-root ms m) → parent-word t₃ x ≡ parent ms x
+    parent-then : (x : ℕ) → x < 1024 → Dec (x ≡ child-of ms m) → parent-word t₃ x ≡ parent ms x
     parent-then x h (yes e) =
         last (64 + x) (omega arith) ∙ d .parents x h
-        ∙ ap (λ (b : Bool). cond b (low-word t i) (parent-word t₁ x)) (eq-eqb x (low-word t i) (e ∙ sym low-noted))
-        ∙ low-noted ∙ sym (low-parent m ms (joins .1)) ∙ ap (parent ms) (sym e)
+        ∙ ap (λ (b : Bool). cond b (child-word t i) (parent-word t₁ x)) (eq-eqb x (child-word t i) (e ∙ sym child-noted))
+        ∙ child-noted ∙ sym (child-parent m ms (joins .1)) ∙ ap (parent ms) (sym e)
     parent-then x h (no n) =
         last (64 + x) (omega arith) ∙ d .parents x h
-        ∙ ap (λ (b : Bool). cond b (low-word t i) (parent-word t₁ x)) (ne-eqb x (low-word t i) (λ q. n (q ∙ low-noted)))
+        ∙ ap (λ (b : Bool). cond b (child-word t i) (parent-word t₁ x)) (ne-eqb x (child-word t i) (λ q. n (q ∙ child-noted)))
         ∙ c .before (64 + x) (omega arith) ∙ z .parents x h
         ∙ ap (λ (l : List Merge). parent l x) split-log ∙ parent-kept m ms x n
 
@@ -240,18 +240,18 @@ module _ (t : List ℕ) (i : ℕ) (z : EngineSound t) (N : merges# t ≡ suc i) 
     size-was : (x : ℕ) → x < 1024 → size-word t₁ x ≡ size-word t x
     size-was x h = c .before (1088 + x) (omega arith)
 
-    size-back : (x : ℕ) → x < 1024 → Dec (x ≡ high-root ms m) → size-word t₃ x ≡ classes ms .size x
+    size-back : (x : ℕ) → x < 1024 → Dec (x ≡ root-of ms m) → size-word t₃ x ≡ classes ms .size x
     size-back x h (yes e) =
-        let a : size-word t₁ (parent-word t₁ (low-word t i)) ≡ classes ms .size (low-root ms m) + classes ms .size (high-root ms m) =
-        ap (size-word t₁) high-then ∙ size-was (high-root ms m) high-node ∙ size-high in
-        let b : size-word t₁ (low-word t i) ≡ classes ms .size (low-root ms m) = size-was (low-word t i) low-node ∙ size-low in
-        let f : classes ms .size x ≡ classes ms .size (high-root ms m) = ap (λ (k : ℕ). classes ms .size k) e in
+        let a : size-word t₁ (parent-word t₁ (child-word t i)) ≡ classes ms .size (child-of ms m) + classes ms .size (root-of ms m) =
+        ap (size-word t₁) root-then ∙ size-was (root-of ms m) root-of-node ∙ size-root in
+        let b : size-word t₁ (child-word t i) ≡ classes ms .size (child-of ms m) = size-was (child-word t i) child-node ∙ size-child in
+        let f : classes ms .size x ≡ classes ms .size (root-of ms m) = ap (λ (k : ℕ). classes ms .size k) e in
         last (1088 + x) (omega arith) ∙ d .sizes x h
-        ∙ ap (λ (v : Bool). cond v (size-word t₁ (parent-word t₁ (low-word t i)) - size-word t₁ (low-word t i)) (size-word t₁ x)) (eq-eqb x (parent-word t₁ (low-word t i)) (e ∙ sym high-then))
+        ∙ ap (λ (v : Bool). cond v (size-word t₁ (parent-word t₁ (child-word t i)) - size-word t₁ (child-word t i)) (size-word t₁ x)) (eq-eqb x (parent-word t₁ (child-word t i)) (e ∙ sym root-then))
         ∙ omega arith
     size-back x h (no n) =
         last (1088 + x) (omega arith) ∙ d .sizes x h
-        ∙ ap (λ (v : Bool). cond v (size-word t₁ (parent-word t₁ (low-word t i)) - size-word t₁ (low-word t i)) (size-word t₁ x)) (ne-eqb x (parent-word t₁ (low-word t i)) (λ q. n (q ∙ high-then)))
+        ∙ ap (λ (v : Bool). cond v (size-word t₁ (parent-word t₁ (child-word t i)) - size-word t₁ (child-word t i)) (size-word t₁ x)) (ne-eqb x (parent-word t₁ (child-word t i)) (λ q. n (q ∙ root-then)))
         ∙ size-was x h ∙ size-other x h n
 
     -- the edges above the first side are turned back
@@ -306,8 +306,8 @@ module _ (t : List ℕ) (i : ℕ) (z : EngineSound t) (N : merges# t ≡ suc i) 
       log = same-log;
       levels-fit = let e = level-then in let f = z .levels-fit in omega arith;
       levels = λ j h. let e = level-then in let f = z .levels j (omega arith) in omega arith;
-      parents = λ x h. parent-then x h (ℕ-discrete x (low-root ms m));
-      sizes = λ x h. size-back x h (ℕ-discrete x (high-root ms m));
+      parents = λ x h. parent-then x h (ℕ-discrete x (child-of ms m));
+      sizes = λ x h. size-back x h (ℕ-discrete x (root-of ms m));
       forest = λ x h. edge-now x h (above? (way ms) F x (m .a));
     }
 
@@ -321,7 +321,7 @@ module _ (t : List ℕ) (i : ℕ) (z : EngineSound t) (N : merges# t ≡ suc i) 
 
 -- ---- with the words as they were read
 
-module _ (t : List ℕ) (n i a r low : ℕ) (z : EngineSound t) (h : 0 < merges# t) (en : n ≡ word t 0) (ei : i ≡ n - 1) (ea : a ≡ word t (4160 + i)) (el : low ≡ word t (8256 + i)) (er : r ≡ word t (9280 + i)) where
+module _ (t : List ℕ) (n i a r child : ℕ) (z : EngineSound t) (h : 0 < merges# t) (en : n ≡ word t 0) (ei : i ≡ n - 1) (ea : a ≡ word t (4160 + i)) (el : child ≡ word t (8256 + i)) (er : r ≡ word t (9280 + i)) where
   newest : merges# t ≡ suc i
   newest = omega arith
 
@@ -332,19 +332,19 @@ module _ (t : List ℕ) (n i a r low : ℕ) (z : EngineSound t) (h : 0 < merges#
   )
 
   module _ (t₁ : List ℕ) (c : Rerooted t t₁ r (before a (way (merges t) r))) where
-    pub separate-asks : (16384 ≤ length t₁) × (low < 1024) × (parent-word t₁ low < 1024) × (size-word t₁ low ≤ size-word t₁ (parent-word t₁ low))
+    pub separate-asks : (16384 ≤ length t₁) × (child < 1024) × (parent-word t₁ child < 1024) × (size-word t₁ child ≤ size-word t₁ (parent-word t₁ child))
     separate-asks =
         let l = z .long in
         let k = c .long in
-        let b : low < 1024 = subst (λ (x : ℕ). x < 1024) (sym el) (low-node t i z newest) in
-        let p : parent-word t₁ low ≡ parent-word t low = c .before (64 + low) (omega arith) in
-        let q : parent-word t low < 1024 = subst (λ (x : ℕ). parent-word t x < 1024) (sym el) (high-below t i z newest) in
-        let s : size-word t low ≤ size-word t (parent-word t low) = subst (λ (x : ℕ). size-word t x ≤ size-word t (parent-word t x)) (sym el) (low-smaller t i z newest) in
-        let u : size-word t₁ low ≡ size-word t low = c .before (1088 + low) (omega arith) in
-        let v : size-word t₁ (parent-word t₁ low) ≡ size-word t (parent-word t low) = c .before (1088 + parent-word t₁ low) (omega arith) ∙ ap (size-word t) p in
+        let b : child < 1024 = subst (λ (x : ℕ). x < 1024) (sym el) (child-node t i z newest) in
+        let p : parent-word t₁ child ≡ parent-word t child = c .before (64 + child) (omega arith) in
+        let q : parent-word t child < 1024 = subst (λ (x : ℕ). parent-word t x < 1024) (sym el) (root-below t i z newest) in
+        let s : size-word t child ≤ size-word t (parent-word t child) = subst (λ (x : ℕ). size-word t x ≤ size-word t (parent-word t x)) (sym el) (child-smaller t i z newest) in
+        let u : size-word t₁ child ≡ size-word t child = c .before (1088 + child) (omega arith) in
+        let v : size-word t₁ (parent-word t₁ child) ≡ size-word t (parent-word t child) = c .before (1088 + parent-word t₁ child) (omega arith) ∙ ap (size-word t) p in
         (omega arith, b, omega arith, omega arith)
 
-    pub undone-at : (t₂ t₃ : List ℕ) → Separated t₁ t₂ low (parent-word t₁ low) → t₃ ≡ set t₂ 0 i → EngineSound t₃ × (suc (merges# t₃) ≡ merges# t) × (merges t₃ ≡ merges-below t (merges# t₃)) × (level-word t₃ ≡ level-word t)
+    pub undone-at : (t₂ t₃ : List ℕ) → Separated t₁ t₂ child (parent-word t₁ child) → t₃ ≡ set t₂ 0 i → EngineSound t₃ × (suc (merges# t₃) ≡ merges# t) × (merges t₃ ≡ merges-below t (merges# t₃)) × (level-word t₃ ≡ level-word t)
     undone-at t₂ t₃ d e =
         undone t i z newest t₁ t₂ t₃
         (subst (λ (k : ℕ). Rerooted t t₁ k (before (a-word t i) (way (merges t) k))) er (subst (λ (k : ℕ). Rerooted t t₁ r (before k (way (merges t) r))) ea c))

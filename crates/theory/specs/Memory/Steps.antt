@@ -10,7 +10,7 @@ use Rattle.core.specs.Memory.Table.{word}
 use Rattle.theory.specs.declared.types.EqJust as Given
 use Rattle.theory.specs.declared.eq_engine.LabelWords as LabelWords
 use Rattle.theory.specs.EqEngine.{Merge, are-equal, pairs-of, pairs-in-force, Step, way}
-use Rattle.theory.specs.Memory.Table.{parent-word, size-word, fparent-word, fedge-word, a-word, b-word, label-word, value-word, low-word, froot-word, after-word, left-word, right-word, label, begins, merges, end, EqualPairs}
+use Rattle.theory.specs.Memory.Table.{parent-word, size-word, fparent-word, fedge-word, a-word, b-word, label-word, value-word, child-word, froot-word, after-word, left-word, right-word, label, begins, merges, end, EqualPairs}
 
 -- ---- the log
 
@@ -20,7 +20,7 @@ pub record SameEntry (t u : List ℕ) (i : ℕ) : Type 0 where
   pub b : b-word u i ≡ b-word t i
   pub kind : label-word u i ≡ label-word t i
   pub value : value-word u i ≡ value-word t i
-  pub low : low-word u i ≡ low-word t i
+  pub child : child-word u i ≡ child-word t i
   pub froot : froot-word u i ≡ froot-word t i
   pub after : after-word u i ≡ after-word t i
 
@@ -60,14 +60,14 @@ pub record Spliced (t u : List ℕ) (a b i : ℕ) : Type 0 where
 
 -- ---- classes
 
--- the class of root low is under the root high, by merge i
-pub record United (t u : List ℕ) (low high i : ℕ) : Type 0 where
+-- the class of root child is under the root, by merge i
+pub record United (t u : List ℕ) (child root i : ℕ) : Type 0 where
   pub long : length u ≡ length t
   pub before : (k : ℕ) → k < 64 → word u k ≡ word t k
   pub behind : (k : ℕ) → 2112 ≤ k → (k ≡ 8256 + i → ⊥) → word u k ≡ word t k
-  pub parents : (x : ℕ) → x < 1024 → parent-word u x ≡ cond (eqb x low) high (parent-word t x)
-  pub sizes : (x : ℕ) → x < 1024 → size-word u x ≡ cond (eqb x high) (size-word t low + size-word t high) (size-word t x)
-  pub low-noted : low-word u i ≡ low
+  pub parents : (x : ℕ) → x < 1024 → parent-word u x ≡ cond (eqb x child) root (parent-word t x)
+  pub sizes : (x : ℕ) → x < 1024 → size-word u x ≡ cond (eqb x root) (size-word t child + size-word t root) (size-word t x)
+  pub child-noted : child-word u i ≡ child
 
 -- ---- a new entry of the log
 
@@ -81,7 +81,7 @@ pub record Logged (t u : List ℕ) (i a b w v e : ℕ) : Type 0 where
   pub kind : label-word u i ≡ w
   pub value : value-word u i ≡ v
   pub after : after-word u i ≡ e
-  pub roots : (low-word u i ≡ low-word t i) × (froot-word u i ≡ froot-word t i)
+  pub roots : (child-word u i ≡ child-word t i) × (froot-word u i ≡ froot-word t i)
 
 -- a and b are in two classes, and a label of these words may join them
 pub record Joinable (t : List ℕ) (a b kind h v e : ℕ) : Type 0 where
@@ -111,13 +111,13 @@ pub record Copied (t u : List ℕ) (start : ℕ) (xs ys : List ℕ) : Type 0 whe
 
 -- ---- a merge undone
 
--- the class of root low, which was under high, is its own again
-pub record Separated (t u : List ℕ) (low high : ℕ) : Type 0 where
+-- the class of root child, which was under high, is its own again
+pub record Separated (t u : List ℕ) (child root : ℕ) : Type 0 where
   pub long : length u ≡ length t
   pub before : (k : ℕ) → k < 64 → word u k ≡ word t k
   pub behind : (k : ℕ) → 2112 ≤ k → word u k ≡ word t k
-  pub parents : (x : ℕ) → x < 1024 → parent-word u x ≡ cond (eqb x low) low (parent-word t x)
-  pub sizes : (x : ℕ) → x < 1024 → size-word u x ≡ cond (eqb x high) (size-word t high - size-word t low) (size-word t x)
+  pub parents : (x : ℕ) → x < 1024 → parent-word u x ≡ cond (eqb x child) child (parent-word t x)
+  pub sizes : (x : ℕ) → x < 1024 → size-word u x ≡ cond (eqb x root) (size-word t root - size-word t child) (size-word t x)
 
 -- is the newest merge of a level above k?
 unfoldable pub newest-above : ℕ → List Merge → Bool

@@ -11,7 +11,7 @@ use Rattle.core.specs.Lists.{In, range}
 use Rattle.core.specs.Memory.Table.{word}
 use Rattle.theory.specs.Types.{EqJust, Asserted, Congruence, Interface}
 use Rattle.theory.specs.declared.types.EqJust as Given
-use Rattle.theory.specs.EqEngine.{Merge, lower, higher, classes, find, are-equal, pairs-of, pairs-in-force, Step, way}
+use Rattle.theory.specs.EqEngine.{Merge, child, root, classes, find, are-equal, pairs-of, pairs-in-force, Step, way}
 
 -- ---- the layout, within 16,384 words
 
@@ -49,8 +49,8 @@ label-word t i = word t (6208 + i)
 abbrev pub value-word : List ℕ → ℕ → ℕ
 value-word t i = word t (7232 + i)
 
-abbrev pub low-word : List ℕ → ℕ → ℕ
-low-word t i = word t (8256 + i)
+abbrev pub child-word : List ℕ → ℕ → ℕ
+child-word t i = word t (8256 + i)
 
 abbrev pub froot-word : List ℕ → ℕ → ℕ
 froot-word t i = word t (9280 + i)
@@ -107,16 +107,16 @@ merges t = merges-below t (merges# t)
 -- ---- the union-find
 
 -- the root that a merge put under the other, and the other
-unfoldable pub low-root : List Merge → Merge → ℕ
-low-root ms m = let c = classes ms in lower (c .size) (c .find (m .a)) (c .find (m .b))
+unfoldable pub child-of : List Merge → Merge → ℕ
+child-of ms m = let c = classes ms in child (c .size) (c .find (m .a)) (c .find (m .b))
 
-unfoldable pub high-root : List Merge → Merge → ℕ
-high-root ms m = let c = classes ms in higher (c .size) (c .find (m .a)) (c .find (m .b))
+unfoldable pub root-of : List Merge → Merge → ℕ
+root-of ms m = let c = classes ms in root (c .size) (c .find (m .a)) (c .find (m .b))
 
 -- the parent of a node: a root is its own
 unfoldable pub parent : List Merge → ℕ → ℕ
 parent [] x = x
-parent (m ∷ ms) x = cond (eqb x (low-root ms m)) (high-root ms m) (parent ms x)
+parent (m ∷ ms) x = cond (eqb x (child-of ms m)) (root-of ms m) (parent ms x)
 
 -- ---- the forest
 
@@ -160,7 +160,7 @@ pub record EngineSound (t : List ℕ) : Type 0 where
   pub justified : Justified (merges t)
   pub nodes : (i : ℕ) → i < merges# t → (a-word t i < 1024) × (b-word t i < 1024)
   pub pair-nodes : (m : Merge) → In m (merges t) → (p : ℕ × ℕ) → In p (pairs-of (m .just)) → (p .0 < 1024) × (p .1 < 1024)
-  pub low : (i : ℕ) → i < merges# t → low-word t i ≡ low-root (merges-below t i) (merge-at t i)
+  pub child : (i : ℕ) → i < merges# t → child-word t i ≡ child-of (merges-below t i) (merge-at t i)
   pub froot : (i : ℕ) → i < merges# t → froot-word t i ≡ end (a-word t i) (way (merges-below t i) (a-word t i))
   -- levels rise along the log, up to the present level
   pub levels-fit : level-word t ≤ 64
