@@ -1,0 +1,25 @@
+-- The tables stay sound and as long as they were.
+use Prim.Native.Nat.{_-_}
+use mathlib.Core.Path.{_≡_}
+use lib.ListN.{length}
+use borrow.Author.Needs.{needs}
+use Rattle.theory.specs.Memory.Table.{EngineSound}
+use Rattle.theory_main.proofs.main.Statement.{statement}
+use Rattle.theory_main.proofs.main.Tie as tie
+
+pub main-spec : {M : Type 1} → statement M
+main-spec =
+    tie.close
+    (tie.spec
+    (λ t₀ out₀ sum₀ i₀ t out sum i. EngineSound t × (length t ≡ 16384) × (length out ≡ 2049))
+    (λ t₀ out₀ sum₀ i₀ t out sum i. 24553 - i)
+    (λ c. search needs)
+    (λ c κs. search needs)
+    (λ c. search needs)
+    (λ c. search needs)
+    (λ c. search needs)
+    (λ c κs. search needs)
+    (λ c. search needs)
+    (λ c. search needs)
+    (λ c. search needs)
+    (λ c. search needs))
