@@ -1,313 +1,243 @@
--- One more registration: the table that its words leave is sound and means the list with it at the end.
+-- One more registration: the table that its stores leave is sound and means the list with it at the end.
 use Prim.Native.Nat.{ℕ, zero, suc, _+_, _-_, _≤_, _<_}
 use mathlib.Core.Path.{_≡_, refl, sym, subst, ap, ap₂, _∙_}
-use mathlib.Core.Logic.{_⊎_, inl, inr, _≢_, ⊎-elim}
+use mathlib.Core.Logic.{_⊎_, inl, inr}
 use mathlib.Core.Bool.{Bool, true, false, cond, true≢false}
-use mathlib.Core.List.{List, [], _∷_, _++_, map}
+use mathlib.Core.List.{List, [], _∷_, _++_}
 use mathlib.Core.Option.{Option, none, some}
-use native.Mathlib.Nat.{zero-add, eq-or-lt-of-le}
 use native.Mathlib.Decide.{ℕ-discrete}
 use native.Mathlib.Numerals.{add-one}
 use native.Mathlib.Omega.{arith}
 use borrow.Author.Count.{below-more}
 use borrow.Author.Tests.{eq-eqb, ne-eqb}
 use lib.Dec.{eqb}
-use lib.ListN.{length, set, length-set}
-use lib.Seq.{getD-set-same, getD-set-other}
+use lib.ListN.{length}
+use Rattle.core.specs.Limits.{max-vars, max-terms}
 use Rattle.core.specs.Lists.{first, range}
-use Rattle.core.specs.Memory.Table.{word}
-use Rattle.core.proofs.Lists.{In, length-map-range, map-range-suc, map-range-cong}
-use Rattle.theory.specs.Atom.{Registered, register, is-registered, var-of, var-of-atom}
-use Rattle.theory.specs.Memory.Registry.{vars#, var-word, atom-word, first-word, registered-at, atoms, held, noted-first, RegistrySound}
-use Rattle.theory.proofs.Members.{Apart, apart-length}
-use Rattle.theory.proofs.Memory.Registering.{in-map-range, map-range-in, registered-yes}
+use Rattle.core.specs.Memory.Words.{at, put, counted}
+use Rattle.core.proofs.Lists.{In, at-in, in-at}
+use Rattle.core.proofs.Memory.Counted.{counted-length, counted-at, counted-grown}
+use Rattle.core.proofs.Memory.Searching.{any-found}
+use Rattle.core.proofs.Memory.Stores.{other-place}
+use Rattle.theory.specs.Atom.{Registered, register, is-registered}
+use Rattle.theory.specs.Memory.Registry.{COUNTS, VARS, VAR, ATOM, FIRST, registry-size, vars#, registered-at, atoms, of-var, of-atom, word-for, atom-word, first-word, first-with, RegistrySound, Registrable}
+use Rattle.theory.proofs.Members.{Apart, apart-length, apart-last}
+use Rattle.theory.proofs.Memory.Registering.{stores, registered-yes}
 
--- ---- a free variable
+-- ---- a variable that is not registered
 
-module _ (t : List ℕ) (z : RegistrySound t) (v : ℕ) (h : v < 1024) (f : is-registered (atoms t) v ≡ false) where
-  no-atom : atom-word t v ≡ 0
-  no-atom = go (ℕ-discrete (atom-word t v) 0)
+module _ (f : ℕ → ℕ) (n : ℕ) where
+  in-counted : (i : ℕ) → i < n → In (f i) (counted f n)
+  in-counted i h = let m = counted-length f n in subst (λ (y : ℕ). In y (counted f n)) (counted-at f n i 0 h) (at-in (counted f n) i (omega arith))
+
+  counted-in : (y : ℕ) → In y (counted f n) → (i : ℕ) × (i < n) × (f i ≡ y)
+  counted-in y k =
+      let (i, l, e) = in-at (counted f n) y k in
+      let m = counted-length f n in
+      let h : i < n = omega arith in
+      (i, h, sym (counted-at f n i 0 h) ∙ e)
+
+module _ {t : List ℕ} {v x : ℕ} (z : Registrable t v x) where
+  not-var : (i : ℕ) → i < vars# t → at t VAR i ≡ v → ⊥
+  unfolding is-registered atoms
+  not-var i l e = true≢false (sym (any-found (of-var v) (registered-at t) (vars# t) i l (eq-eqb (at t VAR i) v e)) ∙ z .new)
+
+  not-in : In v (counted (at t VAR) (vars# t)) → ⊥
+  not-in k = let (i, l, e) = counted-in (at t VAR) (vars# t) v k in not-var i l e
+
+  no-atom : at t ATOM v ≡ 0
+  no-atom = go (ℕ-discrete (at t ATOM v) 0)
     where
-      go : Dec (atom-word t v ≡ 0) → atom-word t v ≡ 0
+      go : Dec (at t ATOM v ≡ 0) → at t ATOM v ≡ 0
       go (yes e) = e
-      go (no n) = absurd (true≢false (registered-yes t v z h n ∙ f))
+      go (no d) = absurd (true≢false (registered-yes t v (at t ATOM v) (z .sound) (z .var) refl d ∙ z .new))
 
-  not-var : (i : ℕ) → i < vars# t → var-word t i ≡ v → ⊥
-  not-var i l e = let a = z .held-atoms i l .0 in let b = ap (atom-word t) e in let c = no-atom in omega arith
-
-  apart-from : (k m : ℕ) → k + m ≤ vars# t → (x : ℕ) → ((i : ℕ) → k ≤ i → i < k + m → var-word t i ≡ x → ⊥) → In x (map (var-word t) (range k m)) → ⊥
-  unfolding range
-  apart-from k zero l x n i = i
-  apart-from k (suc m) l x n (inl e) = n k (omega arith) (omega arith) (sym e)
-  apart-from k (suc m) l x n (inr i) = apart-from (suc k) m (omega arith) x (λ j a b. n j (omega arith) (omega arith)) i
-
-  all-apart : (k m : ℕ) → k + m ≤ vars# t → Apart (map (var-word t) (range k m))
-  unfolding range
-  all-apart k zero l = tt
-  all-apart k (suc m) l = (
-    apart-from (suc k) m (omega arith) (var-word t k) (λ i a b e. let q = z .once i k (omega arith) (omega arith) e in omega arith),
-    all-apart (suc k) m (omega arith),
-  )
-
-  -- fewer than 1,024 variables are registered
-  pub one-free : vars# t < 1024
+  -- fewer than all variables are registered
+  pub one-free : vars# t < max-vars
   one-free =
-      let a : Apart (v ∷ map (var-word t) (range 0 (vars# t))) =
-      (apart-from 0 (vars# t) (omega arith) v (λ i l g. not-var i (omega arith)), all-apart 0 (vars# t) (omega arith)) in
-      let l = apart-length (v ∷ map (var-word t) (range 0 (vars# t))) (map (λ (x : ℕ). x) (range 0 1024)) a inside in
-      let m = length-map-range (var-word t) 0 (vars# t) in
-      let k = length-map-range (λ (x : ℕ). x) 0 1024 in
+      let l = apart-length (v ∷ counted (at t VAR) (vars# t)) (counted (λ (y : ℕ). y) max-vars) (not-in, z .sound .once) inside in
+      let m = counted-length (at t VAR) (vars# t) in
+      let k = counted-length (λ (y : ℕ). y) max-vars in
       omega arith
     where
-      inside : (y : ℕ) → In y (v ∷ map (var-word t) (range 0 (vars# t))) → In y (map (λ (x : ℕ). x) (range 0 1024))
-      inside y (inl e) = subst (λ (x : ℕ). In x (map (λ (x : ℕ). x) (range 0 1024))) (sym e) (in-map-range (λ (x : ℕ). x) 1024 v h)
-      inside y (inr i) =
-          let (j, g, e) = map-range-in (var-word t) (vars# t) y i in
-          subst (λ (x : ℕ). In x (map (λ (x : ℕ). x) (range 0 1024))) (sym e) (in-map-range (λ (x : ℕ). x) 1024 (var-word t j) (z .vars j g))
+      inside : (y : ℕ) → In y (v ∷ counted (at t VAR) (vars# t)) → In y (counted (λ (y : ℕ). y) max-vars)
+      inside y (inl e) = in-counted (λ (y : ℕ). y) max-vars y (let h = z .var in omega arith)
+      inside y (inr k) =
+          let (i, l, e) = counted-in (at t VAR) (vars# t) y k in
+          let h = z .sound .vars i l in
+          in-counted (λ (y : ℕ). y) max-vars y (omega arith)
 
 -- ---- the words
 
-record Written (t u : List ℕ) (n v x : ℕ) : Type 0 where
-  long : length u ≡ length t
-  count : word u 0 ≡ n + 1
-  var : word u (1 + n) ≡ v
-  atom : word u (1025 + v) ≡ x + 1
-  first : first-word u x ≡ cond (eqb (first-word t x) 0) (v + 1) (first-word t x)
-  rest : (k : ℕ) → k ≢ 0 → k ≢ 1 + n → k ≢ 1025 + v → k ≢ 2049 + x → word u k ≡ word t k
+is-same : (m n a b : ℕ) → m ≡ n → cond (eqb m n) a b ≡ a
+is-same m n a b e = ap (λ (q : Bool). cond q a b) (eq-eqb m n e)
 
-noted : (t : List ℕ) (x v : ℕ) → 3073 ≤ length t → x < 1024 → (length (noted-first t x v) ≡ length t) × (first-word (noted-first t x v) x ≡ cond (eqb (first-word t x) 0) (v + 1) (first-word t x)) × ((k : ℕ) → k ≢ 2049 + x → word (noted-first t x v) k ≡ word t k)
-unfolding noted-first
-noted t x v l h = go (eqb (first-word t x) 0)
+is-other : (m n a b : ℕ) → (m ≡ n → ⊥) → cond (eqb m n) a b ≡ b
+is-other m n a b d = ap (λ (q : Bool). cond q a b) (ne-eqb m n d)
+
+record Written (t u : List ℕ) (v x : ℕ) : Type 0 where
+  long : registry-size ≤ length u
+  count : vars# u ≡ suc (vars# t)
+  vars : (i : ℕ) → i < max-vars → at u VAR i ≡ cond (eqb i (vars# t)) v (at t VAR i)
+  atoms : (y : ℕ) → y < max-vars → at u ATOM y ≡ cond (eqb y v) (x + 1) (at t ATOM y)
+  firsts : (y : ℕ) → y < max-terms → at u FIRST y ≡ cond (eqb y x) (first-with t x v) (at t FIRST y)
+
+written : (t t₁ t₂ t₃ u : List ℕ) (n v x w : ℕ) → registry-size ≤ length t → n < max-vars → v < max-vars → x < max-terms → n ≡ vars# t →
+    t₁ ≡ put t FIRST x w → t₂ ≡ put t₁ VAR n v → t₃ ≡ put t₂ ATOM v (x + 1) → u ≡ put t₃ COUNTS VARS (n + 1) → w ≡ first-with t x v → Written t u v x
+written t t₁ t₂ t₃ u n v x w l hn hv hx e e₁ e₂ e₃ e₄ q =
+    search (← e, e₄, e₃, e₂, e₁, q, add-one, stores, arith)
+
+-- ---- the first registration with a key, as a word: one more registration counts where there was none
+
+word-more : (f : Registered → ℕ) (p : Registered → Bool) (rs : List Registered) (r : Registered) →
+    word-for f (first p (rs ++ (r ∷ []))) ≡ cond (eqb (word-for f (first p rs)) 0) (cond (p r) (f r + 1) 0) (word-for f (first p rs))
+unfolding first word-for
+word-more f p [] r = go (p r)
   where
-    go : (b : Bool) → (length (cond b (set t (2049 + x) (v + 1)) t) ≡ length t) × (word (cond b (set t (2049 + x) (v + 1)) t) (2049 + x) ≡ cond b (v + 1) (first-word t x)) × ((k : ℕ) → k ≢ 2049 + x → word (cond b (set t (2049 + x) (v + 1)) t) k ≡ word t k)
-    go true = (length-set t (2049 + x) (v + 1), getD-set-same t (2049 + x) (v + 1) 0 (omega arith), λ k n. getD-set-other t (2049 + x) k (v + 1) 0 n)
-    go false = (refl, refl, λ k n. refl)
+    go : (b : Bool) → word-for f (cond b (some r) none) ≡ cond b (f r + 1) 0
+    go true = sym (add-one (f r))
+    go false = refl
+word-more f p (s ∷ rs) r = go (p s) (word-more f p rs r)
+  where
+    go : (b : Bool) → word-for f (first p (rs ++ (r ∷ []))) ≡ cond (eqb (word-for f (first p rs)) 0) (cond (p r) (f r + 1) 0) (word-for f (first p rs)) →
+        word-for f (cond b (some s) (first p (rs ++ (r ∷ [])))) ≡ cond (eqb (word-for f (cond b (some s) (first p rs))) 0) (cond (p r) (f r + 1) 0) (word-for f (cond b (some s) (first p rs)))
+    go true e = sym (is-other (suc (f s)) 0 (cond (p r) (f r + 1) 0) (suc (f s)) (omega arith))
+    go false e = e
 
-written : (t t₁ t₂ t₃ u : List ℕ) (n v x : ℕ) → 3073 ≤ length t → n < 1024 → v < 1024 → x < 1024 → t₁ ≡ noted-first t x v → t₂ ≡ set t₁ (1 + n) v → t₃ ≡ set t₂ (1025 + v) (x + 1) → u ≡ set t₃ 0 (n + 1) → Written t u n v x
-written t t₁ t₂ t₃ u n v x l hn hv hx e₁ e₂ e₃ e₄ =
-    let (ln, fn, rn) = noted t x v l hx in
-    let l₁ = ap length e₁ ∙ ln in
-    let l₂ = ap length e₂ ∙ length-set t₁ (1 + n) v in
-    let l₃ = ap length e₃ ∙ length-set t₂ (1025 + v) (x + 1) in
-    let l₄ = ap length e₄ ∙ length-set t₃ 0 (n + 1) in
-    let w₁ : (k : ℕ) → k ≢ 2049 + x → word t₁ k ≡ word t k = λ k a. ap (λ (y : List ℕ). word y k) e₁ ∙ rn k a in
-    let w₂ : (k : ℕ) → k ≢ 1 + n → word t₂ k ≡ word t₁ k = λ k a. ap (λ (y : List ℕ). word y k) e₂ ∙ getD-set-other t₁ (1 + n) k v 0 a in
-    let w₃ : (k : ℕ) → k ≢ 1025 + v → word t₃ k ≡ word t₂ k = λ k a. ap (λ (y : List ℕ). word y k) e₃ ∙ getD-set-other t₂ (1025 + v) k (x + 1) 0 a in
-    let w₄ : (k : ℕ) → k ≢ 0 → word u k ≡ word t₃ k = λ k a. ap (λ (y : List ℕ). word y k) e₄ ∙ getD-set-other t₃ 0 k (n + 1) 0 a in
-    record {
-      long = l₄ ∙ l₃ ∙ l₂ ∙ l₁;
-      count = ap (λ (y : List ℕ). word y 0) e₄ ∙ getD-set-same t₃ 0 (n + 1) 0 (omega arith);
-      var = w₄ (1 + n) (omega arith) ∙ w₃ (1 + n) (omega arith) ∙ ap (λ (y : List ℕ). word y (1 + n)) e₂ ∙ getD-set-same t₁ (1 + n) v 0 (omega arith);
-      atom = w₄ (1025 + v) (omega arith) ∙ ap (λ (y : List ℕ). word y (1025 + v)) e₃ ∙ getD-set-same t₂ (1025 + v) (x + 1) 0 (omega arith);
-      first = w₄ (2049 + x) (omega arith) ∙ w₃ (2049 + x) (omega arith) ∙ w₂ (2049 + x) (omega arith) ∙ ap (λ (y : List ℕ). word y (2049 + x)) e₁ ∙ fn;
-      rest = λ k a b c d. w₄ k a ∙ w₃ k c ∙ w₂ k b ∙ w₁ k d;
-    }
+keyed : (k y c a w : ℕ) → (y ≡ k → w ≡ cond (eqb a 0) c a) → ((y ≡ k → ⊥) → w ≡ a) → w ≡ cond (eqb a 0) (cond (eqb k y) c 0) a
+keyed k y c a w f g = go (ℕ-discrete y k)
+  where
+    zero-or : (n : ℕ) → n ≡ cond (eqb n 0) 0 n
+    zero-or zero = refl
+    zero-or (suc n) = sym (is-other (suc n) 0 0 (suc n) (omega arith))
+
+    go : Dec (y ≡ k) → w ≡ cond (eqb a 0) (cond (eqb k y) c 0) a
+    go (yes e) = f e ∙ sym (ap (λ (n : ℕ). cond (eqb a 0) n a) (is-same k y c 0 (sym e)))
+    go (no d) = g d ∙ zero-or a ∙ sym (ap (λ (n : ℕ). cond (eqb a 0) n a) (is-other k y c 0 (λ e. d (sym e))))
 
 -- ---- what they mean
 
-module _ (t u : List ℕ) (n v x : ℕ) (z : RegistrySound t) (e : n ≡ vars# t) (hv : v < 1024) (hx : x < 1024) (f : is-registered (atoms t) v ≡ false) (w : Written t u n v x) where
-  room : n < 1024
-  room = let o = one-free t z v hv f in omega arith
+module _ {t u : List ℕ} {v x : ℕ} (z : Registrable t v x) (w : Written t u v x) where
+  old-var : (i : ℕ) → i < vars# t → at u VAR i ≡ at t VAR i
+  old-var i l = let r = one-free z in w .vars i (omega arith) ∙ is-other i (vars# t) v (at t VAR i) (omega arith)
 
-  old-var : (i : ℕ) → i < n → var-word u i ≡ var-word t i
-  old-var i l = let r = room in w .rest (1 + i) (omega arith) (omega arith) (omega arith) (omega arith)
+  new-var : at u VAR (vars# t) ≡ v
+  new-var = w .vars (vars# t) (one-free z) ∙ is-same (vars# t) (vars# t) v (at t VAR (vars# t)) refl
 
-  old-atom : (y : ℕ) → y < 1024 → y ≢ v → atom-word u y ≡ atom-word t y
-  old-atom y l d = let r = room in w .rest (1025 + y) (omega arith) (omega arith) (omega arith) (omega arith)
+  old-atom : (i : ℕ) → i < vars# t → at u ATOM (at u VAR i) ≡ at t ATOM (at t VAR i)
+  old-atom i l =
+      ap (at u ATOM) (old-var i l) ∙ w .atoms (at t VAR i) (z .sound .vars i l) ∙ is-other (at t VAR i) v (x + 1) (at t ATOM (at t VAR i)) (not-var z i l)
 
-  old-first : (y : ℕ) → y < 1024 → y ≢ x → first-word u y ≡ first-word t y
-  old-first y l d = let r = room in w .rest (2049 + y) (omega arith) (omega arith) (omega arith) (omega arith)
-
-  other-var : (i : ℕ) → i < n → var-word t i ≡ v → ⊥
-  other-var i l = not-var t z v hv f i (omega arith)
-
-  var-below : (i : ℕ) → i < n → var-word t i < 1024
-  var-below i l = z .vars i (omega arith)
-
-  old-held : (i : ℕ) → i < n → atom-word u (var-word u i) ≡ atom-word t (var-word t i)
-  old-held i l = ap (atom-word u) (old-var i l) ∙ old-atom (var-word t i) (var-below i l) (other-var i l)
-
-  old-registered : (i : ℕ) → i < n → registered-at u i ≡ registered-at t i
-  unfolding registered-at
-  old-registered i l =
-      let p = old-var i l in
-      let q = old-held i l in
-      λ k. record { var = p k; atom = q k - 1 }
-
-  new-held : atom-word u (var-word u n) ≡ x + 1
-  new-held = ap (atom-word u) (w .var) ∙ w .atom
-
-  new-registered : registered-at u n ≡ record { var = v; atom = x }
-  unfolding registered-at
-  new-registered =
-      let p = w .var in
-      let q : atom-word u (var-word u n) - 1 ≡ x = ap (λ (y : ℕ). y - 1) new-held ∙ (let g : x + 1 - 1 ≡ x = omega arith in g) in
-      λ k. record { var = p k; atom = q k }
-
-  total : vars# u ≡ suc n
-  total = let c = w .count in omega arith
+  new-atom : at u ATOM v ≡ x + 1
+  new-atom = w .atoms v (z .var) ∙ is-same v v (x + 1) (at t ATOM v) refl
 
   view : atoms u ≡ register (atoms t) v x
   unfolding atoms register
-  view =
-      ap (λ (m : ℕ). map (registered-at u) (range 0 m)) total
-      ∙ map-range-suc (registered-at u) 0 n
-      ∙ ap₂ (λ (rs : List Registered) (r : Registered). rs ++ (r ∷ []))
-      (map-range-cong (registered-at u) (registered-at t) 0 n (λ i l g. old-registered i (omega arith)) ∙ ap (λ (m : ℕ). map (registered-at t) (range 0 m)) e)
-      (ap (registered-at u) (zero-add n) ∙ new-registered)
-
-  last-or-old : (i : ℕ) → i < vars# u → (i ≡ n) ⊎ (i < n)
-  last-or-old i l = eq-or-lt-of-le (let c = total in omega arith)
-
-  all-vars : (i : ℕ) → i < vars# u → var-word u i < 1024
-  all-vars i l = ⊎-elim (λ q. subst (λ (k : ℕ). var-word u k < 1024) (sym q) (let p = w .var in omega arith)) (λ g. let p = old-var i g in let b = var-below i g in omega arith) (last-or-old i l)
-
-  all-held : (i : ℕ) → i < vars# u → (0 < atom-word u (var-word u i)) × (atom-word u (var-word u i) ≤ 1024)
-  all-held i l =
-      ⊎-elim (λ q. subst (λ (k : ℕ). (0 < atom-word u (var-word u k)) × (atom-word u (var-word u k) ≤ 1024)) (sym q) (let p = new-held in (omega arith, omega arith)))
-      (λ g. let p = old-held i g in let b = z .held-atoms i (omega arith) in (omega arith, omega arith)) (last-or-old i l)
-
-  all-listed : (y : ℕ) → y < 1024 → 0 < atom-word u y → (i : ℕ) × (i < vars# u) × (var-word u i ≡ y)
-  all-listed y l p = go (ℕ-discrete y v)
+  view = counted-grown (registered-at t) (registered-at u) (vars# t) (vars# u) (record { var = v; atom = x }) (w .count) old new
     where
-      old : y ≢ v → (i : ℕ) × (i < vars# t) × (var-word t i ≡ y)
-      old d = z .listed y l (let q = old-atom y l d in omega arith)
+      old : (i : ℕ) → i < vars# t → registered-at u i ≡ registered-at t i
+      old i l = let p = old-var i l in let q = old-atom i l in λ k. record { var = p k; atom = q k - 1 }
 
-      go : Dec (y ≡ v) → (i : ℕ) × (i < vars# u) × (var-word u i ≡ y)
-      go (yes q) = (n, (let c = total in omega arith), w .var ∙ sym q)
-      go (no d) = let (i, g, q) = old d in (i, (let c = total in omega arith), old-var i (omega arith) ∙ q)
+      less : at u ATOM (at u VAR (vars# t)) - 1 ≡ x
+      less = let p = ap (at u ATOM) new-var ∙ new-atom in omega arith
 
-  both : (i j : ℕ) → (i ≡ n) ⊎ (i < n) → (j ≡ n) ⊎ (j < n) → var-word u i ≡ var-word u j → i ≡ j
-  both i j (inl p) (inl q) r = p ∙ sym q
-  both i j (inl p) (inr q) r = absurd (other-var j q (sym (old-var j q) ∙ sym r ∙ ap (var-word u) p ∙ w .var))
-  both i j (inr p) (inl q) r = absurd (other-var i p (sym (old-var i p) ∙ r ∙ ap (var-word u) q ∙ w .var))
-  both i j (inr p) (inr q) r = z .once i j (omega arith) (omega arith) (sym (old-var i p) ∙ r ∙ old-var j q)
+      new : registered-at u (vars# t) ≡ record { var = v; atom = x }
+      new = let p = new-var in let q = less in λ k. record { var = p k; atom = q k }
 
--- ---- first variables
+  -- the word of an atom or a variable, with the new registration
+  words : (f : Registered → ℕ) (p : Registered → Bool) → word-for f (first p (atoms u)) ≡ cond (eqb (word-for f (first p (atoms t))) 0) (cond (p (record { var = v; atom = x })) (f (record { var = v; atom = x }) + 1) 0) (word-for f (first p (atoms t)))
+  unfolding register
+  words f p = ap (λ (rs : List Registered). word-for f (first p rs)) view ∙ word-more f p (atoms t) (record { var = v; atom = x })
 
-or-else : Option ℕ → Option ℕ → Option ℕ
-or-else none o = o
-or-else (some x) o = some x
-
-first-more : (p : Registered → Bool) (rs : List Registered) (r : Registered) → var-of (first p (rs ++ (r ∷ []))) ≡ or-else (var-of (first p rs)) (cond (p r) (some (r .var)) none)
-unfolding first var-of or-else
-first-more p [] r = last (p r)
-  where
-    last : (b : Bool) → var-of (cond b (some r) none) ≡ cond b (some (r .var)) none
-    last true = refl
-    last false = refl
-first-more p (s ∷ rs) r = here (p s) (first-more p rs r)
-  where
-    here : (b : Bool) → var-of (first p (rs ++ (r ∷ []))) ≡ or-else (var-of (first p rs)) (cond (p r) (some (r .var)) none) → var-of (cond b (some s) (first p (rs ++ (r ∷ [])))) ≡ or-else (var-of (cond b (some s) (first p rs))) (cond (p r) (some (r .var)) none)
-    here true ih = refl
-    here false ih = ih
-
-or-none : (o : Option ℕ) → or-else o none ≡ o
-unfolding or-else
-or-none none = refl
-or-none (some x) = refl
-
-held-first : (a v : ℕ) → held (cond (eqb a 0) (v + 1) a) ≡ or-else (held a) (some v)
-unfolding held or-else
-held-first zero v = ap held (add-one v)
-held-first (suc a) v = ap (λ (b : Bool). held (cond b (v + 1) (suc a))) (ne-eqb (suc a) 0 (omega arith))
-
-module _ (t u : List ℕ) (n v x : ℕ) (z : RegistrySound t) (e : n ≡ vars# t) (hv : v < 1024) (hx : x < 1024) (f : is-registered (atoms t) v ≡ false) (w : Written t u n v x) where
-  more : (y : ℕ) → var-of-atom (register (atoms t) v x) y ≡ or-else (var-of-atom (atoms t) y) (cond (eqb x y) (some v) none)
-  unfolding var-of-atom register
-  more y = first-more (λ (r : Registered). eqb (r .atom) y) (atoms t) (record { var = v; atom = x })
-
-  new-firsts : (y : ℕ) → y < 1024 → held (first-word u y) ≡ var-of-atom (atoms u) y
-  new-firsts y l = go (ℕ-discrete y x) ∙ sym (more y) ∙ sym (ap (λ (rs : List Registered). var-of-atom rs y) (view t u n v x z e hv hx f w))
+  atoms-now : (y : ℕ) → y < max-vars → at u ATOM y ≡ atom-word (atoms u) y
+  atoms-now y l =
+      keyed v y (x + 1) (at t ATOM y) (at u ATOM y) same (λ d. w .atoms y l ∙ is-other y v (x + 1) (at t ATOM y) d)
+      ∙ ap (λ (a : ℕ). cond (eqb a 0) (cond (eqb v y) (x + 1) 0) a) (z .sound .atoms-are y l)
+      ∙ sym (words (λ (r : Registered). r .atom) (of-var y))
     where
-      go : Dec (y ≡ x) → held (first-word u y) ≡ or-else (var-of-atom (atoms t) y) (cond (eqb x y) (some v) none)
-      go (yes q) =
-          ap held (ap (first-word u) q ∙ w .first)
-          ∙ held-first (first-word t x) v
-          ∙ ap₂ or-else (ap (λ (k : ℕ). held (first-word t k)) (sym q) ∙ z .firsts y l) (sym (ap (λ (b : Bool). cond b (some v) none) (eq-eqb x y (sym q))))
-      go (no d) =
-          ap held (old-first t u n v x z e hv hx f w y l d)
-          ∙ z .firsts y l
-          ∙ sym (or-none (var-of-atom (atoms t) y))
-          ∙ ap (or-else (var-of-atom (atoms t) y)) (sym (ap (λ (b : Bool). cond b (some v) none) (ne-eqb x y (λ q. d (sym q)))))
+      same : y ≡ v → at u ATOM y ≡ cond (eqb (at t ATOM y) 0) (x + 1) (at t ATOM y)
+      same e = ap (at u ATOM) e ∙ new-atom ∙ sym (is-same (at t ATOM y) 0 (x + 1) (at t ATOM y) (ap (at t ATOM) e ∙ no-atom z))
+
+  firsts-now : (y : ℕ) → y < max-terms → at u FIRST y ≡ first-word (atoms u) y
+  firsts-now y l =
+      keyed x y (v + 1) (at t FIRST y) (at u FIRST y) same (λ d. w .firsts y l ∙ is-other y x (first-with t x v) (at t FIRST y) d)
+      ∙ ap (λ (a : ℕ). cond (eqb a 0) (cond (eqb x y) (v + 1) 0) a) (z .sound .firsts-are y l)
+      ∙ sym (words (λ (r : Registered). r .var) (of-atom y))
+    where
+      same : y ≡ x → at u FIRST y ≡ first-with t y v
+      same e = w .firsts y l ∙ is-same y x (first-with t x v) (at t FIRST y) e ∙ ap (λ (k : ℕ). first-with t k v) (sym e)
+
+  vars-grown : counted (at u VAR) (vars# u) ≡ counted (at t VAR) (vars# t) ++ (v ∷ [])
+  vars-grown = counted-grown (at t VAR) (at u VAR) (vars# t) (vars# u) v (w .count) old-var new-var
 
   sound : RegistrySound u
-  sound =
-      let l = w .long in
-      let zl = z .long in
-      let r = room t u n v x z e hv hx f w in
-      let c = total t u n v x z e hv hx f w in
-      record {
-        long = omega arith;
-        fit = omega arith;
-        vars = all-vars t u n v x z e hv hx f w;
-        held-atoms = all-held t u n v x z e hv hx f w;
-        listed = all-listed t u n v x z e hv hx f w;
-        once = λ i j a b. both t u n v x z e hv hx f w i j (last-or-old t u n v x z e hv hx f w i a) (last-or-old t u n v x z e hv hx f w j b);
-        firsts = new-firsts;
-      }
+  sound = record {
+    long = w .long;
+    fit = let f = one-free z in let n = w .count in omega arith;
+    vars = λ i l. below (ℕ-discrete i (vars# t)) l;
+    once = subst Apart (sym vars-grown) (apart-last (counted (at t VAR) (vars# t)) v (z .sound .once) (not-in z));
+    atoms-are = atoms-now;
+    atoms-fit = λ y l. fits y l (ℕ-discrete y v);
+    firsts-are = firsts-now;
+  }
+    where
+      below : {i : ℕ} → Dec (i ≡ vars# t) → i < vars# u → at u VAR i < max-vars
+      below {i} (yes e) l = let p = ap (at u VAR) e ∙ new-var in let h = z .var in omega arith
+      below {i} (no d) l =
+          let n = w .count in
+          let g : i < vars# t = omega arith in
+          let p = old-var i g in
+          let h = z .sound .vars i g in
+          omega arith
 
-pub registers : (t t₁ t₂ t₃ u : List ℕ) (n v x : ℕ) → RegistrySound t → n ≡ vars# t → v < 1024 → x < 1024 → is-registered (atoms t) v ≡ false → t₁ ≡ noted-first t x v → t₂ ≡ set t₁ (1 + n) v → t₃ ≡ set t₂ (1025 + v) (x + 1) → u ≡ set t₃ 0 (n + 1) → RegistrySound u × (atoms u ≡ register (atoms t) v x)
-registers t t₁ t₂ t₃ u n v x z e hv hx f e₁ e₂ e₃ e₄ =
-    let o = one-free t z v hv f in
-    let w = written t t₁ t₂ t₃ u n v x (z .long) (omega arith) hv hx e₁ e₂ e₃ e₄ in
-    (sound t u n v x z e hv hx f w, view t u n v x z e hv hx f w)
+      fits : (y : ℕ) → y < max-vars → Dec (y ≡ v) → at u ATOM y ≤ max-terms
+      fits y l (yes e) = let p = ap (at u ATOM) e ∙ new-atom in let h = z .atom in omega arith
+      fits y l (no d) = let p = w .atoms y l ∙ is-other y v (x + 1) (at t ATOM y) d in let h = z .sound .atoms-fit y l in omega arith
+
+pub registers : {t t₁ t₂ t₃ u : List ℕ} {n v x w : ℕ} → Registrable t v x → n ≡ vars# t → w ≡ first-with t x v →
+    t₁ ≡ put t FIRST x w → t₂ ≡ put t₁ VAR n v → t₃ ≡ put t₂ ATOM v (x + 1) → u ≡ put t₃ COUNTS VARS (n + 1) →
+    RegistrySound u × (atoms u ≡ register (atoms t) v x)
+registers {t} {t₁} {t₂} {t₃} {u} {n} {v} {x} {w} z e q e₁ e₂ e₃ e₄ =
+    let f = one-free z in
+    let c = written t t₁ t₂ t₃ u n v x w (z .sound .long) (omega arith) (z .var) (z .atom) e e₁ e₂ e₃ e₄ q in
+    (sound z c, view z c)
 
 -- ---- an empty registry
 
--- no variable, and the first k variables and atoms hold nothing
+-- no variable, and the first k variables and atoms have none
 pub record Emptying (t₀ t : List ℕ) (k : ℕ) : Type 0 where
-  pub long : length t ≡ length t₀
-  pub fits : 3073 ≤ length t
-  pub count : word t 0 ≡ 0
-  pub empty : (y : ℕ) → y < k → (atom-word t y ≡ 0) × (first-word t y ≡ 0)
+  pub kept : length t ≡ length t₀
+  pub long : registry-size ≤ length t
+  pub count : vars# t ≡ 0
+  pub empty : (y : ℕ) → y < k → (at t ATOM y ≡ 0) × (at t FIRST y ≡ 0)
 
-pub empty-first : (t u : List ℕ) → 3073 ≤ length t → u ≡ set t 0 0 → Emptying u u 0
-empty-first t u l e =
-    let m = ap length e ∙ length-set t 0 0 in
-    record {
-      long = refl;
-      fits = omega arith;
-      count = ap (λ (x : List ℕ). word x 0) e ∙ getD-set-same t 0 0 0 (omega arith);
-      empty = λ y h. absurd (omega arith);
-    }
+pub empty-first : (t u : List ℕ) → registry-size ≤ length t → u ≡ put t COUNTS VARS 0 → Emptying u u 0
+empty-first t u l e = record { kept = refl; long = search (e, stores); count = search (e, stores); empty = λ y h. absurd (omega arith) }
 
-pub empty-next : (t₀ t t₁ u : List ℕ) (k : ℕ) → Emptying t₀ t k → k < 1024 → t₁ ≡ set t (1025 + k) 0 → u ≡ set t₁ (2049 + k) 0 → Emptying t₀ u (k + 1)
-empty-next t₀ t t₁ u k c h e₁ e₂ =
-    let f = c .fits in
-    let l₁ = ap length e₁ ∙ length-set t (1025 + k) 0 in
-    let l₂ = ap length e₂ ∙ length-set t₁ (2049 + k) 0 in
-    let o : (i : ℕ) → i ≢ 1025 + k → i ≢ 2049 + k → word u i ≡ word t i =
-    λ i a b. ap (λ (x : List ℕ). word x i) e₂ ∙ getD-set-other t₁ (2049 + k) i 0 0 b ∙ ap (λ (x : List ℕ). word x i) e₁ ∙ getD-set-other t (1025 + k) i 0 0 a in
-    record {
-      long = l₂ ∙ l₁ ∙ c .long;
-      fits = omega arith;
-      count = o 0 (omega arith) (omega arith) ∙ c .count;
-      empty =
-          below-more (λ (y : ℕ). (atom-word u y ≡ 0) × (first-word u y ≡ 0)) k
-          (λ y g. (o (1025 + y) (omega arith) (omega arith) ∙ c .empty y g .0, o (2049 + y) (omega arith) (omega arith) ∙ c .empty y g .1)) (
-            ap (λ (x : List ℕ). word x (1025 + k)) e₂ ∙ getD-set-other t₁ (2049 + k) (1025 + k) 0 0 (omega arith) ∙ ap (λ (x : List ℕ). word x (1025 + k)) e₁ ∙ getD-set-same t (1025 + k) 0 0 (omega arith),
-            ap (λ (x : List ℕ). word x (2049 + k)) e₂ ∙ getD-set-same t₁ (2049 + k) 0 0 (omega arith),
-          );
-    }
+pub empty-next : {t₀ t t₁ u : List ℕ} {k : ℕ} → Emptying t₀ t k → k < max-vars → t₁ ≡ put t ATOM k 0 → u ≡ put t₁ FIRST k 0 → Emptying t₀ u (k + 1)
+empty-next {u = u} {k = k} c h e₁ e₂ = let l = c .long in record {
+  kept = search (e₂, e₁, stores);
+  long = search (e₂, e₁, stores);
+  count = search (e₂, e₁, c .count, stores);
+  empty =
+      below-more (λ (y : ℕ). (at u ATOM y ≡ 0) × (at u FIRST y ≡ 0)) k
+      (λ y g. let b : y < max-vars = omega arith in let d : y ≡ k → ⊥ = omega arith in let q = c .empty y g in search (e₂, e₁, q .0, q .1, other-place, stores))
+      (search (e₂, e₁, stores));
+}
 
-no-atoms : (t : List ℕ) → word t 0 ≡ 0 → atoms t ≡ []
-unfolding atoms range
-no-atoms t e = ap (λ (n : ℕ). map (registered-at t) (range 0 n)) e
-
-pub empty-done : (t₀ t : List ℕ) (k : ℕ) → Emptying t₀ t k → 1024 ≤ k → RegistrySound t × (atoms t ≡ [])
-unfolding held var-of-atom var-of first
-empty-done t₀ t k c h =
+pub empty-done : {t₀ t : List ℕ} {k : ℕ} → Emptying t₀ t k → max-vars ≤ k → RegistrySound t × (atoms t ≡ [])
+unfolding atoms counted range word-for first
+empty-done {t = t} c h =
     let z = c .count in
-    let a = no-atoms t z in (
+    let a : atoms t ≡ [] = ap (counted (registered-at t)) z in (
       record {
-        long = c .fits;
+        long = c .long;
         fit = omega arith;
         vars = λ i l. absurd (omega arith);
-        held-atoms = λ i l. absurd (omega arith);
-        listed = λ v l p. absurd (let q = c .empty v (omega arith) .0 in omega arith);
-        once = λ i j l m q. absurd (omega arith);
-        firsts = λ y l. ap held (c .empty y (omega arith) .1) ∙ sym (ap (λ (rs : List Registered). var-of-atom rs y) a);
+        once = subst (λ (n : ℕ). Apart (counted (at t VAR) n)) (sym z) tt;
+        atoms-are = λ v l. c .empty v (omega arith) .0 ∙ sym (ap (λ (rs : List Registered). atom-word rs v) a);
+        atoms-fit = λ v l. let q = c .empty v (omega arith) .0 in omega arith;
+        firsts-are = λ x l. c .empty x (omega arith) .1 ∙ sym (ap (λ (rs : List Registered). first-word rs x) a);
       },
       a,
     )
