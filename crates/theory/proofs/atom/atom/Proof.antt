@@ -7,20 +7,6 @@ use Rattle.theory.proofs.Memory.Registering.{registered-word, atom-is}
 use Rattle.theory.proofs.atom.atom.Statement.{statement}
 use Rattle.theory.proofs.atom.atom.Tie as tie
 
-get-at-requires : tie.Need-get-at-requires
-get-at-requires c κs =
-    let z = c .before .before .pre in
-    let w = registered-word _ _ (z .0) (z .1) in
-    let l = z .0 .long in
-    omega arith
-
-sub-t5 : tie.Need-sub-t5
-sub-t5 c =
-    let z = c .before .before .before .pre in
-    let w = registered-word _ _ (z .0) (z .1) in
-    let e = c .get-at .ensures .0 in
-    omega arith
-
 returns : tie.Need-returns
 returns c =
     let z = c .before .before .before .pre in
@@ -29,4 +15,7 @@ returns c =
     (ap (λ (x : ℕ). x - 1) e ∙ atom-is _ _ (z .0) (w .0), omega arith)
 
 pub atom-spec : {M : Type 1} → statement M
-atom-spec = tie.close (tie.spec (λ c. search needs) get-at-requires sub-t5 (λ c. search needs) returns)
+atom-spec =
+    tie.close
+    (tie.spec (λ c. search needs) (λ c κs. let z = c .before .before .pre in omega (arith, registered-word _ _ (z .0) (z .1)))
+    (λ c. let z = c .before .before .before .pre in omega (arith, registered-word _ _ (z .0) (z .1))) (λ c. search needs) returns)

@@ -14,9 +14,6 @@ Inv-loop t₀ k₀ t k = Emptying t₀ t k
 abbrev μ-loop : tie.MeasureT-loop
 μ-loop t₀ k₀ t k = max-vars - k
 
-loop-holds : tie.Need-loop-holds Inv-loop μ-loop
-loop-holds c = search empty-first
-
 loop-again : tie.Need-loop-again Inv-loop μ-loop
 loop-again c =
     let at-put3 = c .before .before in
@@ -24,24 +21,8 @@ loop-again c =
     let at-test = at-put2 .before .before in
     empty-next (at-test .before .loop .inv) (at-test .loop-test .taken) (at-put2 .put-at2 .ensures) (at-put3 .put-at3 .ensures)
 
-same-length : tie.Need-same-length Inv-loop μ-loop
-same-length c = search needs
-
-returns : tie.Need-returns Inv-loop μ-loop
-returns c = empty-done (c .before .loop .inv) (c .loop-test .left)
-
 pub clear-spec : {M : Type 1} → statement M
 clear-spec =
     tie.close
-    (tie.spec
-    Inv-loop
-    μ-loop
-    (λ c κs. search needs)
-    loop-holds
-    (λ c κs. search needs)
-    (λ c κs. search needs)
-    (λ c. search needs)
-    (λ c. search needs)
-    loop-again
-    same-length
-    returns)
+    (tie.spec Inv-loop μ-loop (λ c κs. search needs) (λ c. search empty-first) (λ c κs. search needs) (λ c κs. search needs)
+    (λ c. search needs) (λ c. search needs) loop-again (λ c. search needs) (λ c. empty-done (c .before .loop .inv) (c .loop-test .left)))

@@ -7,9 +7,5 @@ use Rattle.theory.proofs.atom.is_registered.Tie as tie
 pub is-registered-spec : {M : Type 1} → statement M
 is-registered-spec =
     tie.close
-    (tie.spec
-    (λ c. search needs)
-    (λ c. search registered-beyond)
-    (λ c κs. search needs)
-    (λ c. search registered-no)
+    (tie.spec (λ c. search needs) (λ c. search registered-beyond) (λ c κs. search needs) (λ c. search registered-no)
     (λ c. search registered-yes))

@@ -8,10 +8,5 @@ use Rattle.theory.proofs.eq_engine.explain.Tie as tie
 pub explain-spec : {M : Type 1} → statement M
 explain-spec =
     tie.close
-    (tie.spec
-    (λ c. search needs)
-    (λ c. search needs)
-    (λ c. search needs)
-    (λ c κs. search needs)
-    (λ c. search needs)
+    (tie.spec (λ c. search needs) (λ c. search needs) (λ c. search needs) (λ c κs. search needs) (λ c. search needs)
     (λ c. explained 2048 refl (c .before .before .before .explain-rec .ensures)))

@@ -12,29 +12,14 @@ Inv-loop t a b marks₀ n j₀ marks j = Marking t a b marks₀ marks j
 abbrev μ-loop : tie.MeasureT-loop
 μ-loop t a b marks₀ n j₀ marks j = n - j
 
-mark-pair-requires : tie.Need-mark-pair-requires Inv-loop μ-loop
-mark-pair-requires c κs = search needs
-
 loop-again : tie.Need-loop-again Inv-loop μ-loop
 loop-again c =
     let at-test = c .before .before .before .before in
     let inv = at-test .before .loop .inv in
     marking-next inv (omega arith) (c .before .before .mark-pair .ensures)
 
-returns : tie.Need-returns Inv-loop μ-loop
-returns c = search marking-done
-
 pub mark-pairs-spec : {M : Type 1} → statement M
 mark-pairs-spec =
     tie.close
-    (tie.spec
-    Inv-loop
-    μ-loop
-    (λ c κs. search needs)
-    (λ c. search marking-first)
-    mark-pair-requires
-    (λ c. search needs)
-    (λ c. search needs)
-    loop-again
-    (λ c. search needs)
-    returns)
+    (tie.spec Inv-loop μ-loop (λ c κs. search needs) (λ c. search marking-first) (λ c κs. search needs) (λ c. search needs)
+    (λ c. search needs) loop-again (λ c. search needs) (λ c. search marking-done))

@@ -13,26 +13,10 @@ Inv-loop out kind value n i₀ i = Looking out kind value i
 abbrev μ-loop : tie.MeasureT-loop
 μ-loop out kind value n i₀ i = n - i
 
-loop-holds : tie.Need-loop-holds Inv-loop μ-loop
-loop-holds c = none-yet _ 0
-
-loop-again : tie.Need-loop-again Inv-loop μ-loop
-loop-again c = none-more _ 0 _ (c .before .before .before .loop .inv) (sym (c .before .leaf-is .ensures) ∙ c .if1 .left)
-
-returns-2 : tie.Need-returns-2 Inv-loop μ-loop
-returns-2 c = search look-missing
-
 pub has-leaf-spec : {M : Type 1} → statement M
 has-leaf-spec =
     tie.close
-    (tie.spec
-    Inv-loop
-    μ-loop
-    (λ c κs. search needs)
-    loop-holds
-    (λ c κs. search needs)
-    (λ c. search look-found)
-    (λ c. search needs)
-    (λ c. search needs)
-    loop-again
-    returns-2)
+    (tie.spec Inv-loop μ-loop (λ c κs. search needs) (λ c. none-yet _ 0) (λ c κs. search needs) (λ c. search look-found)
+    (λ c. search needs) (λ c. search needs)
+    (λ c. none-more _ 0 _ (c .before .before .before .loop .inv) (sym (c .before .leaf-is .ensures) ∙ c .if1 .left))
+    (λ c. search look-missing))

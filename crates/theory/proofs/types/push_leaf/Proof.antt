@@ -33,16 +33,5 @@ returns-2 c =
 pub push-leaf-spec : {M : Type 1} → statement M
 push-leaf-spec =
     tie.close
-    (tie.spec
-    (λ c. search needs)
-    (λ c. search needs)
-    push-words-requires
-    (λ c. search needs)
-    (λ c. search needs)
-    (λ c. search needs)
-    (λ c. search needs)
-    push-words-requires-2
-    (λ c. search needs)
-    returns
-    (λ c. search needs)
-    returns-2)
+    (tie.spec (λ c. search needs) (λ c. search needs) push-words-requires (λ c. search needs) (λ c. search needs) (λ c. search needs)
+    (λ c. search needs) push-words-requires-2 (λ c. search needs) returns (λ c. search needs) returns-2)

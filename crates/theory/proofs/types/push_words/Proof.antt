@@ -28,14 +28,5 @@ returns-2 c =
 pub push-words-spec : {M : Type 1} → statement M
 push-words-spec =
     tie.close
-    (tie.spec
-    (λ c κs. search needs)
-    (λ c. search needs)
-    (λ c. search pushed-old)
-    (λ c κs. search needs)
-    (λ c κs. search needs)
-    put-at-requires-2
-    (λ c. search needs)
-    (λ c κs. search needs)
-    (λ c. search needs)
-    returns-2)
+    (tie.spec (λ c κs. search needs) (λ c. search needs) (λ c. search pushed-old) (λ c κs. search needs) (λ c κs. search needs)
+    put-at-requires-2 (λ c. search needs) (λ c κs. search needs) (λ c. search needs) returns-2)
