@@ -5,8 +5,9 @@ use mathlib.Core.Bool.{Bool, true, false, cond, false≢true}
 use mathlib.Core.List.{List, [], _∷_}
 use mathlib.Core.Option.{Option, none, some}
 use native.Mathlib.Decide.{decLt}
+use native.Mathlib.Numerals.{add-one}
 use native.Mathlib.Omega.{arith}
-use borrow.Author.Tests.{eq-eqb, ne-eqb}
+use borrow.Author.Tests.{ne-eqb}
 use lib.Dec.{T, eqb, leb, lit<}
 use lib.ListN.{length}
 use Rattle.core.specs.Limits.{max-vars, max-terms}
@@ -15,7 +16,7 @@ use Rattle.core.specs.Memory.Words.{at, put, apart}
 use Rattle.core.proofs.Memory.Stores as Stores
 use Rattle.core.proofs.Memory.Searching.{any-missing}
 use Rattle.theory.specs.Atom.{Registered, is-registered, atom, atom-of, var-of, var-of-atom}
-use Rattle.theory.specs.Memory.Registry.{VAR, ATOM, FIRST, registry-room, registry-size, vars#, registered-at, atoms, word-for, of-var, of-atom, first-with, RegistrySound}
+use Rattle.theory.specs.Memory.Registry.{VAR, ATOM, FIRST, registry-room, registry-size, vars#, registered-at, atoms, word-for, of-var, of-atom, or-else, first-with, RegistrySound}
 
 -- ---- stores
 
@@ -27,14 +28,10 @@ pub same : (t : List ℕ) (b x v : ℕ) → T (leb (b + registry-room b) registr
     at (put t b x v) b x ≡ v
 same = Stores.same-place registry-room registry-size
 
-pub region : (t : List ℕ) (b x y v : ℕ) → T (leb (b + registry-room b) registry-size) → registry-size ≤ length t → x < registry-room b →
-    at (put t b x v) b y ≡ cond (eqb y x) v (at t b y)
-region = Stores.same-region registry-room registry-size
-
 pub long : (t : List ℕ) (b x v : ℕ) → registry-size ≤ length t → registry-size ≤ length (put t b x v)
 long = Stores.put-long registry-room registry-size
 
-pub ruleset stores = (tt, lit<, other, same, region, long, Stores.length-put)
+pub ruleset stores = (tt, lit<, other, same, long, Stores.other-place, Stores.length-put)
 
 -- ---- the first registration that passes a test
 
@@ -115,7 +112,10 @@ unfolding atom
 atom-is t v z h = ap (λ (w : ℕ). w - 1) (z .atoms-are v h) ∙ atom-word-of (first (of-var v) (atoms t))
 
 pub first-new : (t : List ℕ) (x v w : ℕ) → w ≡ at t FIRST x → w ≡ 0 → v + 1 ≡ first-with t x v
-first-new t x v w e q = sym (ap (λ (b : Bool). cond b (v + 1) (at t FIRST x)) (eq-eqb (at t FIRST x) 0 (sym e ∙ q)))
+unfolding or-else
+first-new t x v w e q = add-one v ∙ ap (λ (a : ℕ). or-else a (suc v)) (sym q ∙ e)
 
 pub first-old : (t : List ℕ) (x v w : ℕ) → w ≡ at t FIRST x → (w ≡ 0 → ⊥) → w ≡ first-with t x v
-first-old t x v w e q = e ∙ sym (ap (λ (b : Bool). cond b (v + 1) (at t FIRST x)) (ne-eqb (at t FIRST x) 0 (λ p. q (e ∙ p))))
+unfolding or-else
+first-old t x v zero e d = absurd (d refl)
+first-old t x v (suc w) e d = ap (λ (a : ℕ). or-else a (suc v)) e

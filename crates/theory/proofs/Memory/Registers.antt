@@ -15,27 +15,23 @@ use lib.ListN.{length}
 use Rattle.core.specs.Limits.{max-vars, max-terms}
 use Rattle.core.specs.Lists.{first, range}
 use Rattle.core.specs.Memory.Words.{at, put, counted}
-use Rattle.core.proofs.Lists.{In, at-in, in-at}
+use Rattle.core.proofs.Lists.{In, in-at, in-range}
 use Rattle.core.proofs.Memory.Counted.{counted-length, counted-at, counted-grown}
 use Rattle.core.proofs.Memory.Searching.{any-found}
-use Rattle.core.proofs.Memory.Stores.{other-place}
 use Rattle.theory.specs.Atom.{Registered, register, is-registered}
-use Rattle.theory.specs.Memory.Registry.{COUNTS, VARS, VAR, ATOM, FIRST, registry-size, vars#, registered-at, atoms, of-var, of-atom, word-for, atom-word, first-word, first-with, RegistrySound, Registrable}
+use Rattle.theory.specs.Memory.Registry.{COUNTS, VARS, VAR, ATOM, FIRST, registry-size, vars#, registered-at, atoms, of-var, of-atom, word-for, or-else, atom-word, first-word, first-with, RegistrySound, Registrable}
 use Rattle.theory.proofs.Members.{Apart, apart-length, apart-last}
+use Rattle.theory.proofs.Sizes.{length-range}
 use Rattle.theory.proofs.Memory.Registering.{stores, registered-yes}
 
 -- ---- a variable that is not registered
 
-module _ (f : ℕ → ℕ) (n : ℕ) where
-  in-counted : (i : ℕ) → i < n → In (f i) (counted f n)
-  in-counted i h = let m = counted-length f n in subst (λ (y : ℕ). In y (counted f n)) (counted-at f n i 0 h) (at-in (counted f n) i (omega arith))
-
-  counted-in : (y : ℕ) → In y (counted f n) → (i : ℕ) × (i < n) × (f i ≡ y)
-  counted-in y k =
-      let (i, l, e) = in-at (counted f n) y k in
-      let m = counted-length f n in
-      let h : i < n = omega arith in
-      (i, h, sym (counted-at f n i 0 h) ∙ e)
+counted-in : (f : ℕ → ℕ) (n y : ℕ) → In y (counted f n) → (i : ℕ) × (i < n) × (f i ≡ y)
+counted-in f n y k =
+    let (i, l, e) = in-at (counted f n) y k in
+    let m = counted-length f n in
+    let h : i < n = omega arith in
+    (i, h, sym (counted-at f n i 0 h) ∙ e)
 
 module _ {t : List ℕ} {v x : ℕ} (z : Registrable t v x) where
   not-var : (i : ℕ) → i < vars# t → at t VAR i ≡ v → ⊥
@@ -53,153 +49,140 @@ module _ {t : List ℕ} {v x : ℕ} (z : Registrable t v x) where
       go (no d) = absurd (true≢false (registered-yes t v (at t ATOM v) (z .sound) (z .var) refl d ∙ z .new))
 
   -- fewer than all variables are registered
-  pub one-free : vars# t < max-vars
+  one-free : vars# t < max-vars
   one-free =
-      let l = apart-length (v ∷ counted (at t VAR) (vars# t)) (counted (λ (y : ℕ). y) max-vars) (not-in, z .sound .once) inside in
-      let m = counted-length (at t VAR) (vars# t) in
-      let k = counted-length (λ (y : ℕ). y) max-vars in
-      omega arith
+      let l = apart-length (v ∷ counted (at t VAR) (vars# t)) (range 0 max-vars) (not-in, z .sound .once)
+          (λ y k. in-range 0 max-vars y (omega arith) (below y k)) in
+      omega (arith, counted-length (at t VAR) (vars# t), length-range 0 max-vars)
     where
-      inside : (y : ℕ) → In y (v ∷ counted (at t VAR) (vars# t)) → In y (counted (λ (y : ℕ). y) max-vars)
-      inside y (inl e) = in-counted (λ (y : ℕ). y) max-vars y (let h = z .var in omega arith)
-      inside y (inr k) =
-          let (i, l, e) = counted-in (at t VAR) (vars# t) y k in
-          let h = z .sound .vars i l in
-          in-counted (λ (y : ℕ). y) max-vars y (omega arith)
+      below : (y : ℕ) → In y (v ∷ counted (at t VAR) (vars# t)) → y < 0 + max-vars
+      below y (inl e) = let h = z .var in omega arith
+      below y (inr k) = let (i, l, e) = counted-in (at t VAR) (vars# t) y k in let h = z .sound .vars i l in omega arith
 
 -- ---- the words
 
-is-same : (m n a b : ℕ) → m ≡ n → cond (eqb m n) a b ≡ a
-is-same m n a b e = ap (λ (q : Bool). cond q a b) (eq-eqb m n e)
-
-is-other : (m n a b : ℕ) → (m ≡ n → ⊥) → cond (eqb m n) a b ≡ b
-is-other m n a b d = ap (λ (q : Bool). cond q a b) (ne-eqb m n d)
-
+-- what the four stores did
 record Written (t u : List ℕ) (v x : ℕ) : Type 0 where
   long : registry-size ≤ length u
   count : vars# u ≡ suc (vars# t)
-  vars : (i : ℕ) → i < max-vars → at u VAR i ≡ cond (eqb i (vars# t)) v (at t VAR i)
-  atoms : (y : ℕ) → y < max-vars → at u ATOM y ≡ cond (eqb y v) (x + 1) (at t ATOM y)
-  firsts : (y : ℕ) → y < max-terms → at u FIRST y ≡ cond (eqb y x) (first-with t x v) (at t FIRST y)
+  vars : (i : ℕ) → i < max-vars → (i ≡ vars# t → ⊥) → at u VAR i ≡ at t VAR i
+  var-is : at u VAR (vars# t) ≡ v
+  atoms : (y : ℕ) → y < max-vars → (y ≡ v → ⊥) → at u ATOM y ≡ at t ATOM y
+  atom-is : at u ATOM v ≡ suc x
+  firsts : (y : ℕ) → y < max-terms → (y ≡ x → ⊥) → at u FIRST y ≡ at t FIRST y
+  first-is : at u FIRST x ≡ first-with t x v
 
 written : (t t₁ t₂ t₃ u : List ℕ) (n v x w : ℕ) → registry-size ≤ length t → n < max-vars → v < max-vars → x < max-terms → n ≡ vars# t →
-    t₁ ≡ put t FIRST x w → t₂ ≡ put t₁ VAR n v → t₃ ≡ put t₂ ATOM v (x + 1) → u ≡ put t₃ COUNTS VARS (n + 1) → w ≡ first-with t x v → Written t u v x
-written t t₁ t₂ t₃ u n v x w l hn hv hx e e₁ e₂ e₃ e₄ q =
-    search (← e, e₄, e₃, e₂, e₁, q, add-one, stores, arith)
+    w ≡ first-with t x v → t₁ ≡ put t FIRST x w → t₂ ≡ put t₁ VAR n v → t₃ ≡ put t₂ ATOM v (x + 1) → u ≡ put t₃ COUNTS VARS (n + 1) →
+    Written t u v x
+written t t₁ t₂ t₃ u n v x w l hn hv hx e q e₁ e₂ e₃ e₄ = search (← e, e₄, e₃, e₂, e₁, q, add-one, stores)
 
--- ---- the first registration with a key, as a word: one more registration counts where there was none
+-- ---- the first registration with a key, as a word: one more counts where there was none
 
 word-more : (f : Registered → ℕ) (p : Registered → Bool) (rs : List Registered) (r : Registered) →
-    word-for f (first p (rs ++ (r ∷ []))) ≡ cond (eqb (word-for f (first p rs)) 0) (cond (p r) (f r + 1) 0) (word-for f (first p rs))
-unfolding first word-for
+    word-for f (first p (rs ++ (r ∷ []))) ≡ or-else (word-for f (first p rs)) (cond (p r) (suc (f r)) 0)
+unfolding first word-for or-else
 word-more f p [] r = go (p r)
   where
-    go : (b : Bool) → word-for f (cond b (some r) none) ≡ cond b (f r + 1) 0
-    go true = sym (add-one (f r))
+    go : (b : Bool) → word-for f (cond b (some r) none) ≡ cond b (suc (f r)) 0
+    go true = refl
     go false = refl
-word-more f p (s ∷ rs) r = go (p s) (word-more f p rs r)
+word-more f p (s ∷ rs) r = go (p s) (first p rs) (first p (rs ++ (r ∷ []))) (cond (p r) (suc (f r)) 0) (word-more f p rs r)
   where
-    go : (b : Bool) → word-for f (first p (rs ++ (r ∷ []))) ≡ cond (eqb (word-for f (first p rs)) 0) (cond (p r) (f r + 1) 0) (word-for f (first p rs)) →
-        word-for f (cond b (some s) (first p (rs ++ (r ∷ [])))) ≡ cond (eqb (word-for f (cond b (some s) (first p rs))) 0) (cond (p r) (f r + 1) 0) (word-for f (cond b (some s) (first p rs)))
-    go true e = sym (is-other (suc (f s)) 0 (cond (p r) (f r + 1) 0) (suc (f s)) (omega arith))
-    go false e = e
+    go : (b : Bool) (o o′ : Option Registered) (n : ℕ) → word-for f o′ ≡ or-else (word-for f o) n →
+        word-for f (cond b (some s) o′) ≡ or-else (word-for f (cond b (some s) o)) n
+    go true o o′ n e = refl
+    go false o o′ n e = e
 
-keyed : (k y c a w : ℕ) → (y ≡ k → w ≡ cond (eqb a 0) c a) → ((y ≡ k → ⊥) → w ≡ a) → w ≡ cond (eqb a 0) (cond (eqb k y) c 0) a
+-- a word for the new key k, or for another
+keyed : (k y c a w : ℕ) → (y ≡ k → w ≡ or-else a c) → ((y ≡ k → ⊥) → w ≡ a) → w ≡ or-else a (cond (eqb k y) c 0)
+unfolding or-else
 keyed k y c a w f g = go (ℕ-discrete y k)
   where
-    zero-or : (n : ℕ) → n ≡ cond (eqb n 0) 0 n
-    zero-or zero = refl
-    zero-or (suc n) = sym (is-other (suc n) 0 0 (suc n) (omega arith))
+    or-none : (n : ℕ) → n ≡ or-else n 0
+    or-none zero = refl
+    or-none (suc n) = refl
 
-    go : Dec (y ≡ k) → w ≡ cond (eqb a 0) (cond (eqb k y) c 0) a
-    go (yes e) = f e ∙ sym (ap (λ (n : ℕ). cond (eqb a 0) n a) (is-same k y c 0 (sym e)))
-    go (no d) = g d ∙ zero-or a ∙ sym (ap (λ (n : ℕ). cond (eqb a 0) n a) (is-other k y c 0 (λ e. d (sym e))))
+    go : Dec (y ≡ k) → w ≡ or-else a (cond (eqb k y) c 0)
+    go (yes e) = f e ∙ sym (ap (λ (b : Bool). or-else a (cond b c 0)) (eq-eqb k y (sym e)))
+    go (no d) = g d ∙ or-none a ∙ sym (ap (λ (b : Bool). or-else a (cond b c 0)) (ne-eqb k y (λ e. d (sym e))))
 
 -- ---- what they mean
 
 module _ {t u : List ℕ} {v x : ℕ} (z : Registrable t v x) (w : Written t u v x) where
   old-var : (i : ℕ) → i < vars# t → at u VAR i ≡ at t VAR i
-  old-var i l = let r = one-free z in w .vars i (omega arith) ∙ is-other i (vars# t) v (at t VAR i) (omega arith)
-
-  new-var : at u VAR (vars# t) ≡ v
-  new-var = w .vars (vars# t) (one-free z) ∙ is-same (vars# t) (vars# t) v (at t VAR (vars# t)) refl
-
-  old-atom : (i : ℕ) → i < vars# t → at u ATOM (at u VAR i) ≡ at t ATOM (at t VAR i)
-  old-atom i l =
-      ap (at u ATOM) (old-var i l) ∙ w .atoms (at t VAR i) (z .sound .vars i l) ∙ is-other (at t VAR i) v (x + 1) (at t ATOM (at t VAR i)) (not-var z i l)
-
-  new-atom : at u ATOM v ≡ x + 1
-  new-atom = w .atoms v (z .var) ∙ is-same v v (x + 1) (at t ATOM v) refl
+  old-var i l = let r = one-free z in w .vars i (omega arith) (omega arith)
 
   view : atoms u ≡ register (atoms t) v x
   unfolding atoms register
   view = counted-grown (registered-at t) (registered-at u) (vars# t) (vars# u) (record { var = v; atom = x }) (w .count) old new
     where
       old : (i : ℕ) → i < vars# t → registered-at u i ≡ registered-at t i
-      old i l = let p = old-var i l in let q = old-atom i l in λ k. record { var = p k; atom = q k - 1 }
-
-      less : at u ATOM (at u VAR (vars# t)) - 1 ≡ x
-      less = let p = ap (at u ATOM) new-var ∙ new-atom in omega arith
+      old i l =
+          let p = old-var i l in
+          let q = ap (at u ATOM) p ∙ w .atoms (at t VAR i) (z .sound .vars i l) (not-var z i l) in
+          λ k. record { var = p k; atom = q k - 1 }
 
       new : registered-at u (vars# t) ≡ record { var = v; atom = x }
-      new = let p = new-var in let q = less in λ k. record { var = p k; atom = q k }
+      new =
+          let q = ap (at u ATOM) (w .var-is) ∙ w .atom-is in
+          let r : at u ATOM (at u VAR (vars# t)) - 1 ≡ x = omega arith in
+          λ k. record { var = w .var-is k; atom = r k }
 
-  -- the word of an atom or a variable, with the new registration
-  words : (f : Registered → ℕ) (p : Registered → Bool) → word-for f (first p (atoms u)) ≡ cond (eqb (word-for f (first p (atoms t))) 0) (cond (p (record { var = v; atom = x })) (f (record { var = v; atom = x }) + 1) 0) (word-for f (first p (atoms t)))
+  -- a word by the registrations, with the new one
+  grown : (f : Registered → ℕ) (p : Registered → Bool) →
+      let r : Registered = record { var = v; atom = x } in
+      or-else (word-for f (first p (atoms t))) (cond (p r) (suc (f r)) 0) ≡ word-for f (first p (atoms u))
   unfolding register
-  words f p = ap (λ (rs : List Registered). word-for f (first p rs)) view ∙ word-more f p (atoms t) (record { var = v; atom = x })
+  grown f p = sym (ap (λ (rs : List Registered). word-for f (first p rs)) view ∙ word-more f p (atoms t) (record { var = v; atom = x }))
 
   atoms-now : (y : ℕ) → y < max-vars → at u ATOM y ≡ atom-word (atoms u) y
+  unfolding or-else
   atoms-now y l =
-      keyed v y (x + 1) (at t ATOM y) (at u ATOM y) same (λ d. w .atoms y l ∙ is-other y v (x + 1) (at t ATOM y) d)
-      ∙ ap (λ (a : ℕ). cond (eqb a 0) (cond (eqb v y) (x + 1) 0) a) (z .sound .atoms-are y l)
-      ∙ sym (words (λ (r : Registered). r .atom) (of-var y))
+      keyed v y (suc x) (at t ATOM y) (at u ATOM y) same (w .atoms y l)
+      ∙ ap (λ (a : ℕ). or-else a (cond (eqb v y) (suc x) 0)) (z .sound .atoms-are y l)
+      ∙ grown (λ (r : Registered). r .atom) (of-var y)
     where
-      same : y ≡ v → at u ATOM y ≡ cond (eqb (at t ATOM y) 0) (x + 1) (at t ATOM y)
-      same e = ap (at u ATOM) e ∙ new-atom ∙ sym (is-same (at t ATOM y) 0 (x + 1) (at t ATOM y) (ap (at t ATOM) e ∙ no-atom z))
+      same : y ≡ v → at u ATOM y ≡ or-else (at t ATOM y) (suc x)
+      same e = ap (at u ATOM) e ∙ w .atom-is ∙ sym (ap (λ (a : ℕ). or-else a (suc x)) (ap (at t ATOM) e ∙ no-atom z))
 
   firsts-now : (y : ℕ) → y < max-terms → at u FIRST y ≡ first-word (atoms u) y
   firsts-now y l =
-      keyed x y (v + 1) (at t FIRST y) (at u FIRST y) same (λ d. w .firsts y l ∙ is-other y x (first-with t x v) (at t FIRST y) d)
-      ∙ ap (λ (a : ℕ). cond (eqb a 0) (cond (eqb x y) (v + 1) 0) a) (z .sound .firsts-are y l)
-      ∙ sym (words (λ (r : Registered). r .var) (of-atom y))
-    where
-      same : y ≡ x → at u FIRST y ≡ first-with t y v
-      same e = w .firsts y l ∙ is-same y x (first-with t x v) (at t FIRST y) e ∙ ap (λ (k : ℕ). first-with t k v) (sym e)
-
-  vars-grown : counted (at u VAR) (vars# u) ≡ counted (at t VAR) (vars# t) ++ (v ∷ [])
-  vars-grown = counted-grown (at t VAR) (at u VAR) (vars# t) (vars# u) v (w .count) old-var new-var
+      keyed x y (suc v) (at t FIRST y) (at u FIRST y)
+      (λ e. ap (at u FIRST) e ∙ w .first-is ∙ ap (λ (k : ℕ). first-with t k v) (sym e)) (w .firsts y l)
+      ∙ ap (λ (a : ℕ). or-else a (cond (eqb x y) (suc v) 0)) (z .sound .firsts-are y l)
+      ∙ grown (λ (r : Registered). r .var) (of-atom y)
 
   sound : RegistrySound u
   sound = record {
     long = w .long;
     fit = let f = one-free z in let n = w .count in omega arith;
-    vars = λ i l. below (ℕ-discrete i (vars# t)) l;
-    once = subst Apart (sym vars-grown) (apart-last (counted (at t VAR) (vars# t)) v (z .sound .once) (not-in z));
+    vars = λ i l. below i l (ℕ-discrete i (vars# t));
+    once =
+        subst Apart (sym (counted-grown (at t VAR) (at u VAR) (vars# t) (vars# u) v (w .count) old-var (w .var-is)))
+        (apart-last (counted (at t VAR) (vars# t)) v (z .sound .once) (not-in z));
     atoms-are = atoms-now;
     atoms-fit = λ y l. fits y l (ℕ-discrete y v);
     firsts-are = firsts-now;
   }
     where
-      below : {i : ℕ} → Dec (i ≡ vars# t) → i < vars# u → at u VAR i < max-vars
-      below {i} (yes e) l = let p = ap (at u VAR) e ∙ new-var in let h = z .var in omega arith
-      below {i} (no d) l =
+      below : (i : ℕ) → i < vars# u → Dec (i ≡ vars# t) → at u VAR i < max-vars
+      below i l (yes e) = let p = ap (at u VAR) e ∙ w .var-is in let h = z .var in omega arith
+      below i l (no d) =
           let n = w .count in
           let g : i < vars# t = omega arith in
-          let p = old-var i g in
-          let h = z .sound .vars i g in
-          omega arith
+          omega (arith, old-var i g, z .sound .vars i g)
 
       fits : (y : ℕ) → y < max-vars → Dec (y ≡ v) → at u ATOM y ≤ max-terms
-      fits y l (yes e) = let p = ap (at u ATOM) e ∙ new-atom in let h = z .atom in omega arith
-      fits y l (no d) = let p = w .atoms y l ∙ is-other y v (x + 1) (at t ATOM y) d in let h = z .sound .atoms-fit y l in omega arith
+      fits y l (yes e) = let p = ap (at u ATOM) e ∙ w .atom-is in let h = z .atom in omega arith
+      fits y l (no d) = omega (arith, w .atoms y l d, z .sound .atoms-fit y l)
 
 pub registers : {t t₁ t₂ t₃ u : List ℕ} {n v x w : ℕ} → Registrable t v x → n ≡ vars# t → w ≡ first-with t x v →
     t₁ ≡ put t FIRST x w → t₂ ≡ put t₁ VAR n v → t₃ ≡ put t₂ ATOM v (x + 1) → u ≡ put t₃ COUNTS VARS (n + 1) →
     RegistrySound u × (atoms u ≡ register (atoms t) v x)
 registers {t} {t₁} {t₂} {t₃} {u} {n} {v} {x} {w} z e q e₁ e₂ e₃ e₄ =
     let f = one-free z in
-    let c = written t t₁ t₂ t₃ u n v x w (z .sound .long) (omega arith) (z .var) (z .atom) e e₁ e₂ e₃ e₄ q in
+    let c = written t t₁ t₂ t₃ u n v x w (z .sound .long) (omega arith) (z .var) (z .atom) e q e₁ e₂ e₃ e₄ in
     (sound z c, view z c)
 
 -- ---- an empty registry
@@ -221,7 +204,7 @@ empty-next {u = u} {k = k} c h e₁ e₂ = let l = c .long in record {
   count = search (e₂, e₁, c .count, stores);
   empty =
       below-more (λ (y : ℕ). (at u ATOM y ≡ 0) × (at u FIRST y ≡ 0)) k
-      (λ y g. let b : y < max-vars = omega arith in let d : y ≡ k → ⊥ = omega arith in let q = c .empty y g in search (e₂, e₁, q .0, q .1, other-place, stores))
+      (λ y g. let b : y < max-vars = omega arith in let d : y ≡ k → ⊥ = omega arith in let q = c .empty y g in search (e₂, e₁, q .0, q .1, stores))
       (search (e₂, e₁, stores));
 }
 

@@ -1,7 +1,7 @@
 -- The lent table of the atom registry: its regions, what a table means, and when it is sound.
-use Prim.Native.Nat.{ℕ, suc, _+_, _-_, _≤_, _<_}
+use Prim.Native.Nat.{ℕ, zero, suc, _-_, _≤_, _<_}
 use mathlib.Core.Path.{_≡_}
-use mathlib.Core.Bool.{Bool, false, cond}
+use mathlib.Core.Bool.{Bool, false}
 use mathlib.Core.List.{List, [], _∷_}
 use mathlib.Core.Option.{Option, none, some}
 use lib.Dec.{eqb}
@@ -91,9 +91,14 @@ pub record Registrable (t : List ℕ) (v x : ℕ) : Type 0 where
   pub atom : x < max-terms
   pub new : is-registered (atoms t) v ≡ false
 
+-- a word, or another where it is 0
+unfoldable pub or-else : ℕ → ℕ → ℕ
+or-else zero b = b
+or-else (suc a) b = suc a
+
 -- the word of an atom once it has variable v too: its first variable stays its first
 abbrev pub first-with : List ℕ → ℕ → ℕ → ℕ
-first-with t x v = cond (eqb (at t FIRST x) 0) (v + 1) (at t FIRST x)
+first-with t x v = or-else (at t FIRST x) (suc v)
 
 -- the code's answer in the definition
 unfoldable pub first-var-meaning : FirstVar.FirstVar → Option ℕ
