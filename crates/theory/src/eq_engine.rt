@@ -1,7 +1,10 @@
 // The equality engine on a lent table: classes as a union-find without path compression, the proof forest, merges with their
 // levels, and explanations, as in the source. A node is its term.
 use crate::types::EqJust;
+use crate::types::EqLeaf;
+use crate::types::TheoryJust;
 use crate::types::push_leaf;
+use core::ids::Lit;
 use core::ids::TermId;
 use core::table::get;
 use core::table::get_at;
@@ -19,9 +22,8 @@ ghost use Rattle.theory.specs.EqEngine.{child, root, find, are-equal, me
 ghost use Rattle.core.specs.Limits.{max-terms, max-pairs, max-levels};
 ghost use Rattle.core.specs.Memory.Words.{put};
 ghost use Rattle.theory.specs.Memory.Table.{engine-size, PARENT, SIZE, FPARENT, IsNode, merges#, size-word, parent-word, left-word, right-word, pair-at, label, just-at, merges, end, just-meaning, level, EngineSound, Engine, TwoNodes, Merges, Congruent, Pops};
-ghost use Rattle.theory.specs.Memory.Answer.{leaves, AnswerSound};
-ghost use Rattle.theory.specs.Memory.Steps.{On, Upward, Rerooted, Spliced, TwoClasses, united, Entry, logged, Joinable, HoldsLabel, PairRoom, Copied, Separable, separated, Undoes, newest-above, Drops};
-ghost use Rattle.theory.specs.Memory.Explaining.{expand-label, expand-steps, expand-pairs, expand-new, pairs-from, age, pairs-age, steps-age, Explaining, Goes, MarksPair, EqualPair};
+ghost use Rattle.theory.specs.Memory.Steps.{Upward, Rerooted, Spliced, TwoClasses, united, Entry, logged, Joinable, HoldsLabel, PairRoom, Copied, Separable, separated, Undoes, newest-above, Drops};
+ghost use Rattle.theory.specs.Memory.Explaining.{NewPair, Way, Label, Pairs, pairs-from, is-pair, Explaining, Goes, EqualNodes, EqualPair, PairsEqual, WayUp, MarksPair, Markable, Explainable, Explains};
 
 // ---- the layout of the table (specs/Memory/Table.antt)
 
@@ -454,8 +456,8 @@ fn same_pair(x: usize, y: usize, a: usize, b: usize) -> bool
 
 // Marks argument pair j where it is the pair of a and b.
 fn mark_pair(t: &[u32], a: usize, b: usize, j: usize, marks: &mut [u32])
-    requires { ⌜ (16384 ≤ length (now t)) × (j < 2048) × (2048 ≤ length (now marks)) ⌝ }
-    ensures { λ _. ⌜ now (marks .exit) ≡ cond (same-pair (left-word (now (t .entry)) j) (right-word (now (t .entry)) j) (a, b)) (set (now (marks .entry)) j 1) (now (marks .entry)) ⌝ }
+    requires { ⌜ Markable (now t) (now marks) j ⌝ }
+    ensures { λ _. ⌜ now (marks .exit) ≡ cond (is-pair (now (t .entry)) j (a, b)) (set (now (marks .entry)) j 1) (now (marks .entry)) ⌝ }
 {
     let x = get_at(t, LEFT, j);
     let y = get_at(t, RIGHT, j);
@@ -466,7 +468,7 @@ fn mark_pair(t: &[u32], a: usize, b: usize, j: usize, marks: &mut [u32])
 
 // Marks each argument pair in force that is the pair of a and b.
 fn mark_pairs(t: &[u32], a: usize, b: usize, marks: &mut [u32])
-    requires { ⌜ EngineSound (now t) × (2048 ≤ length (now marks)) ⌝ }
+    requires { ⌜ EngineSound (now t) × (max-pairs ≤ length (now marks)) ⌝ }
     ensures { λ _. ⌜ MarksPair (now (t .entry)) a b (now (marks .entry)) (now (marks .exit)) ⌝ }
 {
     let n = pairs_in_force(t);
@@ -479,8 +481,9 @@ fn mark_pairs(t: &[u32], a: usize, b: usize, marks: &mut [u32])
 
 // Explains two equal nodes whose pair has not been expanded yet: the first up to the nearest common ancestor, then the second.
 fn explain_rec(t: &[u32], a: usize, b: usize, marks: &mut [u32], out: &mut [u32])
-    requires { ⌜ Explaining (now t) (now marks) (now out) × (a < 1024) × (b < 1024) × (are-equal (merges (now t)) a b ≡ true) ⌝ }
-    ensures { λ _. ⌜ Goes (now (t .entry)) (now (marks .entry)) (now (out .entry)) (now (marks .exit)) (now (out .exit)) (suc (age (merges (now (t .entry))) a b)) (expand-new (merges (now (t .entry))) a b) ⌝ }
+    requires { ⌜ Explaining (now t) (now marks) (now out) × EqualNodes (now t) a b ⌝ }
+    ensures { λ _. ⌜ Goes (now (t .entry)) (now (marks .entry)) (now (out .entry)) (now (marks .exit)) (now (out .exit))
+        (NewPair a b) ⌝ }
 {
     if a == b {
         return;
@@ -493,8 +496,9 @@ fn explain_rec(t: &[u32], a: usize, b: usize, marks: &mut [u32], out: &mut [u32]
 
 // Expands the edges from a node up to one above it.
 fn expand_way(t: &[u32], node: usize, top: usize, marks: &mut [u32], out: &mut [u32])
-    requires { ⌜ Explaining (now t) (now marks) (now out) × (node < 1024) × On top node (way (merges (now t)) node) ⌝ }
-    ensures { λ _. ⌜ Goes (now (t .entry)) (now (marks .entry)) (now (out .entry)) (now (marks .exit)) (now (out .exit)) (steps-age (merges (now (t .entry))) (before top (way (merges (now (t .entry))) node))) (expand-steps (merges (now (t .entry))) (before top (way (merges (now (t .entry))) node))) ⌝ }
+    requires { ⌜ Explaining (now t) (now marks) (now out) × WayUp (now t) node top ⌝ }
+    ensures { λ _. ⌜ Goes (now (t .entry)) (now (marks .entry)) (now (out .entry)) (now (marks .exit)) (now (out .exit))
+        (Way (before top (way (merges (now (t .entry))) node))) ⌝ }
 {
     let mut n = node;
     while n != top {
@@ -506,24 +510,32 @@ fn expand_way(t: &[u32], node: usize, top: usize, marks: &mut [u32], out: &mut [
 // Expands the label of merge i: its leaf, or the pairs of a congruence.
 fn expand_edge(t: &[u32], i: usize, marks: &mut [u32], out: &mut [u32])
     requires { ⌜ Explaining (now t) (now marks) (now out) × (i < merges# (now t)) ⌝ }
-    ensures { λ _. ⌜ Goes (now (t .entry)) (now (marks .entry)) (now (out .entry)) (now (marks .exit)) (now (out .exit)) (pairs-age (merges (now (t .entry))) (pairs-of (just-at (now (t .entry)) i))) (expand-label (merges (now (t .entry))) (just-at (now (t .entry)) i)) ⌝ }
+    ensures { λ _. ⌜ Goes (now (t .entry)) (now (marks .entry)) (now (out .entry)) (now (marks .exit)) (now (out .exit))
+        (Label (just-at (now (t .entry)) i)) ⌝ }
 {
     let word = get_at(t, LABEL, i);
     let value = get_at(t, VALUE, i);
     let kind = word / 65536 % 4;
     if kind == 0 {
-        push_leaf(out, 0, value);
+        push_leaf(out, EqLeaf::Asserted(Lit(value as u32)));
     } else if kind == 1 {
         expand_pairs(t, value, get_at(t, AFTER, i), marks, out);
     } else {
-        push_leaf(out, 1 + word % 65536, value);
+        push_leaf(
+            out,
+            EqLeaf::Interface(TheoryJust {
+                theory: (word % 65536) as u16,
+                tag: value as u32,
+            }),
+        );
     }
 }
 
 // Explains the argument pairs from one number up to another in turn.
 fn expand_pairs(t: &[u32], from: usize, to: usize, marks: &mut [u32], out: &mut [u32])
-    requires { ⌜ Explaining (now t) (now marks) (now out) × (from ≤ to) × ((j : ℕ) → from ≤ j → j < to → EqualPair (now t) j) ⌝ }
-    ensures { λ _. ⌜ Goes (now (t .entry)) (now (marks .entry)) (now (out .entry)) (now (marks .exit)) (now (out .exit)) (pairs-age (merges (now (t .entry))) (pairs-from (now (t .entry)) from to)) (expand-pairs (merges (now (t .entry))) (pairs-from (now (t .entry)) from to)) ⌝ }
+    requires { ⌜ Explaining (now t) (now marks) (now out) × PairsEqual (now t) from to ⌝ }
+    ensures { λ _. ⌜ Goes (now (t .entry)) (now (marks .entry)) (now (out .entry)) (now (marks .exit)) (now (out .exit))
+        (Pairs (pairs-from (now (t .entry)) from to)) ⌝ }
 {
     let mut k = from;
     while k < to {
@@ -535,7 +547,8 @@ fn expand_pairs(t: &[u32], from: usize, to: usize, marks: &mut [u32], out: &mut 
 // Explains argument pair j, unless it has been expanded.
 fn expand_pair(t: &[u32], j: usize, marks: &mut [u32], out: &mut [u32])
     requires { ⌜ Explaining (now t) (now marks) (now out) × EqualPair (now t) j ⌝ }
-    ensures { λ _. ⌜ Goes (now (t .entry)) (now (marks .entry)) (now (out .entry)) (now (marks .exit)) (now (out .exit)) (pairs-age (merges (now (t .entry))) (pair-at (now (t .entry)) j ∷ [])) (expand-pairs (merges (now (t .entry))) (pair-at (now (t .entry)) j ∷ [])) ⌝ }
+    ensures { λ _. ⌜ Goes (now (t .entry)) (now (marks .entry)) (now (out .entry)) (now (marks .exit)) (now (out .exit))
+        (Pairs (pair-at (now (t .entry)) j ∷ [])) ⌝ }
 {
     if get(marks, j) == 0 {
         explain_rec(t, get_at(t, LEFT, j), get_at(t, RIGHT, j), marks, out);
@@ -544,8 +557,8 @@ fn expand_pair(t: &[u32], j: usize, marks: &mut [u32], out: &mut [u32])
 
 // Appends the leaves that the equality of two terms rests on, each once.
 pub fn explain(t: &[u32], a: TermId, b: TermId, out: &mut [u32])
-    requires { ⌜ EngineSound (now t) × (a .0 < 1024) × (b .0 < 1024) × (are-equal (merges (now t)) (a .0) (b .0) ≡ true) × AnswerSound (merges (now t)) (now out) ⌝ }
-    ensures { λ _. ⌜ AnswerSound (merges (now (t .entry))) (now (out .exit)) × (leaves (now (out .exit)) ≡ leaves (now (out .entry)) ++ firsts-after (leaves (now (out .entry))) (explain (merges (now (t .entry))) (a .0) (b .0))) ⌝ }
+    requires { ⌜ Explainable (now t) (a .0) (b .0) (now out) ⌝ }
+    ensures { λ _. ⌜ Explains (now (t .entry)) (a .0) (b .0) (now (out .entry)) (now (out .exit)) ⌝ }
 {
     let x = a.0 as usize;
     let y = b.0 as usize;

@@ -1,0 +1,275 @@
+-- The answer table: asking for a leaf, appending one, and what that does to the list of leaves.
+use Prim.Native.Nat.{ℕ, zero, suc, _+_, _-_, _≤_, _<_}
+use mathlib.Core.Path.{_≡_, refl, sym, subst, ap, ap₂, _∙_}
+use mathlib.Core.Logic.{_⊎_, inl, inr}
+use mathlib.Core.Bool.{Bool, true, false, cond, _&&_, true≢false}
+use mathlib.Core.List.{List, [], _∷_, _++_, map, append-assoc, append-nil}
+use native.Mathlib.Decide.{ℕ-discrete}
+use native.Mathlib.Numerals.{add-one}
+use native.Mathlib.Omega.{arith}
+use borrow.Author.Tests.{eq-eqb, ne-eqb}
+use lib.Dec.{T, eqb, leb, lit<}
+use lib.ListN.{length, getD}
+use Rattle.core.specs.Limits.{max-terms}
+use Rattle.core.specs.Lists.{any, range}
+use Rattle.core.specs.Memory.Words.{at, put, apart, counted}
+use Rattle.core.proofs.Lists.{In}
+use Rattle.core.proofs.Memory.Counted.{counted-length, counted-at, counted-grown}
+use Rattle.core.proofs.Memory.Searching.{NoneFrom, any-found, any-missing}
+use Rattle.core.proofs.Memory.Stores as Stores
+use Rattle.theory.specs.Types.{EqLeaf, AssertedLeaf, InterfaceLeaf, same-leaf}
+use Rattle.theory.specs.EqEngine.{Merge, firsts-after}
+use Rattle.theory.specs.declared.types.EqLeaf as Given
+use Rattle.theory.specs.declared.types.TheoryJust as TheoryJust
+use Rattle.core.specs.declared.ids.Lit as Lit
+use Rattle.theory.specs.Memory.Answer.{COUNTS, LEAVES, LEAF_KIND, LEAF_VALUE, answer-room, answer-size, leaves#, leaf-of, leaf-at, leaves, leaf-meaning, LeavesSound, HasRoom, Pushed, Pushable, Cites, Cited, AnswerSound, Cleared}
+use Rattle.theory.proofs.Members.{Apart, apart-length, apart-last, in-either}
+use Rattle.theory.proofs.Explain.{in-seen, label-leaf, cites-in, map-length}
+
+-- ---- stores
+
+other : (t : List ℕ) (b c x y v : ℕ) → T (apart answer-room b c) → x < answer-room b → y < answer-room c → at (put t c y v) b x ≡ at t b x
+other = Stores.other-region answer-room
+
+same : (t : List ℕ) (b x v : ℕ) → T (leb (b + answer-room b) answer-size) → answer-size ≤ length t → x < answer-room b → at (put t b x v) b x ≡ v
+same = Stores.same-place answer-room answer-size
+
+long : (t : List ℕ) (b x v : ℕ) → answer-size ≤ length t → answer-size ≤ length (put t b x v)
+long = Stores.put-long answer-room answer-size
+
+ruleset stores = (tt, lit<, other, same, long, Stores.other-place)
+
+-- ---- an empty table
+
+pub cleared : (o u : List ℕ) → answer-size ≤ length o → u ≡ put o COUNTS LEAVES 0 → Cleared u
+unfolding leaves counted range
+cleared o u l e =
+    let c : leaves# u ≡ 0 = search (e, stores) in
+    let n : leaves u ≡ [] = ap (counted (leaf-at u)) c in
+    record {
+      sound = λ ms. record {
+        words = record { long = search (e, stores); fit = omega arith; theories = λ i h. absurd (omega arith) };
+        apart = subst Apart (sym n) tt;
+        other = AssertedLeaf 0;
+        cited = λ k i. absurd (subst (λ (ls : List EqLeaf). In k ls) n i);
+      };
+      empty = n;
+    }
+
+-- ---- asking
+
+pub leaves-length : (o : List ℕ) → length (leaves o) ≡ leaves# o
+unfolding leaves
+leaves-length o = counted-length (leaf-at o) (leaves# o)
+
+pub leaf-fits : (o : List ℕ) (i : ℕ) → LeavesSound o → i < length (leaves o) → (i < max-terms) × (at o LEAF_KIND i ≤ 65536)
+leaf-fits o i z h = let n = leaves-length o in let f = z .fit in (omega arith, z .theories i (omega arith))
+
+-- the leaf at a place, by the words k and v that were read there
+module _ (o : List ℕ) (i k v : ℕ) (h : i < length (leaves o)) (e : k ≡ at o LEAF_KIND i) (q : v ≡ at o LEAF_VALUE i) where
+  words-are : leaf-of k v ≡ getD (leaves o) i (AssertedLeaf 0)
+  unfolding leaves
+  words-are =
+      let n = leaves-length o in
+      ap₂ leaf-of e q ∙ sym (counted-at (leaf-at o) (leaves# o) i (AssertedLeaf 0) (omega arith))
+
+  pub leaf-asserted : k ≡ 0 → AssertedLeaf v ≡ getD (leaves o) i (AssertedLeaf 0)
+  unfolding leaf-of
+  leaf-asserted d = ap (λ (m : ℕ). leaf-of m v) (sym d) ∙ words-are
+
+  pub leaf-interface : (k ≡ 0 → ⊥) → InterfaceLeaf (k - 1) v ≡ getD (leaves o) i (AssertedLeaf 0)
+  unfolding leaf-of
+  leaf-interface d = let p : suc (k - 1) ≡ k = omega arith in ap (λ (m : ℕ). leaf-of m v) p ∙ words-are
+
+-- words of one kind
+pub leaf-same : (o : List ℕ) (i kind value k v : ℕ) → k ≡ at o LEAF_KIND i → k ≡ kind → v ≡ at o LEAF_VALUE i → eqb value v ≡ same-leaf (leaf-of kind value) (leaf-at o i)
+unfolding leaf-of same-leaf
+leaf-same o i kind value k v p q r =
+    ap (eqb value) r ∙ go kind (at o LEAF_VALUE i) ∙ ap (λ (x : ℕ). same-leaf (leaf-of kind value) (leaf-of x (at o LEAF_VALUE i))) (sym q ∙ p)
+  where
+    go : (j w : ℕ) → eqb value w ≡ same-leaf (leaf-of j value) (leaf-of j w)
+    go zero w = refl
+    go (suc h) w = sym (ap (λ (b : Bool). b && eqb value w) (eq-eqb h h refl))
+
+pub leaf-differs : (o : List ℕ) (i kind value k : ℕ) → k ≡ at o LEAF_KIND i → (k ≡ kind → ⊥) → false ≡ same-leaf (leaf-of kind value) (leaf-at o i)
+unfolding leaf-of same-leaf
+leaf-differs o i kind value k p q = go kind (at o LEAF_KIND i) (λ e. q (p ∙ sym e))
+  where
+    go : (j m : ℕ) → (j ≡ m → ⊥) → false ≡ same-leaf (leaf-of j value) (leaf-of m (at o LEAF_VALUE i))
+    go zero zero d = absurd (d refl)
+    go zero (suc m) d = refl
+    go (suc j) zero d = refl
+    go (suc j) (suc m) d = sym (ap (λ (b : Bool). b && eqb value (at o LEAF_VALUE i)) (ne-eqb j m (λ e. d (ap suc e))))
+
+-- none of the first i leaves is the one looked for
+abbrev pub Looking : List ℕ → ℕ → ℕ → ℕ → Type 0
+Looking o kind value i = NoneFrom (λ k. same-leaf (leaf-of kind value) (leaf-at o k)) 0 i
+
+pub look-found : (o : List ℕ) (kind value n i : ℕ) (r : Bool) → n ≡ leaves# o → i < n → r ≡ same-leaf (leaf-of kind value) (leaf-at o i) → r ≡ true → true ≡ any (same-leaf (leaf-of kind value)) (leaves o)
+unfolding leaves
+look-found o kind value n i r m h e q = sym (any-found (same-leaf (leaf-of kind value)) (leaf-at o) (leaves# o) i (omega arith) (sym e ∙ q))
+
+pub look-missing : (o : List ℕ) (kind value n i : ℕ) → n ≡ leaves# o → Looking o kind value i → n ≤ i → false ≡ any (same-leaf (leaf-of kind value)) (leaves o)
+unfolding leaves
+look-missing o kind value n i m c h = sym (any-missing (same-leaf (leaf-of kind value)) (leaf-at o) (leaves# o) (λ k l g. c k l (omega arith)))
+
+-- ---- appending
+
+pub pushed-old : (o : List ℕ) (kind value : ℕ) (b : Bool) → Pushable o kind value → b ≡ any (same-leaf (leaf-of kind value)) (leaves o) → b ≡ true → Pushed o o (leaf-of kind value)
+pushed-old o kind value b z e q = record {
+  sound = z .sound;
+  listed = sym (ap (λ (x : Bool). cond x (leaves o) (leaves o ++ (leaf-of kind value ∷ []))) (sym e ∙ q));
+}
+
+-- a leaf that does not stand there yet has room
+pub push-fits : (o : List ℕ) (kind value n : ℕ) (b : Bool) → Pushable o kind value → b ≡ any (same-leaf (leaf-of kind value)) (leaves o) → b ≡ false → n ≡ leaves# o → n < max-terms
+push-fits o kind value n b z e q m = go (z .room)
+  where
+    go : HasRoom o (leaf-of kind value) → n < max-terms
+    go (inl p) = absurd (true≢false (sym p ∙ sym e ∙ q))
+    go (inr l) = omega arith
+
+-- what the three stores did
+record Appended (o u : List ℕ) (n kind value : ℕ) : Type 0 where
+  long : answer-size ≤ length u
+  count : leaves# u ≡ suc n
+  kinds : (i : ℕ) → i < max-terms → (i ≡ n → ⊥) → at u LEAF_KIND i ≡ at o LEAF_KIND i
+  values : (i : ℕ) → i < max-terms → (i ≡ n → ⊥) → at u LEAF_VALUE i ≡ at o LEAF_VALUE i
+  kind-is : at u LEAF_KIND n ≡ kind
+  value-is : at u LEAF_VALUE n ≡ value
+
+appended : (o o₁ o₂ u : List ℕ) (n kind value : ℕ) → answer-size ≤ length o → n < max-terms →
+    o₁ ≡ put o LEAF_KIND n kind → o₂ ≡ put o₁ LEAF_VALUE n value → u ≡ put o₂ COUNTS LEAVES (n + 1) → Appended o u n kind value
+appended o o₁ o₂ u n kind value l h p q r = search (r, q, p, add-one, stores)
+
+pub pushed-new : {o o₁ o₂ u : List ℕ} {kind value n : ℕ} {b : Bool} → Pushable o kind value →
+    b ≡ any (same-leaf (leaf-of kind value)) (leaves o) → b ≡ false → n ≡ leaves# o →
+    o₁ ≡ put o LEAF_KIND n kind → o₂ ≡ put o₁ LEAF_VALUE n value → u ≡ put o₂ COUNTS LEAVES (n + 1) → Pushed o u (leaf-of kind value)
+unfolding leaves
+pushed-new {o} {o₁} {o₂} {u} {kind} {value} {n} {b} z e q m p r s =
+    let h = push-fits o kind value n b z e q m in
+    let w = appended o o₁ o₂ u n kind value (z .sound .long) h p r s in
+    let c = w .count in
+    record {
+      sound = record { long = w .long; fit = omega arith; theories = λ i g. fits i w (ℕ-discrete i n) g };
+      listed =
+          counted-grown (leaf-at o) (leaf-at u) n (leaves# u) (leaf-of kind value) c
+          (λ i g. ap₂ leaf-of (w .kinds i (omega arith) (omega arith)) (w .values i (omega arith) (omega arith)))
+          (ap₂ leaf-of (w .kind-is) (w .value-is))
+          ∙ ap (λ (k : ℕ). counted (leaf-at o) k ++ (leaf-of kind value ∷ [])) m
+          ∙ sym (ap (λ (x : Bool). cond x (leaves o) (leaves o ++ (leaf-of kind value ∷ []))) (sym e ∙ q));
+    }
+  where
+    fits : (i : ℕ) → Appended o u n kind value → Dec (i ≡ n) → i < leaves# u → at u LEAF_KIND i ≤ 65536
+    fits i w (yes k) g = let x = ap (at u LEAF_KIND) k ∙ w .kind-is in let y = z .kind-fits in omega arith
+    fits i w (no d) g =
+        let c = w .count in
+        let f = z .sound .fit in
+        let x = w .kinds i (omega arith) d in
+        let y = z .sound .theories i (omega arith) in
+        omega arith
+
+-- the words of a given leaf
+pub asserted-is : (l : Given.EqLeaf) (p : Lit.Lit) → l ≡ Given.the-variants.Asserted p → leaf-meaning l ≡ leaf-of 0 (p .0)
+unfolding leaf-meaning leaf-of
+asserted-is l p e = ap leaf-meaning e
+
+pub interface-is : (l : Given.EqLeaf) (j : TheoryJust.TheoryJust) → l ≡ Given.the-variants.Interface j → leaf-meaning l ≡ leaf-of (1 + j .theory) (j .tag)
+unfolding leaf-meaning leaf-of
+interface-is l j e = let n : suc (j .theory) ≡ 1 + j .theory = omega arith in ap leaf-meaning e ∙ ap (λ (k : ℕ). leaf-of k (j .tag)) n
+
+-- ---- first occurrences
+
+cond-swap : (a b r : Bool) → cond a true (cond b true r) ≡ cond b true (cond a true r)
+cond-swap true true r = refl
+cond-swap true false r = refl
+cond-swap false true r = refl
+cond-swap false false r = refl
+
+any-move : (p : EqLeaf → Bool) (xs : List EqLeaf) (k : EqLeaf) (ys : List EqLeaf) → any p (xs ++ (k ∷ ys)) ≡ any p ((k ∷ xs) ++ ys)
+unfolding any
+any-move p [] k ys = refl
+any-move p (x ∷ xs) k ys = ap (cond (p x) true) (any-move p xs k ys) ∙ cond-swap (p x) (p k) (any p (xs ++ ys))
+
+cons-cond : (k : EqLeaf) (b : Bool) (xs ys : List EqLeaf) → k ∷ cond b xs ys ≡ cond b (k ∷ xs) (k ∷ ys)
+cons-cond k true xs ys = refl
+cons-cond k false xs ys = refl
+
+append-cond : (us : List EqLeaf) (b : Bool) (xs : List EqLeaf) (l : EqLeaf) → cond b (us ++ xs) ((us ++ xs) ++ (l ∷ [])) ≡ us ++ cond b xs (xs ++ (l ∷ []))
+append-cond us true xs l = refl
+append-cond us false xs l = append-assoc us xs (l ∷ [])
+
+-- one leaf more is kept where it stands neither among the first occurrences nor among those seen before
+firsts-more : (ls seen : List EqLeaf) (l : EqLeaf) → firsts-after seen (ls ++ (l ∷ [])) ≡ cond (any (same-leaf l) (seen ++ firsts-after seen ls)) (firsts-after seen ls) (firsts-after seen ls ++ (l ∷ []))
+unfolding firsts-after
+firsts-more [] seen l = ap (λ (us : List EqLeaf). cond (any (same-leaf l) us) [] (l ∷ [])) (sym (append-nil seen))
+firsts-more (k ∷ ls) seen l = go (any (same-leaf k) seen) (firsts-more ls seen l) (firsts-more ls (k ∷ seen) l)
+  where
+    old : List EqLeaf
+    old = firsts-after seen ls
+
+    new : List EqLeaf
+    new = firsts-after (k ∷ seen) ls
+
+    go : (b : Bool) → firsts-after seen (ls ++ (l ∷ [])) ≡ cond (any (same-leaf l) (seen ++ old)) old (old ++ (l ∷ [])) → firsts-after (k ∷ seen) (ls ++ (l ∷ [])) ≡ cond (any (same-leaf l) ((k ∷ seen) ++ new)) new (new ++ (l ∷ [])) → cond b (firsts-after seen (ls ++ (l ∷ []))) (k ∷ firsts-after (k ∷ seen) (ls ++ (l ∷ []))) ≡ cond (any (same-leaf l) (seen ++ cond b old (k ∷ new))) (cond b old (k ∷ new)) (cond b old (k ∷ new) ++ (l ∷ []))
+    go true e f = e
+    go false e f =
+        ap (λ (us : List EqLeaf). k ∷ us) f
+        ∙ cons-cond k (any (same-leaf l) ((k ∷ seen) ++ new)) new (new ++ (l ∷ []))
+        ∙ ap (λ (b : Bool). cond b (k ∷ new) (k ∷ new ++ (l ∷ []))) (sym (any-move (same-leaf l) seen k new))
+
+pub pushed-firsts : (us vs seen ls : List EqLeaf) (l : EqLeaf) → us ≡ seen ++ firsts-after seen ls → vs ≡ cond (any (same-leaf l) us) us (us ++ (l ∷ [])) → vs ≡ seen ++ firsts-after seen (ls ++ (l ∷ []))
+pushed-firsts us vs seen ls l e q =
+    q
+    ∙ ap (λ (ws : List EqLeaf). cond (any (same-leaf l) ws) ws (ws ++ (l ∷ []))) e
+    ∙ append-cond seen (any (same-leaf l) (seen ++ firsts-after seen ls)) (firsts-after seen ls) l
+    ∙ ap (λ (ws : List EqLeaf). seen ++ ws) (sym (firsts-more ls seen l))
+
+-- ---- there is room, and the table stays sound
+
+-- different leaves that are one other or label merges
+few : (ms : List Merge) (other : EqLeaf) (ls : List EqLeaf) → Apart ls → Cited ms other ls → length ls ≤ suc (length ms)
+few ms other ls a f =
+    let h = apart-length ls (other ∷ map (λ (m : Merge). label-leaf (m .just)) ms) a (λ l i. go l (f l i)) in
+    omega (arith, map-length ms)
+  where
+    go : (l : EqLeaf) → (l ≡ other) ⊎ Cites ms l → In l (other ∷ map (λ (m : Merge). label-leaf (m .just)) ms)
+    go l (inl e) = inl e
+    go l (inr c) = inr (cites-in ms l c)
+
+pub push-room : (ms : List Merge) (o : List ℕ) (l : EqLeaf) → AnswerSound ms o → length ms < max-terms → Cites ms l → HasRoom o l
+push-room ms o l z h c = go (any (same-leaf l) (leaves o)) refl
+  where
+    more : (k : EqLeaf) → In k (l ∷ leaves o) → (k ≡ z .other) ⊎ Cites ms k
+    more k (inl e) = inr (subst (Cites ms) (sym e) c)
+    more k (inr i) = z .cited k i
+
+    go : (b : Bool) → any (same-leaf l) (leaves o) ≡ b → HasRoom o l
+    go true e = inl e
+    go false e =
+        let g = few ms (z .other) (l ∷ leaves o) (λ i. subst T e (in-seen l (leaves o) i), z .apart) more in
+        let k = leaves-length o in
+        inr (omega arith)
+
+-- a leaf pushed that labels a merge, or is the other one
+pub push-sound : (ms : List Merge) (o u : List ℕ) (l other : EqLeaf) → Apart (leaves o) → Cited ms other (leaves o) → (l ≡ other) ⊎ Cites ms l → Pushed o u l → AnswerSound ms u
+push-sound ms o u l other a f c p = go (any (same-leaf l) (leaves o)) refl (p .listed)
+  where
+    made : (ls : List EqLeaf) → leaves u ≡ ls → Apart ls → Cited ms other ls → AnswerSound ms u
+    made ls q b g = record {
+      words = p .sound;
+      apart = subst Apart (sym q) b;
+      other = other;
+      cited = λ k i. g k (subst (λ (ks : List EqLeaf). In k ks) q i);
+    }
+
+    more : (k : EqLeaf) → In k (leaves o) ⊎ In k (l ∷ []) → (k ≡ other) ⊎ Cites ms k
+    more k (inl i) = f k i
+    more k (inr (inl q)) = subst (λ (j : EqLeaf). (j ≡ other) ⊎ Cites ms j) (sym q) c
+    more k (inr (inr i)) = absurd i
+
+    go : (b : Bool) → any (same-leaf l) (leaves o) ≡ b → leaves u ≡ cond b (leaves o) (leaves o ++ (l ∷ [])) → AnswerSound ms u
+    go true q e = made (leaves o) e a f
+    go false q e =
+        made (leaves o ++ (l ∷ [])) e (apart-last (leaves o) l a (λ i. subst T q (in-seen l (leaves o) i)))
+        (λ k i. more k (in-either k (leaves o) (l ∷ []) i))
