@@ -439,7 +439,7 @@ pub edge-congruent : {t : List ℕ} {i k v a : ℕ} → EngineSound t → i < me
     k / 65536 % 4 ≡ 1 → Congruent t i v a
 unfolding merges merge-at pairs-start begins pairs-of expand expand-edge part-age
 edge-congruent {t} {i} {k} {v} {a} z h e q r w =
-    let f = z .pairs-fit i h .0 in
+    let f = z .entries i h .fit .0 in
     let s : pairs-start t i ≡ value-word t i = ap (λ (n : ℕ). begins n (value-word t i) (after-word t i)) (sym (ap (λ (n : ℕ). n / 65536 % 4) e) ∙ w) in
     let l = after-within t i z h in
     record {

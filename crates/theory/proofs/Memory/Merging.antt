@@ -242,7 +242,7 @@ module _ {t t₁ : List ℕ} {a b kind h v e ra rb : ℕ} (J : Joinable t a b ki
           let o = c .older j g in
           search (n .a, n .b, n .label, n .value, n .child, n .froot, n .after, o, c .kept .rest, tt);
       pairs = λ i g j k.
-          let l : j < max-pairs = let f = J .sound .pairs-fit i g .1 in omega arith in
+          let l : j < max-pairs = let f = J .sound .entries i g .fit .1 in omega arith in
           let n = w .pairs j l in
           search (n .0, n .1, c .kept .rest, tt);
     }

@@ -54,14 +54,14 @@ module _ (t : List ℕ) (i : ℕ) (z : EngineSound t) (N : merges# t ≡ suc i) 
 
   old-root : froot-word t i ≡ end (m .a) (way ms (m .a))
   unfolding merge-at
-  old-root = z .froot i in-log
+  old-root = z .entries i in-log .froot
 
   child-noted : child-word t i ≡ child-of ms m
-  child-noted = z .child i in-log
+  child-noted = z .entries i in-log .child
 
   nodes : IsNode (m .a) × IsNode (m .b)
   unfolding merge-at
-  nodes = z .nodes i in-log
+  nodes = z .entries i in-log .nodes
 
   -- an edge between terms that were equal before is of an older merge
   older : (e x y : ℕ) → e < merges# t → BothSides (merge-at t e) x y → Same ms x y → e < i
@@ -190,7 +190,7 @@ module _ (t : List ℕ) (i : ℕ) (z : EngineSound t) (N : merges# t ≡ suc i) 
           level = search (e′, kept, stores);
           log = record {
             entries = λ j h. let w : j < max-terms = omega arith in search (e′, kept, stores);
-            pairs = λ j h p g. let w : p < max-pairs = let b = z .pairs-fit j (omega arith) .1 in omega arith in search (e′, kept, stores);
+            pairs = λ j h p g. let w : p < max-pairs = let b = z .entries j (omega arith) .fit .1 in omega arith in search (e′, kept, stores);
           };
           parents = λ x h. search (e′, kept, stores);
           sizes = λ x h. search (e′, kept, stores);

@@ -88,7 +88,7 @@ sides-within m x y h (inr (p, q)) = omega arith
 module _ (t : List ℕ) (z : EngineSound t) where
   side-within : (i x y : ℕ) → i < merges# t → BothSides (merge-at t i) x y → IsNode y
   unfolding merge-at
-  side-within i x y h b = sides-within (merge-at t i) x y (z .nodes i h) b .1
+  side-within i x y h b = sides-within (merge-at t i) x y (z .entries i h .nodes) b .1
 
   rises-by : (x p : ℕ) (s : Step) (w : List Step) → p ≡ fparent-word t x → way (merges t) x ≡ s ∷ w → FirstEdge t x (s ∷ w) → Rises t x p
   rises-by x p s w e q (a, b, c, d) =

@@ -229,23 +229,27 @@ Justified (m ∷ ms) =
 abbrev pub EqualPairs : List Merge → List (ℕ × ℕ) → Type 0
 EqualPairs ms ps = (p : ℕ × ℕ) → In p ps → T (are-equal ms (p .0) (p .1)) × IsNode (p .0) × IsNode (p .1)
 
+-- the words of merge i are those of the merges before it
+pub record EntrySound (t : List ℕ) (i : ℕ) : Type 0 where
+  pub nodes : IsNode (a-word t i) × IsNode (b-word t i)
+  pub child : child-word t i ≡ child-of (merges-below t i) (merge-at t i)
+  pub froot : froot-word t i ≡ end (a-word t i) (way (merges-below t i) (a-word t i))
+  -- its pairs follow those of the merges before it
+  pub start : pairs-start t i ≡ pairs-in-force (merges-below t i)
+  pub fit : (pairs-start t i ≤ after-word t i) × (after-word t i ≤ max-pairs)
+
 -- Each region is what the log of merges says.
 pub record EngineSound (t : List ℕ) : Type 0 where
   pub long : engine-size ≤ length t
   -- the log
   pub fewer : merges# t < max-terms
   pub justified : Justified (merges t)
-  pub nodes : (i : ℕ) → i < merges# t → IsNode (a-word t i) × IsNode (b-word t i)
   pub pair-nodes : (m : Merge) → In m (merges t) → (p : ℕ × ℕ) → In p (pairs-of (m .just)) → IsNode (p .0) × IsNode (p .1)
-  pub child : (i : ℕ) → i < merges# t → child-word t i ≡ child-of (merges-below t i) (merge-at t i)
-  pub froot : (i : ℕ) → i < merges# t → froot-word t i ≡ end (a-word t i) (way (merges-below t i) (a-word t i))
+  pub entries : (i : ℕ) → i < merges# t → EntrySound t i
   -- levels rise along the log, up to the present level
   pub levels-fit : level-word t ≤ max-levels
   pub levels : (i : ℕ) → i < merges# t → level-of (label-word t i) ≤ level-word t
   pub levels-rise : (i : ℕ) → suc i < merges# t → level-of (label-word t i) ≤ level-of (label-word t (suc i))
-  -- the pairs of a merge follow those of the merges before it
-  pub starts : (i : ℕ) → i < merges# t → pairs-start t i ≡ pairs-in-force (merges-below t i)
-  pub pairs-fit : (i : ℕ) → i < merges# t → (pairs-start t i ≤ after-word t i) × (after-word t i ≤ max-pairs)
   -- classes and forest
   pub parents : (x : ℕ) → IsNode x → parent-word t x ≡ parent (merges t) x
   pub sizes : (x : ℕ) → IsNode x → size-word t x ≡ classes (merges t) .size x
