@@ -9,7 +9,7 @@ use lib.Dec.{T, leb, eqb→eq}
 use borrow.Author.Tests.{eq-eqb, ne-eqb, eqb-true, eqb-false, leb-false, lt-leb}
 use Rattle.core.proofs.Lists.{In}
 use Rattle.theory.specs.Types.{EqJust}
-pub use Rattle.theory.specs.Memory.Table.{BothSides}
+pub use Rattle.theory.specs.Memory.Replay.{BothSides}
 use Rattle.theory.specs.EqEngine.{Merge, Classes, singletons, under, child, root, union, classes, find, are-equal, merge, pop-merges}
 
 -- ---- one class

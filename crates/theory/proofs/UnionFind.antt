@@ -9,7 +9,7 @@ use native.Mathlib.Decide.{ℕ-discrete}
 use lib.Dec.{eqb, leb}
 use borrow.Author.Tests.{eq-eqb, ne-eqb}
 use Rattle.theory.specs.EqEngine.{Merge, Classes, under, child, root, union, classes, find, are-equal}
-use Rattle.theory.specs.Memory.Table.{child-of, root-of, parent}
+use Rattle.theory.specs.Memory.Replay.{child-of, root-of, parent}
 use Rattle.theory.proofs.Classes.{unequal, find-alone}
 use Rattle.theory.proofs.Forest.{Joins}
 use Rattle.theory.proofs.Sizes.{find-find, Within, find-within}

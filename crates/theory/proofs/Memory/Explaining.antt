@@ -15,7 +15,8 @@ use Rattle.core.specs.Memory.Table.{word}
 use Rattle.core.proofs.Lists.{In, T-true, true-T, in-range, map-range-suc}
 use Rattle.theory.specs.Types.{EqJust, Asserted, Congruence, Interface, EqLeaf, AssertedLeaf, InterfaceLeaf}
 use Rattle.theory.specs.EqEngine.{Merge, Step, Explained, are-equal, pairs-of, pairs-in-force, before, common, way, same-pair, visit, cite, path, expand-edge, explain-rec, explain, firsts-after}
-use Rattle.theory.specs.Memory.Table.{left-word, right-word, pair-at, merges#, label-word, value-word, after-word, fparent-word, fedge-word, label, begins, kind-of, just-at, merge-at, pairs-start, merges-below, merges, Justified, EngineSound}
+use Rattle.theory.specs.Memory.Replay.{Justified}
+use Rattle.theory.specs.Memory.Table.{left-word, right-word, pair-at, merges#, label-word, value-word, after-word, fparent-word, fedge-word, label, begins, kind-of, just-at, merge-at, pairs-start, merges-below, merges, EngineSound}
 use Rattle.theory.specs.declared.types.EqLeaf as Given
 use Rattle.theory.specs.Memory.Answer.{leaves, leaf-meaning, HasRoom, Pushed, Labels, Cites, AnswerSound}
 use Rattle.theory.specs.Memory.Explaining.{age, pairs-age, steps-age, Part, NewPair, Way, Label, Pairs, part-age, expand-way, expand-new, expand, pairs-from, marked, is-pair, Shows, Explaining, Goes, IsNode, EqualNodes, EqualPair, PairsEqual, WayUp, MarksPair, Explains}

@@ -12,7 +12,8 @@ use Rattle.core.specs.Lists.{In, total}
 use Rattle.core.proofs.Lists.{length-map-range, map-range-cong}
 use Rattle.theory.specs.Types.{Congruence}
 use Rattle.theory.specs.EqEngine.{Merge, pairs-of, pairs-in-force}
-use Rattle.theory.specs.Memory.Table.{IsNode, merges#, label-word, value-word, after-word, pair-at, kind-unit, label-code, level-of, kind-of, theory-of, label, begins, just-at, merge-at, pairs-start, merges-below, merges, EngineSound}
+use Rattle.theory.specs.Memory.Replay.{IsNode}
+use Rattle.theory.specs.Memory.Table.{merges#, label-word, value-word, after-word, pair-at, kind-unit, label-code, level-of, kind-of, theory-of, label, begins, just-at, merge-at, pairs-start, merges-below, merges, EngineSound}
 use Rattle.theory.specs.Memory.Steps.{SameEntry, SamePairs, SameLog}
 use Rattle.theory.proofs.Classes.{Suffix}
 use Rattle.theory.proofs.Forest.{Joins}

@@ -13,7 +13,8 @@ use Rattle.core.specs.Limits.{max-terms, max-pairs, max-levels}
 use Rattle.core.specs.Lists.{In}
 use Rattle.core.specs.Memory.Words.{put}
 use Rattle.theory.specs.EqEngine.{Merge, classes, are-equal, pairs-of, pairs-in-force, Step, way}
-use Rattle.theory.specs.Memory.Table.{engine-size, COUNTS, LEVEL, IsNode, merges#, level-word, parent-word, size-word, fparent-word, fedge-word, a-word, b-word, label-word, child-word, froot-word, after-word, level-of, just-at, merge-at, pairs-start, merges-below, merges, child-of, parent, end, BothSides, FirstEdge, Justified, EqualPairs, EntrySound, EngineSound, Engine}
+use Rattle.theory.specs.Memory.Replay.{IsNode, child-of, parent, end, BothSides, Justified, EqualPairs}
+use Rattle.theory.specs.Memory.Table.{engine-size, COUNTS, LEVEL, merges#, level-word, parent-word, size-word, fparent-word, fedge-word, a-word, b-word, label-word, child-word, froot-word, after-word, level-of, just-at, merge-at, pairs-start, merges-below, merges, FirstEdge, EntrySound, EngineSound, Engine}
 use Rattle.theory.specs.Memory.Steps.{SameEntry, SamePairs, SameLog, SameNode}
 use Rattle.theory.proofs.Classes.{Suffix, in-suffix}
 use Rattle.theory.proofs.Explain.{justified-joins, justified-suffix}

@@ -11,7 +11,8 @@ use Rattle.core.specs.Limits.{max-terms}
 use Rattle.core.specs.Lists.{In, range}
 use Rattle.core.proofs.Lists.{in-range, true-T}
 use Rattle.theory.specs.EqEngine.{Merge, Step, find, are-equal, nodes, common, way}
-use Rattle.theory.specs.Memory.Table.{IsNode, merges#, parent-word, fparent-word, fedge-word, just-at, merge-at, merges, parent, end, BothSides, FirstEdge, EngineSound, TwoNodes}
+use Rattle.theory.specs.Memory.Replay.{IsNode, parent, end, BothSides}
+use Rattle.theory.specs.Memory.Table.{merges#, parent-word, fparent-word, fedge-word, just-at, merge-at, merges, FirstEdge, EngineSound, TwoNodes}
 use Rattle.theory.proofs.Members.{apart-length}
 use Rattle.theory.proofs.Classes.{equal-same}
 use Rattle.theory.proofs.Forest.{On, Forest, way-over, Above, Meet, at-root, lower, longer, meet-up, way-forest, way-apart, way-meets}

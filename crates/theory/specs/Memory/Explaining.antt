@@ -12,7 +12,7 @@ use Rattle.core.specs.Memory.Table.{word}
 use Rattle.theory.specs.Types.{EqJust, EqLeaf}
 use Rattle.theory.specs.EqEngine.{Merge, Step, Explained, are-equal, pairs-of, pairs-in-force, way, path, same-pair, visit, expand-edge, explain-rec, explain, firsts-after}
 use Rattle.theory.specs.Memory.Table.{pair-at, merges, EngineSound}
-use Rattle.theory.specs.Memory.Steps.{On}
+use Rattle.theory.specs.Memory.Replay.{On}
 use Rattle.theory.specs.Memory.Answer.{leaves, AnswerSound}
 
 -- ---- ages
