@@ -421,7 +421,7 @@ module _ (t o : List ℕ) (i : ℕ) (l : EqLeaf) (z : EngineSound t) (y : Answer
     answer = push-sound (merges t) o u l (y .other) (y .apart) (y .cited) (inr label-cites) p;
     shows = λ d seen e b s.
         subst (Shows t m u seen) (label-expands (just-at t i) k d e)
-        (record { listed = pushed-firsts (leaves o) (leaves u) seen (e .leaves) l (s .listed) (p .listed); marks-are = s .marks-are });
+        (record { listed = pushed-firsts seen (e .leaves) l (s .listed) (p .listed); marks-are = s .marks-are });
   }
 
 -- the pairs of each label are equal

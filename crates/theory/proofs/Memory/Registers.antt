@@ -52,7 +52,7 @@ module _ {t : List ℕ} {v x : ℕ} (z : Registrable t v x) where
   one-free : vars# t < max-vars
   one-free =
       let l = apart-length (v ∷ counted (at t VAR) (vars# t)) (range 0 max-vars) (not-in, z .sound .once)
-          (λ y k. in-range 0 max-vars y (omega arith) (below y k)) in
+      (λ y k. in-range 0 max-vars y (omega arith) (below y k)) in
       omega (arith, counted-length (at t VAR) (vars# t), length-range 0 max-vars)
     where
       below : (y : ℕ) → In y (v ∷ counted (at t VAR) (vars# t)) → y < 0 + max-vars

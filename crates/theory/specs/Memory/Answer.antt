@@ -2,7 +2,7 @@
 use Prim.Native.Nat.{ℕ, zero, suc, _+_, _≤_, _<_}
 use mathlib.Core.Path.{_≡_}
 use mathlib.Core.Logic.{_⊎_}
-use mathlib.Core.Bool.{true, cond}
+use mathlib.Core.Bool.{Bool, true, cond}
 use mathlib.Core.List.{List, [], _∷_, _++_}
 use lib.ListN.{length}
 use Rattle.core.specs.Limits.{max-terms}
@@ -65,13 +65,17 @@ pub record LeavesSound (o : List ℕ) : Type 0 where
   -- a theory has 16 bits
   pub theories : (i : ℕ) → i < leaves# o → at o LEAF_KIND i ≤ 65536
 
+-- does a leaf stand in a list?
+abbrev pub has-leaf : EqLeaf → List EqLeaf → Bool
+has-leaf l ls = any (same-leaf l) ls
+
+-- the list with one more leaf, unless it stands there
+abbrev pub with-leaf : EqLeaf → List EqLeaf → List EqLeaf
+with-leaf l ls = cond (has-leaf l ls) ls (ls ++ (l ∷ []))
+
 -- a leaf that stands there already, or has room
 abbrev pub HasRoom : List ℕ → EqLeaf → Type 0
-HasRoom o l = (any (same-leaf l) (leaves o) ≡ true) ⊎ (leaves# o < max-terms)
-
--- a leaf list with one more leaf, unless it stands there
-abbrev pub with-leaf : EqLeaf → List EqLeaf → List EqLeaf
-with-leaf l ls = cond (any (same-leaf l) ls) ls (ls ++ (l ∷ []))
+HasRoom o l = (has-leaf l (leaves o) ≡ true) ⊎ (length (leaves o) < max-terms)
 
 pub record Pushed (o u : List ℕ) (l : EqLeaf) : Type 0 where
   pub sound : LeavesSound u
