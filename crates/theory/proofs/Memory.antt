@@ -1,24 +1,18 @@
--- The engine's table. Nodes: up to the root of a class; Puts: one word written; Log, Pairs: what the log says; Walks: up the forest;
--- Turning: a way turned; Shorter, Growing: a sound table with fewer merges or one more; Merging, KindWords, Joining, Copying: the
--- steps of a merge; Undoing, Popping: merges taken back; Marks, Leaves, Explaining: explanations; Clearing: an empty table.
-pub mod Nodes
-pub mod Puts
+-- The engine's table. EngineStores: the laws of stores at its regions; Log: merges and argument pairs; Walks: up the classes and up the
+-- forest.
+pub mod EngineStores
 pub mod Log
-pub mod Pairs
 pub mod Walks
+pub mod Clearing
+pub mod SoundTables
 pub mod Turning
-pub mod KindWords
-pub mod Shorter
 pub mod Merging
-pub mod Growing
 pub mod Joining
-pub mod Copying
 pub mod Undoing
-pub mod Popping
+-- Explanations. Marks: argument pairs that are expanded; Leaves: the answer table; Explaining: the steps of an explanation.
 pub mod Marks
 pub mod Leaves
 pub mod Explaining
-pub mod Clearing
--- The registry.
+-- The registry. Registering: what its words say; Registers: one more registration, an empty registry.
 pub mod Registering
 pub mod Registers

@@ -11,8 +11,8 @@ use borrow.Author.Tests.{eq-eqb, ne-eqb, eqb-true}
 use lib.Dec.{T, eqb, leb, leb→le}
 use lib.ListN.{length, getD, length-set}
 use lib.Seq.{getD-set-same, getD-set-other, length-sets, sets}
-use Rattle.core.specs.Memory.Words.{at, put, put-all, apart, clear-of, one-of, Kept}
-use Rattle.core.proofs.Lists.{T-and, getD-sets-in, getD-sets-out}
+use Rattle.core.specs.Memory.Words.{at, put, put-all, apart, clear-of, one-of, among, Kept}
+use Rattle.core.proofs.Lists.{T-and, T-both, getD-sets-in, getD-sets-out}
 
 pub length-put : (t : List ℕ) (b x v : ℕ) → length (put t b x v) ≡ length t
 unfolding put
@@ -70,6 +70,15 @@ module _ (room : ℕ → ℕ) where
 
   pub kept-then : (ws t u v : List ℕ) → Kept room ws t u → Kept room ws u v → Kept room ws t v
   kept-then ws t u v p q = record { long = q .long ∙ p .long; rest = λ b x a h. q .rest b x a h ∙ p .rest b x a h }
+
+  clear-fewer : (b : ℕ) (ws vs : List ℕ) → T (among ws vs) → T (clear-of room b vs) → T (clear-of room b ws)
+  clear-fewer b [] vs m a = tt
+  clear-fewer b (w ∷ ws) vs m a =
+      let (here, there) = T-and (one-of w vs) (among ws vs) m in
+      T-both (apart room b w) (clear-of room b ws) (clear-apart b w vs a here) (clear-fewer b ws vs there a)
+
+  pub kept-more : (ws vs t u : List ℕ) → T (among ws vs) → Kept room ws t u → Kept room vs t u
+  kept-more ws vs t u m p = record { long = p .long; rest = λ b x a h. p .rest b x (clear-fewer b ws vs m a) h }
 
   pub kept-put : (ws t u : List ℕ) (c y v : ℕ) → T (one-of c ws) → y < room c → Kept room ws t u → Kept room ws t (put u c y v)
   kept-put ws t u c y v m k p = record {

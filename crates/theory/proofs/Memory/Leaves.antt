@@ -22,7 +22,7 @@ use Rattle.theory.specs.EqEngine.{Merge, firsts-after}
 use Rattle.theory.specs.declared.types.EqLeaf as Given
 use Rattle.theory.specs.declared.types.TheoryJust as TheoryJust
 use Rattle.core.specs.declared.ids.Lit as Lit
-use Rattle.theory.specs.Memory.Answer.{COUNTS, LEAVES, LEAF_KIND, LEAF_VALUE, answer-room, answer-size, leaves#, leaf-of, leaf-at, leaves, leaf-meaning, has-leaf, with-leaf, LeavesSound, HasRoom, Pushed, Pushable, Cites, Cited, AnswerSound, Cleared}
+use Rattle.theory.specs.Memory.Answer.{COUNTS, LEAVES, LEAF-KIND, LEAF-VALUE, answer-room, answer-size, leaves#, leaf-of, leaf-at, leaves, leaf-meaning, has-leaf, with-leaf, LeavesSound, HasRoom, Pushed, Pushable, Cites, Cited, AnswerSound, Cleared}
 use Rattle.theory.proofs.Members.{Apart, apart-length, apart-last, in-either}
 use Rattle.theory.proofs.Explain.{in-seen, label-leaf, cites-in, map-length}
 
@@ -63,11 +63,11 @@ pub leaves-length : (o : List ℕ) → length (leaves o) ≡ leaves# o
 unfolding leaves
 leaves-length o = counted-length (leaf-at o) (leaves# o)
 
-pub leaf-fits : (o : List ℕ) (i : ℕ) → LeavesSound o → i < length (leaves o) → (i < max-terms) × (at o LEAF_KIND i ≤ 65536)
+pub leaf-fits : (o : List ℕ) (i : ℕ) → LeavesSound o → i < length (leaves o) → (i < max-terms) × (at o LEAF-KIND i ≤ 65536)
 leaf-fits o i z h = let n = leaves-length o in let f = z .fit in (omega arith, z .theories i (omega arith))
 
 -- the leaf at a place, by the words k and v that were read there
-module _ (o : List ℕ) (i k v : ℕ) (h : i < length (leaves o)) (e : k ≡ at o LEAF_KIND i) (q : v ≡ at o LEAF_VALUE i) where
+module _ (o : List ℕ) (i k v : ℕ) (h : i < length (leaves o)) (e : k ≡ at o LEAF-KIND i) (q : v ≡ at o LEAF-VALUE i) where
   words-are : leaf-of k v ≡ getD (leaves o) i (AssertedLeaf 0)
   unfolding leaves
   words-are =
@@ -83,8 +83,8 @@ module _ (o : List ℕ) (i k v : ℕ) (h : i < length (leaves o)) (e : k ≡ at 
   leaf-interface d = let p : suc (k - 1) ≡ k = omega arith in ap (λ (m : ℕ). leaf-of m v) p ∙ words-are
 
 -- a leaf looked for, and the leaf at i by the words k and v that were read there
-module _ (o : List ℕ) (i kind value k : ℕ) (p : k ≡ at o LEAF_KIND i) where
-  pub leaf-same : (v : ℕ) → v ≡ at o LEAF_VALUE i → k ≡ kind → eqb value v ≡ same-leaf (leaf-of kind value) (leaf-at o i)
+module _ (o : List ℕ) (i kind value k : ℕ) (p : k ≡ at o LEAF-KIND i) where
+  pub leaf-same : (v : ℕ) → v ≡ at o LEAF-VALUE i → k ≡ kind → eqb value v ≡ same-leaf (leaf-of kind value) (leaf-at o i)
   unfolding leaf-of same-leaf
   leaf-same v r q =
       go kind v ∙ ap₂ (λ (x y : ℕ). same-leaf (leaf-of kind value) (leaf-of x y)) (sym q ∙ p) r
@@ -95,7 +95,7 @@ module _ (o : List ℕ) (i kind value k : ℕ) (p : k ≡ at o LEAF_KIND i) wher
 
   pub leaf-differs : (k ≡ kind → ⊥) → false ≡ same-leaf (leaf-of kind value) (leaf-at o i)
   unfolding leaf-of same-leaf
-  leaf-differs q = go kind (at o LEAF_KIND i) (at o LEAF_VALUE i) (λ e. q (p ∙ sym e))
+  leaf-differs q = go kind (at o LEAF-KIND i) (at o LEAF-VALUE i) (λ e. q (p ∙ sym e))
     where
       go : (j m w : ℕ) → (j ≡ m → ⊥) → false ≡ same-leaf (leaf-of j value) (leaf-of m w)
       go zero zero w d = absurd (d refl)
@@ -135,18 +135,18 @@ module _ (o : List ℕ) (kind value : ℕ) (b : Bool) (z : Pushable o kind value
 record Appended (o u : List ℕ) (n kind value : ℕ) : Type 0 where
   long : answer-size ≤ length u
   count : leaves# u ≡ suc n
-  kinds : (i : ℕ) → i < max-terms → (i ≡ n → ⊥) → at u LEAF_KIND i ≡ at o LEAF_KIND i
-  values : (i : ℕ) → i < max-terms → (i ≡ n → ⊥) → at u LEAF_VALUE i ≡ at o LEAF_VALUE i
-  kind-is : at u LEAF_KIND n ≡ kind
-  value-is : at u LEAF_VALUE n ≡ value
+  kinds : (i : ℕ) → i < max-terms → (i ≡ n → ⊥) → at u LEAF-KIND i ≡ at o LEAF-KIND i
+  values : (i : ℕ) → i < max-terms → (i ≡ n → ⊥) → at u LEAF-VALUE i ≡ at o LEAF-VALUE i
+  kind-is : at u LEAF-KIND n ≡ kind
+  value-is : at u LEAF-VALUE n ≡ value
 
 appended : (o o₁ o₂ u : List ℕ) (n kind value : ℕ) → answer-size ≤ length o → n < max-terms →
-    o₁ ≡ put o LEAF_KIND n kind → o₂ ≡ put o₁ LEAF_VALUE n value → u ≡ put o₂ COUNTS LEAVES (n + 1) → Appended o u n kind value
+    o₁ ≡ put o LEAF-KIND n kind → o₂ ≡ put o₁ LEAF-VALUE n value → u ≡ put o₂ COUNTS LEAVES (n + 1) → Appended o u n kind value
 appended o o₁ o₂ u n kind value l h p q r = search (r, q, p, add-one, stores)
 
 pub pushed-new : {o o₁ o₂ u : List ℕ} {kind value n : ℕ} {b : Bool} → Pushable o kind value →
     b ≡ has-leaf (leaf-of kind value) (leaves o) → b ≡ false → n ≡ leaves# o →
-    o₁ ≡ put o LEAF_KIND n kind → o₂ ≡ put o₁ LEAF_VALUE n value → u ≡ put o₂ COUNTS LEAVES (n + 1) → Pushed o u (leaf-of kind value)
+    o₁ ≡ put o LEAF-KIND n kind → o₂ ≡ put o₁ LEAF-VALUE n value → u ≡ put o₂ COUNTS LEAVES (n + 1) → Pushed o u (leaf-of kind value)
 unfolding leaves
 pushed-new {o} {o₁} {o₂} {u} {kind} {value} {n} {b} z e q m p r s =
     let h = push-fits o kind value b z e n q m in
@@ -162,8 +162,8 @@ pushed-new {o} {o₁} {o₂} {u} {kind} {value} {n} {b} z e q m p r s =
           ∙ sym (ap (λ (x : Bool). cond x (leaves o) (leaves o ++ (leaf-of kind value ∷ []))) (sym e ∙ q));
     }
   where
-    fits : (i : ℕ) → Appended o u n kind value → Dec (i ≡ n) → i < leaves# u → at u LEAF_KIND i ≤ 65536
-    fits i w (yes k) g = let x = ap (at u LEAF_KIND) k ∙ w .kind-is in let y = z .kind-fits in omega arith
+    fits : (i : ℕ) → Appended o u n kind value → Dec (i ≡ n) → i < leaves# u → at u LEAF-KIND i ≤ 65536
+    fits i w (yes k) g = let x = ap (at u LEAF-KIND) k ∙ w .kind-is in let y = z .kind-fits in omega arith
     fits i w (no d) g =
         let c = w .count in
         let f = z .sound .fit in

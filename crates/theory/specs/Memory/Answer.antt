@@ -22,14 +22,14 @@ abbrev pub LEAVES : ℕ
 LEAVES = 0
 
 -- for each leaf 0, or one more than its theory; its literal or its tag
-abbrev pub LEAF_KIND : ℕ
-LEAF_KIND = 1
+abbrev pub LEAF-KIND : ℕ
+LEAF-KIND = 1
 
-abbrev pub LEAF_VALUE : ℕ
-LEAF_VALUE = 1025
+abbrev pub LEAF-VALUE : ℕ
+LEAF-VALUE = 1025
 
 abbrev pub answer-layout : List (ℕ × ℕ)
-answer-layout = (COUNTS, 1) ∷ (LEAF_KIND, max-terms) ∷ (LEAF_VALUE, max-terms) ∷ []
+answer-layout = (COUNTS, 1) ∷ (LEAF-KIND, max-terms) ∷ (LEAF-VALUE, max-terms) ∷ []
 
 abbrev pub answer-room : ℕ → ℕ
 answer-room = room-in answer-layout
@@ -47,7 +47,7 @@ leaf-of zero v = AssertedLeaf v
 leaf-of (suc h) v = InterfaceLeaf h v
 
 abbrev pub leaf-at : List ℕ → ℕ → EqLeaf
-leaf-at o i = leaf-of (at o LEAF_KIND i) (at o LEAF_VALUE i)
+leaf-at o i = leaf-of (at o LEAF-KIND i) (at o LEAF-VALUE i)
 
 unfoldable pub leaves : List ℕ → List EqLeaf
 leaves o = counted (leaf-at o) (leaves# o)
@@ -63,7 +63,7 @@ pub record LeavesSound (o : List ℕ) : Type 0 where
   pub long : answer-size ≤ length o
   pub fit : leaves# o ≤ max-terms
   -- a theory has 16 bits
-  pub theories : (i : ℕ) → i < leaves# o → at o LEAF_KIND i ≤ 65536
+  pub theories : (i : ℕ) → i < leaves# o → at o LEAF-KIND i ≤ 65536
 
 -- does a leaf stand in a list?
 abbrev pub has-leaf : EqLeaf → List EqLeaf → Bool
