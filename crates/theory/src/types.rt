@@ -6,9 +6,8 @@ ghost use mathlib.Core.Path.{_≡_};
 ghost use Prim.Native.Nat.{_<_, _≤_};
 ghost use lib.ListN.{length, getD};
 ghost use Rattle.core.specs.Limits.{max-terms};
-ghost use Rattle.core.specs.Lists.{any};
 ghost use Rattle.theory.specs.Types.{AssertedLeaf, same-leaf};
-ghost use Rattle.theory.specs.Memory.Answer.{answer-size, leaf-of, leaf-at, leaves, leaf-meaning, LeavesSound, HasRoom, Pushable, Pushed, Cleared};
+ghost use Rattle.theory.specs.Memory.Answer.{answer-size, leaf-of, leaf-at, leaves, leaf-meaning, has-leaf, LeavesSound, HasRoom, Pushable, Pushed, Cleared};
 
 // The leaf of another theory: which one, and a tag of its own.
 pub struct TheoryJust {
@@ -86,7 +85,7 @@ fn leaf_is(out: &[u32], i: usize, kind: usize, value: usize) -> bool
 // Does the leaf stand there?
 fn has_leaf(out: &[u32], kind: usize, value: usize) -> bool
     requires { ⌜ LeavesSound (now out) ⌝ }
-    ensures { λ r. ⌜ r ≡ any (same-leaf (leaf-of kind value)) (leaves (now (out .entry))) ⌝ }
+    ensures { λ r. ⌜ r ≡ has-leaf (leaf-of kind value) (leaves (now (out .entry))) ⌝ }
 {
     let n = get_at(out, COUNTS, LEAVES);
     let mut i = 0;

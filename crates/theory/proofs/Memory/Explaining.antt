@@ -15,20 +15,19 @@ use Rattle.core.specs.Memory.Table.{word}
 use Rattle.core.proofs.Lists.{In, T-true, true-T, in-range, map-range-suc}
 use Rattle.theory.specs.Types.{EqJust, Asserted, Congruence, Interface, EqLeaf, AssertedLeaf, InterfaceLeaf}
 use Rattle.theory.specs.EqEngine.{Merge, Step, Explained, are-equal, pairs-of, pairs-in-force, before, common, way, same-pair, visit, cite, path, expand-edge, explain-rec, explain, firsts-after}
-use Rattle.theory.specs.Memory.Replay.{Justified}
-use Rattle.theory.specs.Memory.Table.{left-word, right-word, pair-at, merges#, label-word, value-word, after-word, fparent-word, fedge-word, label, begins, kind-of, just-at, merge-at, pairs-start, merges-below, merges, EngineSound}
+use Rattle.theory.specs.Memory.Replay.{IsNode, Justified}
+use Rattle.theory.specs.Memory.Table.{left-word, right-word, pair-at, merges#, label-word, value-word, after-word, fparent-word, fedge-word, label, begins, just-at, merge-at, pairs-start, merges-below, merges, EngineSound}
 use Rattle.theory.specs.declared.types.EqLeaf as Given
+use Rattle.theory.specs.Memory.Steps.{Upward}
 use Rattle.theory.specs.Memory.Answer.{leaves, leaf-meaning, HasRoom, Pushed, Labels, Cites, AnswerSound}
-use Rattle.theory.specs.Memory.Explaining.{age, pairs-age, steps-age, Part, NewPair, Way, Label, Pairs, part-age, expand-way, expand-new, expand, pairs-from, marked, is-pair, Shows, Explaining, Goes, IsNode, EqualNodes, EqualPair, PairsEqual, WayUp, MarksPair, Explains}
+use Rattle.theory.specs.Memory.Explaining.{age, pairs-age, steps-age, Part, NewPair, Way, Label, Pairs, part-age, expand-way, expand-new, expand, pairs-from, marked, is-pair, Shows, Explaining, Goes, EqualNodes, EqualPair, PairsEqual, MarksPair, Explains}
 use Rattle.theory.proofs.Members.{in-left, in-right}
 use Rattle.theory.proofs.Classes.{Same, same-kept, same-equal, equal-same}
 use Rattle.theory.proofs.Forest.{Forest, Above, at-root, at-step, above-trans, from-step, shorter, longer, before-self, before-step, before-next, climb, way-meets}
 use Rattle.theory.proofs.Explain.{pairs-before}
 use Rattle.theory.proofs.Ages.{pairs-age-in, pairs-age-among, steps-age-in, steps-age-among, age-bound, ways-older}
-use Rattle.theory.proofs.Memory.Nodes.{sound-joins}
+use Rattle.theory.proofs.Memory.Log.{merges-length, sound-joins, after-within, in-force-few}
 use Rattle.theory.proofs.Memory.Walks.{sound-forest, Rises, first-edge}
-use Rattle.theory.proofs.Memory.Log.{merges-length}
-use Rattle.theory.proofs.Memory.Pairs.{after-within, in-force-few}
 use Rattle.theory.proofs.Memory.Leaves.{push-room, push-sound, pushed-firsts}
 
 -- ---- one part after the other, or nothing to do
@@ -89,8 +88,8 @@ visit-shows {t} {a = a} {b = b} k s =
 
 -- n stands above both nodes, and neither way is older than their pair
 pub record Met (t : List ℕ) (a b n : ℕ) : Type 0 where
-  pub left-up : WayUp t a n
-  pub right-up : WayUp t b n
+  pub left-up : Upward t a n
+  pub right-up : Upward t b n
   pub left-older : part-age (merges t) (Way (before n (way (merges t) a))) < part-age (merges t) (NewPair a b)
   pub right-older : part-age (merges t) (Way (before n (way (merges t) b))) < part-age (merges t) (NewPair a b)
 
@@ -101,8 +100,8 @@ met {t} {a} {b} {n} z k q =
     let meet = way-meets (merges t) (sound-joins t z) (sound-forest t z) a b same in
     let older = ways-older (merges t) a b n (z .justified) same q in
     record {
-      left-up = record { within = k .first; above = subst (λ (v : ℕ). Above (way (merges t)) v a) (sym q) (meet .on-x) };
-      right-up = record { within = k .second; above = subst (λ (v : ℕ). Above (way (merges t)) v b) (sym q) (meet .on-y) };
+      left-up = record { sound = z; is-node = k .first; above = subst (λ (v : ℕ). Above (way (merges t)) v a) (sym q) (meet .on-x) };
+      right-up = record { sound = z; is-node = k .second; above = subst (λ (v : ℕ). Above (way (merges t)) v b) (sym q) (meet .on-y) };
       left-older = omega arith;
       right-older = omega arith;
     }
@@ -141,10 +140,10 @@ pub record Walking (t : List ℕ) (node top : ℕ) (m₀ o₀ m o : List ℕ) (n
   pub out-long : length o ≡ length o₀
   pub goes : Goes t m₀ o₀ m o (Way (before n (way (merges t) node)))
 
-pub walk-first : {t m o : List ℕ} {node top : ℕ} → Explaining t m o → WayUp t node top → Walking t node top m o m o node
+pub walk-first : {t m o : List ℕ} {node top : ℕ} → Explaining t m o → Upward t node top → Walking t node top m o m o node
 unfolding expand expand-way
 walk-first {t} {node = node} z u = record {
-  within = u .within;
+  within = u .is-node;
   on = inl refl;
   ahead = u .above;
   marks-long = refl;
@@ -422,7 +421,7 @@ module _ (t o : List ℕ) (i : ℕ) (l : EqLeaf) (z : EngineSound t) (y : Answer
     answer = push-sound (merges t) o u l (y .other) (y .apart) (y .cited) (inr label-cites) p;
     shows = λ d seen e b s.
         subst (Shows t m u seen) (label-expands (just-at t i) k d e)
-        (record { listed = pushed-firsts (leaves o) (leaves u) seen (e .leaves) l (s .listed) (p .listed); marks-are = s .marks-are });
+        (record { listed = pushed-firsts seen (e .leaves) l (s .listed) (p .listed); marks-are = s .marks-are });
   }
 
 -- the pairs of each label are equal
@@ -431,13 +430,13 @@ pairs-same [] J m i p j = absurd i
 pairs-same (n ∷ r) J m i p j = same-kept n r (p .0) (p .1) (pairs-before n r J m i p j)
 
 -- merge i is labelled by the congruence of the pairs from v up to a
-pub record Congruent (t : List ℕ) (i v a : ℕ) : Type 0 where
+pub record LabelPairs (t : List ℕ) (i v a : ℕ) : Type 0 where
   pub ready : PairsEqual t v a
   pub as-old : part-age (merges t) (Pairs (pairs-from t v a)) ≡ part-age (merges t) (Label (just-at t i))
   pub goes : (m o m₁ o₁ : List ℕ) → Goes t m o m₁ o₁ (Pairs (pairs-from t v a)) → Goes t m o m₁ o₁ (Label (just-at t i))
 
 pub edge-congruent : {t : List ℕ} {i k v a : ℕ} → EngineSound t → i < merges# t → k ≡ label-word t i → v ≡ value-word t i → a ≡ after-word t i →
-    k / 65536 % 4 ≡ 1 → Congruent t i v a
+    k / 65536 % 4 ≡ 1 → LabelPairs t i v a
 unfolding merges merge-at pairs-start begins pairs-of expand expand-edge part-age
 edge-congruent {t} {i} {k} {v} {a} z h e q r w =
     let f = z .entries i h .fit .0 in

@@ -22,7 +22,7 @@ use Rattle.theory.specs.EqEngine.{Merge, firsts-after}
 use Rattle.theory.specs.declared.types.EqLeaf as Given
 use Rattle.theory.specs.declared.types.TheoryJust as TheoryJust
 use Rattle.core.specs.declared.ids.Lit as Lit
-use Rattle.theory.specs.Memory.Answer.{COUNTS, LEAVES, LEAF_KIND, LEAF_VALUE, answer-room, answer-size, leaves#, leaf-of, leaf-at, leaves, leaf-meaning, LeavesSound, HasRoom, Pushed, Pushable, Cites, Cited, AnswerSound, Cleared}
+use Rattle.theory.specs.Memory.Answer.{COUNTS, LEAVES, LEAF-KIND, LEAF-VALUE, answer-room, answer-size, leaves#, leaf-of, leaf-at, leaves, leaf-meaning, has-leaf, with-leaf, LeavesSound, HasRoom, Pushed, Pushable, Cites, Cited, AnswerSound, Cleared}
 use Rattle.theory.proofs.Members.{Apart, apart-length, apart-last, in-either}
 use Rattle.theory.proofs.Explain.{in-seen, label-leaf, cites-in, map-length}
 
@@ -31,7 +31,8 @@ use Rattle.theory.proofs.Explain.{in-seen, label-leaf, cites-in, map-le
 other : (t : List ℕ) (b c x y v : ℕ) → T (apart answer-room b c) → x < answer-room b → y < answer-room c → at (put t c y v) b x ≡ at t b x
 other = Stores.other-region answer-room
 
-same : (t : List ℕ) (b x v : ℕ) → T (leb (b + answer-room b) answer-size) → answer-size ≤ length t → x < answer-room b → at (put t b x v) b x ≡ v
+same : (t : List ℕ) (b x v : ℕ) → T (leb (b + answer-room b) answer-size) → answer-size ≤ length t → x < answer-room b →
+    at (put t b x v) b x ≡ v
 same = Stores.same-place answer-room answer-size
 
 long : (t : List ℕ) (b x v : ℕ) → answer-size ≤ length t → answer-size ≤ length (put t b x v)
@@ -62,11 +63,11 @@ pub leaves-length : (o : List ℕ) → length (leaves o) ≡ leaves# o
 unfolding leaves
 leaves-length o = counted-length (leaf-at o) (leaves# o)
 
-pub leaf-fits : (o : List ℕ) (i : ℕ) → LeavesSound o → i < length (leaves o) → (i < max-terms) × (at o LEAF_KIND i ≤ 65536)
+pub leaf-fits : (o : List ℕ) (i : ℕ) → LeavesSound o → i < length (leaves o) → (i < max-terms) × (at o LEAF-KIND i ≤ 65536)
 leaf-fits o i z h = let n = leaves-length o in let f = z .fit in (omega arith, z .theories i (omega arith))
 
 -- the leaf at a place, by the words k and v that were read there
-module _ (o : List ℕ) (i k v : ℕ) (h : i < length (leaves o)) (e : k ≡ at o LEAF_KIND i) (q : v ≡ at o LEAF_VALUE i) where
+module _ (o : List ℕ) (i k v : ℕ) (h : i < length (leaves o)) (e : k ≡ at o LEAF-KIND i) (q : v ≡ at o LEAF-VALUE i) where
   words-are : leaf-of k v ≡ getD (leaves o) i (AssertedLeaf 0)
   unfolding leaves
   words-are =
@@ -81,73 +82,74 @@ module _ (o : List ℕ) (i k v : ℕ) (h : i < length (leaves o)) (e : k ≡ at 
   unfolding leaf-of
   leaf-interface d = let p : suc (k - 1) ≡ k = omega arith in ap (λ (m : ℕ). leaf-of m v) p ∙ words-are
 
--- words of one kind
-pub leaf-same : (o : List ℕ) (i kind value k v : ℕ) → k ≡ at o LEAF_KIND i → k ≡ kind → v ≡ at o LEAF_VALUE i → eqb value v ≡ same-leaf (leaf-of kind value) (leaf-at o i)
-unfolding leaf-of same-leaf
-leaf-same o i kind value k v p q r =
-    ap (eqb value) r ∙ go kind (at o LEAF_VALUE i) ∙ ap (λ (x : ℕ). same-leaf (leaf-of kind value) (leaf-of x (at o LEAF_VALUE i))) (sym q ∙ p)
-  where
-    go : (j w : ℕ) → eqb value w ≡ same-leaf (leaf-of j value) (leaf-of j w)
-    go zero w = refl
-    go (suc h) w = sym (ap (λ (b : Bool). b && eqb value w) (eq-eqb h h refl))
+-- a leaf looked for, and the leaf at i by the words k and v that were read there
+module _ (o : List ℕ) (i kind value k : ℕ) (p : k ≡ at o LEAF-KIND i) where
+  pub leaf-same : (v : ℕ) → v ≡ at o LEAF-VALUE i → k ≡ kind → eqb value v ≡ same-leaf (leaf-of kind value) (leaf-at o i)
+  unfolding leaf-of same-leaf
+  leaf-same v r q =
+      go kind v ∙ ap₂ (λ (x y : ℕ). same-leaf (leaf-of kind value) (leaf-of x y)) (sym q ∙ p) r
+    where
+      go : (j w : ℕ) → eqb value w ≡ same-leaf (leaf-of j value) (leaf-of j w)
+      go zero w = refl
+      go (suc h) w = sym (ap (λ (b : Bool). b && eqb value w) (eq-eqb h h refl))
 
-pub leaf-differs : (o : List ℕ) (i kind value k : ℕ) → k ≡ at o LEAF_KIND i → (k ≡ kind → ⊥) → false ≡ same-leaf (leaf-of kind value) (leaf-at o i)
-unfolding leaf-of same-leaf
-leaf-differs o i kind value k p q = go kind (at o LEAF_KIND i) (λ e. q (p ∙ sym e))
-  where
-    go : (j m : ℕ) → (j ≡ m → ⊥) → false ≡ same-leaf (leaf-of j value) (leaf-of m (at o LEAF_VALUE i))
-    go zero zero d = absurd (d refl)
-    go zero (suc m) d = refl
-    go (suc j) zero d = refl
-    go (suc j) (suc m) d = sym (ap (λ (b : Bool). b && eqb value (at o LEAF_VALUE i)) (ne-eqb j m (λ e. d (ap suc e))))
+  pub leaf-differs : (k ≡ kind → ⊥) → false ≡ same-leaf (leaf-of kind value) (leaf-at o i)
+  unfolding leaf-of same-leaf
+  leaf-differs q = go kind (at o LEAF-KIND i) (at o LEAF-VALUE i) (λ e. q (p ∙ sym e))
+    where
+      go : (j m w : ℕ) → (j ≡ m → ⊥) → false ≡ same-leaf (leaf-of j value) (leaf-of m w)
+      go zero zero w d = absurd (d refl)
+      go zero (suc m) w d = refl
+      go (suc j) zero w d = refl
+      go (suc j) (suc m) w d = sym (ap (λ (b : Bool). b && eqb value w) (ne-eqb j m (λ e. d (ap suc e))))
 
 -- none of the first i leaves is the one looked for
-abbrev pub Looking : List ℕ → ℕ → ℕ → ℕ → Type 0
-Looking o kind value i = NoneFrom (λ k. same-leaf (leaf-of kind value) (leaf-at o k)) 0 i
+abbrev pub Looking : List ℕ → EqLeaf → ℕ → Type 0
+Looking o l i = NoneFrom (λ k. same-leaf l (leaf-at o k)) 0 i
 
-pub look-found : (o : List ℕ) (kind value n i : ℕ) (r : Bool) → n ≡ leaves# o → i < n → r ≡ same-leaf (leaf-of kind value) (leaf-at o i) → r ≡ true → true ≡ any (same-leaf (leaf-of kind value)) (leaves o)
-unfolding leaves
-look-found o kind value n i r m h e q = sym (any-found (same-leaf (leaf-of kind value)) (leaf-at o) (leaves# o) i (omega arith) (sym e ∙ q))
+module _ (o : List ℕ) (l : EqLeaf) (n i : ℕ) (m : n ≡ leaves# o) where
+  pub look-found : (r : Bool) → i < n → r ≡ same-leaf l (leaf-at o i) → r ≡ true → true ≡ has-leaf l (leaves o)
+  unfolding leaves
+  look-found r h e q = sym (any-found (same-leaf l) (leaf-at o) (leaves# o) i (omega arith) (sym e ∙ q))
 
-pub look-missing : (o : List ℕ) (kind value n i : ℕ) → n ≡ leaves# o → Looking o kind value i → n ≤ i → false ≡ any (same-leaf (leaf-of kind value)) (leaves o)
-unfolding leaves
-look-missing o kind value n i m c h = sym (any-missing (same-leaf (leaf-of kind value)) (leaf-at o) (leaves# o) (λ k l g. c k l (omega arith)))
+  pub look-missing : Looking o l i → n ≤ i → false ≡ has-leaf l (leaves o)
+  unfolding leaves
+  look-missing c h = sym (any-missing (same-leaf l) (leaf-at o) (leaves# o) (λ k a g. c k a (omega arith)))
 
 -- ---- appending
 
-pub pushed-old : (o : List ℕ) (kind value : ℕ) (b : Bool) → Pushable o kind value → b ≡ any (same-leaf (leaf-of kind value)) (leaves o) → b ≡ true → Pushed o o (leaf-of kind value)
-pushed-old o kind value b z e q = record {
-  sound = z .sound;
-  listed = sym (ap (λ (x : Bool). cond x (leaves o) (leaves o ++ (leaf-of kind value ∷ []))) (sym e ∙ q));
-}
+module _ (o : List ℕ) (kind value : ℕ) (b : Bool) (z : Pushable o kind value) (e : b ≡ has-leaf (leaf-of kind value) (leaves o)) where
+  pub pushed-old : b ≡ true → Pushed o o (leaf-of kind value)
+  pushed-old q =
+      record { sound = z .sound; listed = sym (ap (λ (x : Bool). cond x (leaves o) (leaves o ++ (leaf-of kind value ∷ []))) (sym e ∙ q)) }
 
--- a leaf that does not stand there yet has room
-pub push-fits : (o : List ℕ) (kind value n : ℕ) (b : Bool) → Pushable o kind value → b ≡ any (same-leaf (leaf-of kind value)) (leaves o) → b ≡ false → n ≡ leaves# o → n < max-terms
-push-fits o kind value n b z e q m = go (z .room)
-  where
-    go : HasRoom o (leaf-of kind value) → n < max-terms
-    go (inl p) = absurd (true≢false (sym p ∙ sym e ∙ q))
-    go (inr l) = omega arith
+  -- a leaf that does not stand there yet has room
+  pub push-fits : (n : ℕ) → b ≡ false → n ≡ leaves# o → n < max-terms
+  push-fits n q m = go (z .room)
+    where
+      go : HasRoom o (leaf-of kind value) → n < max-terms
+      go (inl p) = absurd (true≢false (sym p ∙ sym e ∙ q))
+      go (inr l) = omega (arith, leaves-length o)
 
 -- what the three stores did
 record Appended (o u : List ℕ) (n kind value : ℕ) : Type 0 where
   long : answer-size ≤ length u
   count : leaves# u ≡ suc n
-  kinds : (i : ℕ) → i < max-terms → (i ≡ n → ⊥) → at u LEAF_KIND i ≡ at o LEAF_KIND i
-  values : (i : ℕ) → i < max-terms → (i ≡ n → ⊥) → at u LEAF_VALUE i ≡ at o LEAF_VALUE i
-  kind-is : at u LEAF_KIND n ≡ kind
-  value-is : at u LEAF_VALUE n ≡ value
+  kinds : (i : ℕ) → i < max-terms → (i ≡ n → ⊥) → at u LEAF-KIND i ≡ at o LEAF-KIND i
+  values : (i : ℕ) → i < max-terms → (i ≡ n → ⊥) → at u LEAF-VALUE i ≡ at o LEAF-VALUE i
+  kind-is : at u LEAF-KIND n ≡ kind
+  value-is : at u LEAF-VALUE n ≡ value
 
 appended : (o o₁ o₂ u : List ℕ) (n kind value : ℕ) → answer-size ≤ length o → n < max-terms →
-    o₁ ≡ put o LEAF_KIND n kind → o₂ ≡ put o₁ LEAF_VALUE n value → u ≡ put o₂ COUNTS LEAVES (n + 1) → Appended o u n kind value
+    o₁ ≡ put o LEAF-KIND n kind → o₂ ≡ put o₁ LEAF-VALUE n value → u ≡ put o₂ COUNTS LEAVES (n + 1) → Appended o u n kind value
 appended o o₁ o₂ u n kind value l h p q r = search (r, q, p, add-one, stores)
 
 pub pushed-new : {o o₁ o₂ u : List ℕ} {kind value n : ℕ} {b : Bool} → Pushable o kind value →
-    b ≡ any (same-leaf (leaf-of kind value)) (leaves o) → b ≡ false → n ≡ leaves# o →
-    o₁ ≡ put o LEAF_KIND n kind → o₂ ≡ put o₁ LEAF_VALUE n value → u ≡ put o₂ COUNTS LEAVES (n + 1) → Pushed o u (leaf-of kind value)
+    b ≡ has-leaf (leaf-of kind value) (leaves o) → b ≡ false → n ≡ leaves# o →
+    o₁ ≡ put o LEAF-KIND n kind → o₂ ≡ put o₁ LEAF-VALUE n value → u ≡ put o₂ COUNTS LEAVES (n + 1) → Pushed o u (leaf-of kind value)
 unfolding leaves
 pushed-new {o} {o₁} {o₂} {u} {kind} {value} {n} {b} z e q m p r s =
-    let h = push-fits o kind value n b z e q m in
+    let h = push-fits o kind value b z e n q m in
     let w = appended o o₁ o₂ u n kind value (z .sound .long) h p r s in
     let c = w .count in
     record {
@@ -160,23 +162,24 @@ pushed-new {o} {o₁} {o₂} {u} {kind} {value} {n} {b} z e q m p r s =
           ∙ sym (ap (λ (x : Bool). cond x (leaves o) (leaves o ++ (leaf-of kind value ∷ []))) (sym e ∙ q));
     }
   where
-    fits : (i : ℕ) → Appended o u n kind value → Dec (i ≡ n) → i < leaves# u → at u LEAF_KIND i ≤ 65536
-    fits i w (yes k) g = let x = ap (at u LEAF_KIND) k ∙ w .kind-is in let y = z .kind-fits in omega arith
+    fits : (i : ℕ) → Appended o u n kind value → Dec (i ≡ n) → i < leaves# u → at u LEAF-KIND i ≤ 65536
+    fits i w (yes k) g = let x = ap (at u LEAF-KIND) k ∙ w .kind-is in let y = z .kind-fits in omega arith
     fits i w (no d) g =
         let c = w .count in
         let f = z .sound .fit in
-        let x = w .kinds i (omega arith) d in
-        let y = z .sound .theories i (omega arith) in
-        omega arith
+        omega (arith, w .kinds i (omega arith) d, z .sound .theories i (omega arith))
 
 -- the words of a given leaf
 pub asserted-is : (l : Given.EqLeaf) (p : Lit.Lit) → l ≡ Given.the-variants.Asserted p → leaf-meaning l ≡ leaf-of 0 (p .0)
 unfolding leaf-meaning leaf-of
 asserted-is l p e = ap leaf-meaning e
 
-pub interface-is : (l : Given.EqLeaf) (j : TheoryJust.TheoryJust) → l ≡ Given.the-variants.Interface j → leaf-meaning l ≡ leaf-of (1 + j .theory) (j .tag)
+pub interface-is : (l : Given.EqLeaf) (j : TheoryJust.TheoryJust) → l ≡ Given.the-variants.Interface j →
+    leaf-meaning l ≡ leaf-of (1 + j .theory) (j .tag)
 unfolding leaf-meaning leaf-of
-interface-is l j e = let n : suc (j .theory) ≡ 1 + j .theory = omega arith in ap leaf-meaning e ∙ ap (λ (k : ℕ). leaf-of k (j .tag)) n
+interface-is l j e =
+    let n : suc (j .theory) ≡ 1 + j .theory = omega arith in
+    ap leaf-meaning e ∙ ap (λ (k : ℕ). leaf-of k (j .tag)) n
 
 -- ---- first occurrences
 
@@ -195,34 +198,33 @@ cons-cond : (k : EqLeaf) (b : Bool) (xs ys : List EqLeaf) → k ∷ cond b xs ys
 cons-cond k true xs ys = refl
 cons-cond k false xs ys = refl
 
-append-cond : (us : List EqLeaf) (b : Bool) (xs : List EqLeaf) (l : EqLeaf) → cond b (us ++ xs) ((us ++ xs) ++ (l ∷ [])) ≡ us ++ cond b xs (xs ++ (l ∷ []))
+append-cond : (us : List EqLeaf) (b : Bool) (xs : List EqLeaf) (l : EqLeaf) →
+    cond b (us ++ xs) ((us ++ xs) ++ (l ∷ [])) ≡ us ++ cond b xs (xs ++ (l ∷ []))
 append-cond us true xs l = refl
 append-cond us false xs l = append-assoc us xs (l ∷ [])
 
 -- one leaf more is kept where it stands neither among the first occurrences nor among those seen before
-firsts-more : (ls seen : List EqLeaf) (l : EqLeaf) → firsts-after seen (ls ++ (l ∷ [])) ≡ cond (any (same-leaf l) (seen ++ firsts-after seen ls)) (firsts-after seen ls) (firsts-after seen ls ++ (l ∷ []))
+firsts-more : (ls seen : List EqLeaf) (l : EqLeaf) → let us = firsts-after seen ls in
+    firsts-after seen (ls ++ (l ∷ [])) ≡ cond (has-leaf l (seen ++ us)) us (us ++ (l ∷ []))
 unfolding firsts-after
-firsts-more [] seen l = ap (λ (us : List EqLeaf). cond (any (same-leaf l) us) [] (l ∷ [])) (sym (append-nil seen))
-firsts-more (k ∷ ls) seen l = go (any (same-leaf k) seen) (firsts-more ls seen l) (firsts-more ls (k ∷ seen) l)
+firsts-more [] seen l = ap (λ (us : List EqLeaf). cond (has-leaf l us) [] (l ∷ [])) (sym (append-nil seen))
+firsts-more (k ∷ ls) seen l =
+    go (has-leaf k seen) (firsts-after seen ls) (firsts-after (k ∷ seen) ls) (firsts-more ls seen l) (firsts-more ls (k ∷ seen) l)
   where
-    old : List EqLeaf
-    old = firsts-after seen ls
+    go : (b : Bool) (us vs : List EqLeaf) {xs ys : List EqLeaf} → xs ≡ cond (has-leaf l (seen ++ us)) us (us ++ (l ∷ [])) →
+        ys ≡ cond (has-leaf l ((k ∷ seen) ++ vs)) vs (vs ++ (l ∷ [])) →
+        let ws = cond b us (k ∷ vs) in cond b xs (k ∷ ys) ≡ cond (has-leaf l (seen ++ ws)) ws (ws ++ (l ∷ []))
+    go true us vs e f = e
+    go false us vs e f =
+        ap (λ (ws : List EqLeaf). k ∷ ws) f
+        ∙ cons-cond k (has-leaf l ((k ∷ seen) ++ vs)) vs (vs ++ (l ∷ []))
+        ∙ ap (λ (b : Bool). cond b (k ∷ vs) (k ∷ vs ++ (l ∷ []))) (sym (any-move (same-leaf l) seen k vs))
 
-    new : List EqLeaf
-    new = firsts-after (k ∷ seen) ls
-
-    go : (b : Bool) → firsts-after seen (ls ++ (l ∷ [])) ≡ cond (any (same-leaf l) (seen ++ old)) old (old ++ (l ∷ [])) → firsts-after (k ∷ seen) (ls ++ (l ∷ [])) ≡ cond (any (same-leaf l) ((k ∷ seen) ++ new)) new (new ++ (l ∷ [])) → cond b (firsts-after seen (ls ++ (l ∷ []))) (k ∷ firsts-after (k ∷ seen) (ls ++ (l ∷ []))) ≡ cond (any (same-leaf l) (seen ++ cond b old (k ∷ new))) (cond b old (k ∷ new)) (cond b old (k ∷ new) ++ (l ∷ []))
-    go true e f = e
-    go false e f =
-        ap (λ (us : List EqLeaf). k ∷ us) f
-        ∙ cons-cond k (any (same-leaf l) ((k ∷ seen) ++ new)) new (new ++ (l ∷ []))
-        ∙ ap (λ (b : Bool). cond b (k ∷ new) (k ∷ new ++ (l ∷ []))) (sym (any-move (same-leaf l) seen k new))
-
-pub pushed-firsts : (us vs seen ls : List EqLeaf) (l : EqLeaf) → us ≡ seen ++ firsts-after seen ls → vs ≡ cond (any (same-leaf l) us) us (us ++ (l ∷ [])) → vs ≡ seen ++ firsts-after seen (ls ++ (l ∷ []))
-pushed-firsts us vs seen ls l e q =
-    q
-    ∙ ap (λ (ws : List EqLeaf). cond (any (same-leaf l) ws) ws (ws ++ (l ∷ []))) e
-    ∙ append-cond seen (any (same-leaf l) (seen ++ firsts-after seen ls)) (firsts-after seen ls) l
+pub pushed-firsts : {us vs : List EqLeaf} (seen ls : List EqLeaf) (l : EqLeaf) → us ≡ seen ++ firsts-after seen ls → vs ≡ with-leaf l us →
+    vs ≡ seen ++ firsts-after seen (ls ++ (l ∷ []))
+pushed-firsts seen ls l e q =
+    q ∙ ap (with-leaf l) e
+    ∙ append-cond seen (has-leaf l (seen ++ firsts-after seen ls)) (firsts-after seen ls) l
     ∙ ap (λ (ws : List EqLeaf). seen ++ ws) (sym (firsts-more ls seen l))
 
 -- ---- there is room, and the table stays sound
@@ -238,37 +240,33 @@ few ms other ls a f =
     go l (inr c) = inr (cites-in ms l c)
 
 pub push-room : (ms : List Merge) (o : List ℕ) (l : EqLeaf) → AnswerSound ms o → length ms < max-terms → Cites ms l → HasRoom o l
-push-room ms o l z h c = go (any (same-leaf l) (leaves o)) refl
+push-room ms o l z h c = go (has-leaf l (leaves o)) refl
   where
     more : (k : EqLeaf) → In k (l ∷ leaves o) → (k ≡ z .other) ⊎ Cites ms k
     more k (inl e) = inr (subst (Cites ms) (sym e) c)
     more k (inr i) = z .cited k i
 
-    go : (b : Bool) → any (same-leaf l) (leaves o) ≡ b → HasRoom o l
+    go : (b : Bool) → has-leaf l (leaves o) ≡ b → HasRoom o l
     go true e = inl e
     go false e =
         let g = few ms (z .other) (l ∷ leaves o) (λ i. subst T e (in-seen l (leaves o) i), z .apart) more in
-        let k = leaves-length o in
         inr (omega arith)
 
 -- a leaf pushed that labels a merge, or is the other one
-pub push-sound : (ms : List Merge) (o u : List ℕ) (l other : EqLeaf) → Apart (leaves o) → Cited ms other (leaves o) → (l ≡ other) ⊎ Cites ms l → Pushed o u l → AnswerSound ms u
-push-sound ms o u l other a f c p = go (any (same-leaf l) (leaves o)) refl (p .listed)
+pub push-sound : (ms : List Merge) (o u : List ℕ) (l other : EqLeaf) → Apart (leaves o) → Cited ms other (leaves o) →
+    (l ≡ other) ⊎ Cites ms l → Pushed o u l → AnswerSound ms u
+push-sound ms o u l other a f c p = go (has-leaf l (leaves o)) refl (p .listed)
   where
     made : (ls : List EqLeaf) → leaves u ≡ ls → Apart ls → Cited ms other ls → AnswerSound ms u
-    made ls q b g = record {
-      words = p .sound;
-      apart = subst Apart (sym q) b;
-      other = other;
-      cited = λ k i. g k (subst (λ (ks : List EqLeaf). In k ks) q i);
-    }
+    made ls q b g =
+        record { words = p .sound; apart = subst Apart (sym q) b; other = other; cited = subst (Cited ms other) (sym q) g }
 
     more : (k : EqLeaf) → In k (leaves o) ⊎ In k (l ∷ []) → (k ≡ other) ⊎ Cites ms k
     more k (inl i) = f k i
     more k (inr (inl q)) = subst (λ (j : EqLeaf). (j ≡ other) ⊎ Cites ms j) (sym q) c
     more k (inr (inr i)) = absurd i
 
-    go : (b : Bool) → any (same-leaf l) (leaves o) ≡ b → leaves u ≡ cond b (leaves o) (leaves o ++ (l ∷ [])) → AnswerSound ms u
+    go : (b : Bool) → has-leaf l (leaves o) ≡ b → leaves u ≡ cond b (leaves o) (leaves o ++ (l ∷ [])) → AnswerSound ms u
     go true q e = made (leaves o) e a f
     go false q e =
         made (leaves o ++ (l ∷ [])) e (apart-last (leaves o) l a (λ i. subst T q (in-seen l (leaves o) i)))

@@ -2,7 +2,7 @@
 use Prim.Native.Nat.{ℕ, zero, suc, _+_, _≤_, _<_}
 use mathlib.Core.Path.{_≡_}
 use mathlib.Core.Logic.{_⊎_}
-use mathlib.Core.Bool.{true, cond}
+use mathlib.Core.Bool.{Bool, true, cond}
 use mathlib.Core.List.{List, [], _∷_, _++_}
 use lib.ListN.{length}
 use Rattle.core.specs.Limits.{max-terms}
@@ -22,14 +22,14 @@ abbrev pub LEAVES : ℕ
 LEAVES = 0
 
 -- for each leaf 0, or one more than its theory; its literal or its tag
-abbrev pub LEAF_KIND : ℕ
-LEAF_KIND = 1
+abbrev pub LEAF-KIND : ℕ
+LEAF-KIND = 1
 
-abbrev pub LEAF_VALUE : ℕ
-LEAF_VALUE = 1025
+abbrev pub LEAF-VALUE : ℕ
+LEAF-VALUE = 1025
 
 abbrev pub answer-layout : List (ℕ × ℕ)
-answer-layout = (COUNTS, 1) ∷ (LEAF_KIND, max-terms) ∷ (LEAF_VALUE, max-terms) ∷ []
+answer-layout = (COUNTS, 1) ∷ (LEAF-KIND, max-terms) ∷ (LEAF-VALUE, max-terms) ∷ []
 
 abbrev pub answer-room : ℕ → ℕ
 answer-room = room-in answer-layout
@@ -47,7 +47,7 @@ leaf-of zero v = AssertedLeaf v
 leaf-of (suc h) v = InterfaceLeaf h v
 
 abbrev pub leaf-at : List ℕ → ℕ → EqLeaf
-leaf-at o i = leaf-of (at o LEAF_KIND i) (at o LEAF_VALUE i)
+leaf-at o i = leaf-of (at o LEAF-KIND i) (at o LEAF-VALUE i)
 
 unfoldable pub leaves : List ℕ → List EqLeaf
 leaves o = counted (leaf-at o) (leaves# o)
@@ -63,15 +63,19 @@ pub record LeavesSound (o : List ℕ) : Type 0 where
   pub long : answer-size ≤ length o
   pub fit : leaves# o ≤ max-terms
   -- a theory has 16 bits
-  pub theories : (i : ℕ) → i < leaves# o → at o LEAF_KIND i ≤ 65536
+  pub theories : (i : ℕ) → i < leaves# o → at o LEAF-KIND i ≤ 65536
+
+-- does a leaf stand in a list?
+abbrev pub has-leaf : EqLeaf → List EqLeaf → Bool
+has-leaf l ls = any (same-leaf l) ls
+
+-- the list with one more leaf, unless it stands there
+abbrev pub with-leaf : EqLeaf → List EqLeaf → List EqLeaf
+with-leaf l ls = cond (has-leaf l ls) ls (ls ++ (l ∷ []))
 
 -- a leaf that stands there already, or has room
 abbrev pub HasRoom : List ℕ → EqLeaf → Type 0
-HasRoom o l = (any (same-leaf l) (leaves o) ≡ true) ⊎ (leaves# o < max-terms)
-
--- a leaf list with one more leaf, unless it stands there
-abbrev pub with-leaf : EqLeaf → List EqLeaf → List EqLeaf
-with-leaf l ls = cond (any (same-leaf l) ls) ls (ls ++ (l ∷ []))
+HasRoom o l = (has-leaf l (leaves o) ≡ true) ⊎ (length (leaves o) < max-terms)
 
 pub record Pushed (o u : List ℕ) (l : EqLeaf) : Type 0 where
   pub sound : LeavesSound u

@@ -6,13 +6,13 @@ use mathlib.Core.Bool.{Bool, true, false, cond}
 use mathlib.Core.List.{List, [], _∷_, _++_, map, foldl}
 use lib.Dec.{eqb, leb}
 use lib.ListN.{length}
-use Rattle.core.specs.Limits.{max-terms, max-pairs}
+use Rattle.core.specs.Limits.{max-pairs}
 use Rattle.core.specs.Lists.{any, range}
 use Rattle.core.specs.Memory.Table.{word}
 use Rattle.theory.specs.Types.{EqJust, EqLeaf}
-use Rattle.theory.specs.EqEngine.{Merge, Step, Explained, are-equal, pairs-of, pairs-in-force, way, path, same-pair, visit, expand-edge, explain-rec, explain, firsts-after}
-use Rattle.theory.specs.Memory.Table.{pair-at, merges, EngineSound}
-use Rattle.theory.specs.Memory.Replay.{On}
+use Rattle.theory.specs.EqEngine.{Merge, Step, Explained, are-equal, pairs-of, pairs-in-force, path, same-pair, visit, expand-edge, explain-rec, explain, firsts-after}
+use Rattle.theory.specs.Memory.Replay.{IsNode}
+use Rattle.theory.specs.Memory.Table.{engine-size, pair-at, merges, EngineSound}
 use Rattle.theory.specs.Memory.Answer.{leaves, AnswerSound}
 
 -- ---- ages
@@ -100,9 +100,6 @@ pub record Goes (t marks out marks′ out′ : List ℕ) (p : Part) : Type 0 whe
 
 -- ---- what the functions ask
 
-abbrev pub IsNode : ℕ → Type 0
-IsNode x = x < max-terms
-
 pub record EqualNodes (t : List ℕ) (a b : ℕ) : Type 0 where
   pub first : IsNode a
   pub second : IsNode b
@@ -117,18 +114,13 @@ pub record PairsEqual (t : List ℕ) (from to : ℕ) : Type 0 where
   pub ordered : from ≤ to
   pub each : (j : ℕ) → from ≤ j → j < to → EqualPair t j
 
--- top stands above a node
-pub record WayUp (t : List ℕ) (node top : ℕ) : Type 0 where
-  pub within : IsNode node
-  pub above : On top node (way (merges t) node)
-
 -- ks with a mark at each pair in force that is a and b, in either order
 pub record MarksPair (t : List ℕ) (a b : ℕ) (ks ls : List ℕ) : Type 0 where
   pub each : (j : ℕ) → j < pairs-in-force (merges t) → marked (word ls j) ≡ cond (is-pair t j (a, b)) true (marked (word ks j))
 
 -- argument pair j has words, and a mark
 pub record Markable (t marks : List ℕ) (j : ℕ) : Type 0 where
-  pub engine : 16384 ≤ length t
+  pub engine : engine-size ≤ length t
   pub place : j < max-pairs
   pub long : max-pairs ≤ length marks
 

@@ -15,6 +15,7 @@ use Rattle.theory.specs.Memory.Table.{pair-at, just-at, merges}
 use Rattle.theory.specs.Memory.Explaining.{NewPair, Way, Label, Pairs, part-age, pairs-from}
 use Rattle.theory.proofs.Memory.Explaining.{goes-one, met, goes-two, Walking, walk-first, walk-rises, walk-edge, walk-older, walk-next, walk-done, Pairing, pair-first, pair-older, pair-next, pair-done, pair-few, pair-nodes, pair-new, pair-known, edge-literal, edge-interface, edge-congruent, label-room, label-goes}
 use Rattle.core.proofs.table.get.Reads as get
+use Rattle.core.proofs.table.get_at.Reads as get-at
 use Rattle.theory.proofs.types.push_leaf.Reads as push-leaf
 use Rattle.theory.proofs.eq_engine.forest_nca.Reads as forest-nca
 use Rattle.theory.proofs.eq_engine.mark_pairs.Reads as mark-pairs
@@ -107,22 +108,17 @@ pub +expand-edge+expand-pair+expand-pairs+expand-way+explain-rec-spec : {M : Typ
     μ-expand-pairs
     μ-expand-way
     μ-explain-rec
-    (λ t. expand-edge-lts.spec (get.Asked, get.Learnt, push-leaf.Asked, push-leaf.Learnt, expand-pairs-below t, expand-pairs.Post)
+    (λ t. expand-edge-lts.spec (get-at.Asked, get-at.Learnt, push-leaf.Asked, push-leaf.Learnt, expand-pairs-below t, expand-pairs.Post)
     (expand-edge-at t)
     expand-edge.Post
-    (λ c. search needs)
-    (λ c κs. search needs)
-    (λ c. search needs)
-    (λ c κs. search needs)
-    (λ c. search needs)
+    (λ c κs. search needs) (λ c κs. search needs) (λ c. search needs)
     -- a literal is pushed
     (λ c κs.
     let at-get2 = c .before .before in
     let at-get = at-get2 .before in
     let p = at-get .before .before .before .before .pre .1 in
-    let l = edge-literal _ _ _ _ (at-get .get .ensures .0) (at-get2 .get2 .ensures .0) (c .before .if1 .taken) in
+    let l = edge-literal _ _ _ _ (at-get .get-at .ensures .0) (at-get2 .get-at2 .ensures .0) (c .before .if1 .taken) in
     (p .0 .answer .words, label-room _ _ _ _ (p .0 .engine) (p .0 .answer) (p .1) l))
-    (λ c. search needs)
     (λ c κs. search needs)
     -- the pairs of a congruence
     (λ c κs.
@@ -131,18 +127,18 @@ pub +expand-edge+expand-pair+expand-pairs+expand-way+explain-rec-spec : {M : Typ
     let at-get = at-get2 .before in
     let start = at-get .before .before .before .before in
     let p = start .pre .1 in
-    let w = edge-congruent (p .0 .engine) (p .1) (at-get .get .ensures .0) (at-get2 .get2 .ensures .0) (at-get3 .get3 .ensures .0) (at-get3 .before .if2 .taken) in
+    let w = edge-congruent (p .0 .engine) (p .1) (at-get .get-at .ensures .0) (at-get2 .get-at2 .ensures .0) (at-get3 .get-at3 .ensures .0) (at-get3 .before .if2 .taken) in
     let o = w .as-old in
     let m = start .pre .0 in
     (omega arith, (p .0, w .ready)))
-    (λ c. let h = mod-lt (c .before .before .before .before .get .result) {m = 65536} (omega arith) in omega arith)
+    (λ c. let h = mod-lt (c .before .before .before .before .get-at .result) {m = 65536} (omega arith) in omega arith)
     (λ c. search needs)
     -- an interface leaf is pushed
     (λ c κs.
     let at-get2 = c .before .before .before in
     let at-get = at-get2 .before in
     let p = at-get .before .before .before .before .pre .1 in
-    let l = edge-interface _ _ _ _ (at-get .get .ensures .0) (at-get2 .get2 .ensures .0) (c .before .before .if1 .left) (c .before .if2 .left) in
+    let l = edge-interface _ _ _ _ (at-get .get-at .ensures .0) (at-get2 .get-at2 .ensures .0) (c .before .before .if1 .left) (c .before .if2 .left) in
     (p .0 .answer .words, label-room _ _ _ _ (p .0 .engine) (p .0 .answer) (p .1) l))
     (λ c. c .before .before .push-leaf .kept .0)
     (λ c.
@@ -150,7 +146,7 @@ pub +expand-edge+expand-pair+expand-pairs+expand-way+explain-rec-spec : {M : Typ
     let at-get2 = at-push .before .before .before in
     let at-get = at-get2 .before in
     let p = at-get .before .before .before .before .pre .1 in
-    let l = edge-literal _ _ _ _ (at-get .get .ensures .0) (at-get2 .get2 .ensures .0) (at-push .before .before .if1 .taken) in
+    let l = edge-literal _ _ _ _ (at-get .get-at .ensures .0) (at-get2 .get-at2 .ensures .0) (at-push .before .before .if1 .taken) in
     label-goes _ _ _ _ (p .0 .engine) (p .0 .answer) (p .1) l _ _ (at-push .push-leaf .ensures))
     (λ c. c .before .before .before .before .expand-pairs .kept .1 .1 .1 .0)
     (λ c. c .before .before .before .before .expand-pairs .kept .1 .1 .1 .1 .0)
@@ -160,7 +156,7 @@ pub +expand-edge+expand-pair+expand-pairs+expand-way+explain-rec-spec : {M : Typ
     let at-get2 = at-get3 .before .before .before in
     let at-get = at-get2 .before in
     let p = at-get .before .before .before .before .pre .1 in
-    let w = edge-congruent (p .0 .engine) (p .1) (at-get .get .ensures .0) (at-get2 .get2 .ensures .0) (at-get3 .get3 .ensures .0) (at-get3 .before .if2 .taken) in
+    let w = edge-congruent (p .0 .engine) (p .1) (at-get .get-at .ensures .0) (at-get2 .get-at2 .ensures .0) (at-get3 .get-at3 .ensures .0) (at-get3 .before .if2 .taken) in
     w .goes _ _ _ _ (at-pairs .expand-pairs .ensures))
     (λ c. c .before .before .push-leaf2 .kept .0)
     (λ c.
@@ -169,22 +165,20 @@ pub +expand-edge+expand-pair+expand-pairs+expand-way+explain-rec-spec : {M : Typ
     let at-get2 = at-if2 .before .before in
     let at-get = at-get2 .before in
     let p = at-get .before .before .before .before .pre .1 in
-    let l = edge-interface _ _ _ _ (at-get .get .ensures .0) (at-get2 .get2 .ensures .0) (at-if2 .before .if1 .left) (at-if2 .if2 .left) in
+    let l = edge-interface _ _ _ _ (at-get .get-at .ensures .0) (at-get2 .get-at2 .ensures .0) (at-if2 .before .if1 .left) (at-if2 .if2 .left) in
     label-goes _ _ _ _ (p .0 .engine) (p .0 .answer) (p .1) l _ _ (at-push .push-leaf2 .ensures)))
-    (λ t. expand-pair-lts.spec (get.Asked, get.Learnt, explain-rec-below t, explain-rec.Post)
+    (λ t. expand-pair-lts.spec (get.Asked, get.Learnt, get-at.Asked, get-at.Learnt, explain-rec-below t, explain-rec.Post)
     (expand-pair-at t)
     expand-pair.Post
-    (λ c κs. let p = c .before .before .before .before .pre .1 in let h = pair-few (p .0 .engine) (p .1) in omega arith)
-    (λ c. let p = c .before .before .before .before .before .before .pre .1 in let h = pair-few (p .0 .engine) (p .1) in omega arith)
-    (λ c κs. let p = c .before .before .before .before .before .before .pre .1 in let h = pair-few (p .0 .engine) (p .1) in omega arith)
-    (λ c. let p = c .before .before .before .before .before .before .before .pre .1 in let h = pair-few (p .0 .engine) (p .1) in omega arith)
-    (λ c κs. let p = c .before .before .before .before .before .before .before .pre .1 in let h = pair-few (p .0 .engine) (p .1) in omega arith)
+    (λ c κs. let p = c .before .before .before .before .pre .1 in omega (arith, pair-few (p .0 .engine) (p .1)))
+    (λ c κs. let p = c .before .before .before .before .before .before .pre .1 in omega (arith, pair-few (p .0 .engine) (p .1)))
+    (λ c κs. let p = c .before .before .before .before .before .before .before .pre .1 in omega (arith, pair-few (p .0 .engine) (p .1)))
     -- the pair is explained
     (λ c κs.
-    let at-get3 = c .before .before in
-    let start = at-get3 .before .before .before .before .before .before .before .before in
+    let at-right = c .before .before in
+    let start = at-right .before .before .before .before .before .before .before .before in
     let p = start .pre .1 in
-    let w = pair-nodes (p .1) (at-get3 .before .get2 .ensures .0) (at-get3 .get3 .ensures .0) in
+    let w = pair-nodes (p .1) (at-right .before .get-at .ensures .0) (at-right .get-at2 .ensures .0) in
     let o = w .as-old in
     let m = start .pre .0 in
     (omega arith, (p .0, w .nodes)))
@@ -192,10 +186,10 @@ pub +expand-edge+expand-pair+expand-pairs+expand-way+explain-rec-spec : {M : Typ
     (λ c. c .before .before .before .before .explain-rec .kept .1 .1 .1 .1 .0)
     (λ c.
     let at-rec = c .before .before .before .before in
-    let at-get3 = at-rec .before .before .before in
-    let at-if = at-get3 .before .before in
+    let at-right = at-rec .before .before .before in
+    let at-if = at-right .before .before in
     let p = at-if .before .before .before .before .before .before .pre .1 in
-    let w = pair-nodes (p .1) (at-get3 .before .get2 .ensures .0) (at-get3 .get3 .ensures .0) in
+    let w = pair-nodes (p .1) (at-right .before .get-at .ensures .0) (at-right .get-at2 .ensures .0) in
     pair-new (p .1) w (at-if .before .get .ensures .0) (at-if .if1 .taken) (at-rec .explain-rec .ensures))
     (λ c. search needs)
     (λ c. let p = c .before .before .before .before .before .before .pre .1 in pair-known (p .0) (p .1) (c .before .get .ensures .0) (c .if1 .left)))
@@ -227,32 +221,30 @@ pub +expand-edge+expand-pair+expand-pairs+expand-way+explain-rec-spec : {M : Typ
     (λ c. c .before .loop .inv .marks-long)
     (λ c. c .before .loop .inv .out-long)
     (λ c. pair-done (c .before .loop .inv) (c .loop-test .left)))
-    (λ t. expand-way-lts.spec (get.Asked, get.Learnt, expand-edge-below t, expand-edge.Post)
+    (λ t. expand-way-lts.spec (get-at.Asked, get-at.Learnt, expand-edge-below t, expand-edge.Post)
     (expand-way-at t)
     expand-way.Post
     Inv-way
     μ-way
     (λ c. let p = c .before .before .before .pre .1 in walk-first (p .0) (p .1))
-    (λ c. let w = c .before .loop .inv .within in omega arith)
-    (λ c κs. let w = c .before .loop .inv .within in let l = c .before .before .before .before .before .pre .1 .0 .engine .long in omega arith)
+    (λ c κs. search needs)
     (λ c κs.
     let at-test = c .before .before .before in
     let start = at-test .before .before .before .before .before in
     let p = start .pre .1 in
     let i = at-test .before .loop .inv in
     let h = at-test .loop-test .taken in
-    let e = c .before .before .get .ensures .0 in
+    let e = c .before .before .get-at .ensures .0 in
     let o = walk-older (p .0 .engine) i h e in
     let m = start .pre .0 in
     let l = p .0 .long in
     let k = i .marks-long in
     (omega arith, (record { engine = p .0 .engine; answer = i .goes .answer; long = omega arith }, walk-edge (p .0 .engine) i h e)))
-    (λ c. search needs)
     (λ c κs. search needs)
     (λ c.
     let at-test = c .before .before .before .before .before .before .before .before .before in
     let z = at-test .before .before .before .before .before .pre .1 .0 .engine in
-    let l = walk-rises z (at-test .before .loop .inv) (at-test .loop-test .taken) (c .get2 .ensures .0) .longer in
+    let l = walk-rises z (at-test .before .loop .inv) (at-test .loop-test .taken) (c .get-at2 .ensures .0) .longer in
     omega arith)
     (λ c.
     let at-edge = c .before .before .before .before .before in
@@ -260,7 +252,7 @@ pub +expand-edge+expand-pair+expand-pairs+expand-way+explain-rec-spec : {M : Typ
     let at-test = at-get .before in
     let z = at-test .before .before .before .before .before .pre .1 .0 .engine in
     let kept = at-edge .expand-edge .kept .1 .1 in
-    walk-next z (at-test .before .loop .inv) (at-test .loop-test .taken) (at-get .get .ensures .0) (c .get2 .ensures .0)
+    walk-next z (at-test .before .loop .inv) (at-test .loop-test .taken) (at-get .get-at .ensures .0) (c .get-at2 .ensures .0)
     (at-edge .expand-edge .ensures) (kept .0) (kept .1 .0))
     (λ c. c .before .loop .inv .marks-long)
     (λ c. c .before .loop .inv .out-long)
@@ -272,7 +264,7 @@ pub +expand-edge+expand-pair+expand-pairs+expand-way+explain-rec-spec : {M : Typ
     (λ c κs. let p = c .before .before .before .before .before .pre .1 in (p .0 .engine, p .0 .long))
     (λ c κs.
     let p = c .before .before .before .before .before .before .before .before .pre .1 in
-    (p .0 .engine, p .1 .first, p .1 .second, p .1 .equal))
+    (record { sound = p .0 .engine; first = p .1 .first; second = p .1 .second }, p .1 .equal))
     -- the way of the first node, then of the second
     (λ c κs.
     let at-nca = c .before .before in

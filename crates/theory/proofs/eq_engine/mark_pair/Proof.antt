@@ -7,5 +7,5 @@ use Rattle.theory.proofs.eq_engine.mark_pair.Tie as tie
 pub mark-pair-spec : {M : Type 1} → statement M
 mark-pair-spec =
     tie.close
-    (tie.spec (λ c. search needs) (λ c κs. search needs) (λ c. search needs) (λ c κs. search needs) (λ c κs. search needs)
-    (λ c κs. search needs) (λ c. search needs) (λ c. search mark-one) (λ c. search mark-none))
+    (tie.spec (λ c κs. search needs) (λ c κs. search needs) (λ c κs. search needs) (λ c κs. search needs) (λ c. search needs)
+    (λ c. search mark-one) (λ c. search mark-none))

@@ -2,13 +2,14 @@
 use Prim.Native.Nat.{_-_}
 use mathlib.Core.Path.{sym, _∙_}
 use borrow.Author.Needs.{needs}
+use Rattle.theory.specs.Memory.Answer.{leaf-of}
 use Rattle.core.proofs.Memory.Searching.{none-yet, none-more}
 use Rattle.theory.proofs.Memory.Leaves.{Looking, look-found, look-missing}
 use Rattle.theory.proofs.types.has_leaf.Statement.{statement}
 use Rattle.theory.proofs.types.has_leaf.Tie as tie
 
 abbrev Inv-loop : tie.InvT-loop
-Inv-loop out kind value n i₀ i = Looking out kind value i
+Inv-loop out kind value n i₀ i = Looking out (leaf-of kind value) i
 
 abbrev μ-loop : tie.MeasureT-loop
 μ-loop out kind value n i₀ i = n - i

@@ -11,7 +11,7 @@ put-at-requires-2 c κs =
     let at-get = at-put .before .before in
     let at-if = at-get .before .before in
     let z = at-if .before .before .before .before .pre in
-    let h = push-fits _ _ _ _ _ z (at-if .before .has-leaf .ensures) (at-if .if1 .left) (at-get .get-at .ensures .0) in
+    let h = push-fits _ _ _ _ z (at-if .before .has-leaf .ensures) _ (at-if .if1 .left) (at-get .get-at .ensures .0) in
     let k = at-put .put-at .kept .0 in
     omega arith
 
