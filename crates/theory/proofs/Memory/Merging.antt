@@ -21,10 +21,9 @@ use Rattle.theory.specs.Memory.Table.{engine-size, COUNTS, MERGES, LEVEL
 use Rattle.theory.specs.Memory.Replay.{ups, On}
 use Rattle.theory.specs.Memory.Steps.{SameEntry, SameLog, Upward, SameNode, Turned, Rerooted, Spliced, TwoClasses, united, Entry, logged, Joinable}
 use Rattle.theory.proofs.Members.{in-right}
-use Rattle.theory.proofs.Classes.{turned-sides}
+use Rattle.theory.proofs.Classes.{turned-sides, size-more}
 use Rattle.theory.proofs.Forest.{Forest, Above, above?, Below, below, before-end, apart, end-on, split, back, first-side, turned-above, other-stays, other-root}
-use Rattle.theory.proofs.Sizes.{find-within, size-bound}
-use Rattle.theory.proofs.UnionFind.{size-more, child-within, root-within}
+use Rattle.theory.proofs.Sizes.{find-within, size-bound, child-within, root-within}
 use Rattle.theory.proofs.Memory.EngineStores.{stores}
 use Rattle.theory.proofs.Memory.Log.{level-is, kind-is, theory-is, label-same, merges-length, merges-within, sound-joins}
 use Rattle.theory.proofs.Memory.Walks.{sound-forest, way-within}

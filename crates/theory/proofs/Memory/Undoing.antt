@@ -19,10 +19,10 @@ use Rattle.theory.specs.Memory.Table.{engine-size, COUNTS, MERGES, LEVEL
 use Rattle.theory.specs.Memory.Replay.{ups, On}
 use Rattle.theory.specs.Memory.Steps.{SameLog, Upward, SameNode, Rerooted, Separable, separated, Undoes, newest-above, Drops}
 use Rattle.theory.proofs.Members.{in-right}
-use Rattle.theory.proofs.Classes.{Same, unequal, turned-sides}
+use Rattle.theory.proofs.Classes.{Same, unequal, turned-sides, size-more, roots-apart}
 use Rattle.theory.proofs.Forest.{Joins, Forest, Above, way-over, above?, split, apart, back, new-step, end-on, end-above, step-above, way-forest, step-same, before-skip, before-stop, turned-in, in-turned, turned-above, other-stays, other-root, from-old-root}
-use Rattle.theory.proofs.Sizes.{Within}
-use Rattle.theory.proofs.UnionFind.{size-more, child-within, root-within, roots-apart, child-parent, parent-child, parent-kept}
+use Rattle.theory.proofs.Sizes.{Within, child-within, root-within}
+use Rattle.theory.proofs.UnionFind.{child-parent, parent-child, parent-kept}
 use Rattle.theory.proofs.Memory.EngineStores.{stores}
 use Rattle.theory.proofs.Memory.Log.{merges-within, sound-joins, newest-first}
 use Rattle.theory.proofs.Memory.Walks.{sides-within}
