@@ -10,19 +10,19 @@ use core::table::get;
 use core::table::get_at;
 use core::table::put;
 use core::table::put_at;
-ghost use Prim.Native.Nat.{ℕ, suc, _+_, _<_, _≤_};
+ghost use Prim.Native.Nat.{suc, _+_, _<_, _≤_};
 ghost use mathlib.Core.Path.{_≡_};
 ghost use mathlib.Core.Bool.{true, false, cond, _&&_};
-ghost use mathlib.Core.List.{[], _∷_, _++_};
-ghost use lib.Dec.{eqb, leb};
+ghost use mathlib.Core.List.{[], _∷_};
+ghost use lib.Dec.{eqb};
 ghost use lib.ListN.{length, set};
 ghost use Rattle.core.specs.Lists.{zip};
 ghost use Rattle.theory.specs.Types.{Congruence};
-ghost use Rattle.theory.specs.EqEngine.{child, root, find, are-equal, merge, pop-merges, pairs-of, pairs-in-force, before, common, way, same-pair, explain, firsts-after};
+ghost use Rattle.theory.specs.EqEngine.{child, root, find, are-equal, merge, pairs-in-force, before, common, way, same-pair};
 ghost use Rattle.core.specs.Limits.{max-terms, max-pairs, max-levels};
 ghost use Rattle.core.specs.Memory.Words.{put};
-ghost use Rattle.theory.specs.Memory.Table.{engine-size, PARENT, SIZE, FPARENT, IsNode, merges#, size-word, parent-word, left-word, right-word, pair-at, label, just-at, merges, end, just-meaning, level, EngineSound, Engine, TwoNodes, Merges, Congruent, Pops};
-ghost use Rattle.theory.specs.Memory.Steps.{On, Upward, Rerooted, Spliced, TwoClasses, united, Entry, logged, Joinable, HoldsLabel, PairRoom, Copied, Separable, separated, Undoes, newest-above, Drops};
+ghost use Rattle.theory.specs.Memory.Table.{engine-size, PARENT, SIZE, FPARENT, IsNode, merges#, size-word, parent-word, pair-at, label, just-at, merges, end, just-meaning, level, EngineSound, Engine, TwoNodes, Merges, Congruent, Pops};
+ghost use Rattle.theory.specs.Memory.Steps.{Upward, Rerooted, Spliced, TwoClasses, united, Entry, logged, Joinable, HoldsLabel, PairRoom, Copied, Separable, separated, Undoes, newest-above, Drops};
 ghost use Rattle.theory.specs.Memory.Explaining.{NewPair, Way, Label, Pairs, pairs-from, is-pair, Explaining, Goes, EqualNodes, EqualPair, PairsEqual, MarksPair, Markable, Explainable, Explains};
 
 // ---- the layout of the table (specs/Memory/Table.antt)

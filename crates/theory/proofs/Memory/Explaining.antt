@@ -14,7 +14,7 @@ use Rattle.core.specs.Lists.{any, range}
 use Rattle.core.specs.Memory.Table.{word}
 use Rattle.core.proofs.Lists.{In, T-true, true-T, in-range, map-range-suc}
 use Rattle.theory.specs.Types.{EqJust, Asserted, Congruence, Interface, EqLeaf, AssertedLeaf, InterfaceLeaf}
-use Rattle.theory.specs.EqEngine.{Merge, Step, Explained, are-equal, pairs-of, pairs-in-force, before, common, way, same-pair, visit, cite, path, expand-edge, explain-rec, explain, firsts-after}
+use Rattle.theory.specs.EqEngine.{Merge, Step, Explained, are-equal, pairs-of, before, common, way, same-pair, visit, cite, path, expand-edge, explain-rec, explain, firsts-after}
 use Rattle.theory.specs.Memory.Table.{left-word, right-word, pair-at, merges#, label-word, value-word, after-word, fparent-word, fedge-word, label, begins, IsNode, just-at, merge-at, pairs-start, merges-below, merges, Justified, EngineSound}
 use Rattle.theory.specs.declared.types.EqLeaf as Given
 use Rattle.theory.specs.Memory.Steps.{Upward}

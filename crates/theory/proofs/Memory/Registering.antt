@@ -8,7 +8,7 @@ use native.Mathlib.Decide.{decLt}
 use native.Mathlib.Numerals.{add-one}
 use native.Mathlib.Omega.{arith}
 use borrow.Author.Tests.{ne-eqb}
-use lib.Dec.{T, eqb, leb, lit<}
+use lib.Dec.{T, leb, lit<}
 use lib.ListN.{length}
 use Rattle.core.specs.Limits.{max-vars, max-terms}
 use Rattle.core.specs.Lists.{any, first}
