@@ -23,7 +23,7 @@ ghost use Rattle.core.specs.Limits.{max-terms, max-pairs, max-levels};
 ghost use Rattle.core.specs.Memory.Words.{put};
 ghost use Rattle.theory.specs.Memory.Table.{engine-size, PARENT, SIZE, FPARENT, IsNode, merges#, size-word, parent-word, pair-at, label, just-at, merges, end, just-meaning, level, EngineSound, Engine, TwoNodes, Merges, Congruent, Pops};
 ghost use Rattle.theory.specs.Memory.Steps.{Upward, Rerooted, Spliced, TwoClasses, united, Entry, logged, Joinable, HoldsLabel, PairRoom, Copied, Separable, separated, Undoes, newest-above, Drops};
-ghost use Rattle.theory.specs.Memory.Explaining.{NewPair, Way, Label, Pairs, pairs-from, is-pair, Explaining, Goes, EqualNodes, EqualPair, PairsEqual, MarksPair, Markable, Explainable, Explains};
+ghost use Rattle.theory.specs.Memory.Explaining.{NewPair, Way, Label, Pairs, up-to, pairs-from, is-pair, Explaining, Goes, EqualNodes, EqualPair, PairsEqual, MarksPair, Markable, Explainable, Explains};
 
 // ---- the layout of the table (specs/Memory/Table.antt)
 
@@ -498,7 +498,7 @@ fn explain_rec(t: &[u32], a: usize, b: usize, marks: &mut [u32], out: &mut [u32]
 fn expand_way(t: &[u32], node: usize, top: usize, marks: &mut [u32], out: &mut [u32])
     requires { ⌜ Explaining (now t) (now marks) (now out) × Upward (now t) node top ⌝ }
     ensures { λ _. ⌜ Goes (now (t .entry)) (now (marks .entry)) (now (out .entry)) (now (marks .exit)) (now (out .exit))
-        (Way (before top (way (merges (now (t .entry))) node))) ⌝ }
+        (Way (up-to (now (t .entry)) node top)) ⌝ }
 {
     let mut n = node;
     while n != top {

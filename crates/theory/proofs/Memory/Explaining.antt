@@ -19,7 +19,7 @@ use Rattle.theory.specs.Memory.Table.{left-word, right-word, pair-at, me
 use Rattle.theory.specs.declared.types.EqLeaf as Given
 use Rattle.theory.specs.Memory.Steps.{Upward}
 use Rattle.theory.specs.Memory.Answer.{leaves, leaf-meaning, HasRoom, Pushed, Labels, Cites, AnswerSound}
-use Rattle.theory.specs.Memory.Explaining.{age, pairs-age, steps-age, Part, NewPair, Way, Label, Pairs, part-age, expand-way, expand-new, expand, pairs-from, marked, is-pair, Shows, Explaining, Goes, EqualNodes, EqualPair, PairsEqual, MarksPair, Explains}
+use Rattle.theory.specs.Memory.Explaining.{age, pairs-age, steps-age, Part, NewPair, Way, Label, Pairs, part-age, NotOlder, up-to, expand-way, expand-new, expand, pairs-from, marked, is-pair, Shows, Explaining, Goes, EqualNodes, EqualPair, PairsEqual, MarksPair, Explains}
 use Rattle.theory.proofs.Members.{in-left, in-right}
 use Rattle.theory.proofs.Classes.{Same, same-kept, same-equal, equal-same}
 use Rattle.theory.proofs.Forest.{Forest, Above, at-root, at-step, above-trans, from-step, shorter, longer, before-self, before-step, before-next, climb, way-meets}
@@ -29,10 +29,14 @@ use Rattle.theory.proofs.Memory.Log.{merges-length, sound-joins, after-
 use Rattle.theory.proofs.Memory.Walks.{sound-forest, Rises, first-edge}
 use Rattle.theory.proofs.Memory.Leaves.{push-room, push-sound, pushed-firsts}
 
+-- the nearest common ancestor of two equal nodes
+abbrev nca : List ℕ → ℕ → ℕ → ℕ
+nca t a b = common a (way (merges t) a) b (way (merges t) b)
+
 -- ---- one part after the other, or nothing to do
 
-goes-then : {t m₀ o₀ m₁ o₁ m₂ o₂ : List ℕ} {p q : Part} (r : Part) → part-age (merges t) p ≤ part-age (merges t) r →
-    part-age (merges t) q ≤ part-age (merges t) r →
+goes-then : {t m₀ o₀ m₁ o₁ m₂ o₂ : List ℕ} {p q : Part} (r : Part) → NotOlder t p r →
+    NotOlder t q r →
     ((d : ℕ) (e : Explained) → expand (merges t) q d (expand (merges t) p d e) ≡ expand (merges t) r d e) →
     Goes t m₀ o₀ m₁ o₁ p → Goes t m₁ o₁ m₂ o₂ q → Goes t m₀ o₀ m₂ o₂ r
 goes-then {t} {p = p} r a b h x y = record {
@@ -89,10 +93,10 @@ visit-shows {t} {a = a} {b = b} k s =
 pub record Met (t : List ℕ) (a b n : ℕ) : Type 0 where
   pub left-up : Upward t a n
   pub right-up : Upward t b n
-  pub left-older : part-age (merges t) (Way (before n (way (merges t) a))) < part-age (merges t) (NewPair a b)
-  pub right-older : part-age (merges t) (Way (before n (way (merges t) b))) < part-age (merges t) (NewPair a b)
+  pub left-older : part-age (merges t) (Way (up-to t a n)) < part-age (merges t) (NewPair a b)
+  pub right-older : part-age (merges t) (Way (up-to t b n)) < part-age (merges t) (NewPair a b)
 
-pub met : {t : List ℕ} {a b n : ℕ} → EngineSound t → EqualNodes t a b → n ≡ common a (way (merges t) a) b (way (merges t) b) → Met t a b n
+pub met : {t : List ℕ} {a b n : ℕ} → EngineSound t → EqualNodes t a b → n ≡ nca t a b → Met t a b n
 unfolding part-age
 met {t} {a} {b} {n} z k q =
     let same = equal-same (merges t) a b (true-T (are-equal (merges t) a b) (k .equal)) in
@@ -106,18 +110,18 @@ met {t} {a} {b} {n} z k q =
     }
 
 pub goes-two : {t m o m₁ m₂ o₂ m₃ o₃ : List ℕ} {a b n : ℕ} → EngineSound t → EqualNodes t a b → (a ≡ b → ⊥) → MarksPair t a b m m₁ →
-    n ≡ common a (way (merges t) a) b (way (merges t) b) → Goes t m₁ o m₂ o₂ (Way (before n (way (merges t) a))) →
-    Goes t m₂ o₂ m₃ o₃ (Way (before n (way (merges t) b))) → Goes t m o m₃ o₃ (NewPair a b)
+    n ≡ nca t a b → Goes t m₁ o m₂ o₂ (Way (up-to t a n)) →
+    Goes t m₂ o₂ m₃ o₃ (Way (up-to t b n)) → Goes t m o m₃ o₃ (NewPair a b)
 unfolding expand expand-way path part-age
 goes-two {t} {m} {o} {m₃ = m₃} {o₃ = o₃} {a = a} {b = b} {n = n} z k h marks q x y = record { answer = y .answer; shows = shows }
   where
     W : ℕ → List Step
     W = way (merges t)
 
-    both : (d : ℕ) (e : Explained) → expand-way (merges t) (before n (W b)) d (expand-way (merges t) (before n (W a)) d (visit a b e)) ≡ expand-new (merges t) a b (suc d) e
+    both : (d : ℕ) (e : Explained) → expand-way (merges t) (up-to t b n) d (expand-way (merges t) (up-to t a n) d (visit a b e)) ≡ expand-new (merges t) a b (suc d) e
     both d e =
-        sym (foldl-append (λ (f : Explained) (s : Step). expand-edge (explain-rec d (merges t)) (s .just) f) (visit a b e) (before n (W a)) (before n (W b)))
-        ∙ ap (λ (v : ℕ). expand-way (merges t) (before v (W a) ++ before v (W b)) d (visit a b e)) q
+        sym (foldl-append (λ (f : Explained) (s : Step). expand-edge (explain-rec d (merges t)) (s .just) f) (visit a b e) (up-to t a n) (up-to t b n))
+        ∙ ap (λ (v : ℕ). expand-way (merges t) (up-to t a v ++ up-to t b v) d (visit a b e)) q
         ∙ sym (expand-two (merges t) a b e d h)
 
     shows : (d : ℕ) (seen : List EqLeaf) (e : Explained) → suc (age (merges t) a b) ≤ d → Shows t m o seen e → Shows t m₃ o₃ seen (expand-new (merges t) a b d e)
@@ -125,7 +129,7 @@ goes-two {t} {m} {o} {m₃ = m₃} {o₃ = o₃} {a = a} {b = b} {n = n} z k h m
     shows (suc d) seen e l s =
         let w = met z k q in
         subst (Shows t m₃ o₃ seen) (both d e)
-        (y .shows d seen (expand-way (merges t) (before n (W a)) d (visit a b e)) (let v = w .right-older in omega arith)
+        (y .shows d seen (expand-way (merges t) (up-to t a n) d (visit a b e)) (let v = w .right-older in omega arith)
         (x .shows d seen (visit a b e) (let v = w .left-older in omega arith) (visit-shows marks s)))
 
 -- ---- expand_way
@@ -137,7 +141,7 @@ pub record Walking (t : List ℕ) (node top : ℕ) (m₀ o₀ m o : List ℕ) (n
   pub ahead : Above (way (merges t)) top n
   pub marks-long : length m ≡ length m₀
   pub out-long : length o ≡ length o₀
-  pub goes : Goes t m₀ o₀ m o (Way (before n (way (merges t) node)))
+  pub goes : Goes t m₀ o₀ m o (Way (up-to t node n))
 
 pub walk-first : {t m o : List ℕ} {node top : ℕ} → Explaining t m o → Upward t node top → Walking t node top m o m o node
 unfolding expand expand-way
@@ -148,7 +152,7 @@ walk-first {t} {node = node} z u = record {
   marks-long = refl;
   out-long = refl;
   goes =
-      goes-nothing (Way (before node (way (merges t) node))) (z .answer)
+      goes-nothing (Way (up-to t node node)) (z .answer)
       (λ d e. ap (λ (w : List Step). expand-way (merges t) w d e) (before-self (way (merges t)) (sound-forest t (z .engine)) node));
 }
 
@@ -171,9 +175,9 @@ module _ {t : List ℕ} {node top : ℕ} {m₀ o₀ m o : List ℕ} {n : ℕ} (z
   walk-edge e = let k = walk-rises refl .edge in omega arith
 
   -- the edge above n is one of those from node up to top
-  walk-in : (s : Step) (w : List Step) → W n ≡ s ∷ w → In s (before top (W node))
+  walk-in : (s : Step) (w : List Step) → W n ≡ s ∷ w → In s (up-to t node top)
   walk-in s w p =
-      climb W F (λ x. In s (before top (W x))) n (subst (λ (u : List Step). In s u) (sym (before-step W F top n s w p h)) (inl refl))
+      climb W F (λ x. In s (up-to t x top)) n (subst (λ (u : List Step). In s u) (sym (before-step W F top n s w p h)) (inl refl))
       (λ x u v q k j f. subst (λ (l : List Step). In s l) (sym (before-step W F top x u v q (below x u v q j))) (inr f))
       (W node) node refl (c .on)
     where
@@ -185,12 +189,12 @@ module _ {t : List ℕ} {node top : ℕ} {m₀ o₀ m o : List ℕ} {n : ℕ} (z
           let g = ap (λ (y : ℕ). length (W y)) e in
           omega arith
 
-  pub walk-older : {i : ℕ} → i ≡ fedge-word t n → part-age (merges t) (Label (just-at t i)) ≤ part-age (merges t) (Way (before top (W node)))
+  pub walk-older : {i : ℕ} → i ≡ fedge-word t n → NotOlder t (Label (just-at t i)) (Way (up-to t node top))
   unfolding part-age
   walk-older e =
       let r = walk-rises refl in
-      subst (λ (j : EqJust). pairs-age (merges t) (pairs-of j) ≤ steps-age (merges t) (before top (W node))) (sym (ap (just-at t) e ∙ r .label))
-      (steps-age-in (merges t) (before top (W node)) (r .step) (walk-in (r .step) (r .rest) (r .is)))
+      subst (λ (j : EqJust). pairs-age (merges t) (pairs-of j) ≤ steps-age (merges t) (up-to t node top)) (sym (ap (just-at t) e ∙ r .label))
+      (steps-age-in (merges t) (up-to t node top) (r .step) (walk-in (r .step) (r .rest) (r .is)))
 
   pub walk-next : {i p : ℕ} {m₁ o₁ : List ℕ} → i ≡ fedge-word t n → p ≡ fparent-word t n → Goes t m o m₁ o₁ (Label (just-at t i)) →
       length m₁ ≡ length m → length o₁ ≡ length o → Walking t node top m₀ o₀ m₁ o₁ p
@@ -216,17 +220,17 @@ module _ {t : List ℕ} {node top : ℕ} {m₀ o₀ m o : List ℕ} {n : ℕ} (z
       s = r .step
 
       u : List Step
-      u = before n (W node)
+      u = up-to t node n
 
-      more : before p (W node) ≡ u ++ (s ∷ [])
-      more = ap (λ (v : ℕ). before v (W node)) (sym (r .up)) ∙ before-next W F n node s (r .rest) (c .on) (r .is)
+      more : up-to t node p ≡ u ++ (s ∷ [])
+      more = ap (λ (v : ℕ). up-to t node v) (sym (r .up)) ∙ before-next W F n node s (r .rest) (c .on) (r .is)
 
       up : (top ≡ n) ⊎ Above W top (s .up) → Above W top (s .up)
       up (inl k) = absurd (h (sym k))
       up (inr k) = k
 
-pub walk-done : {t : List ℕ} {node top : ℕ} {m₀ o₀ m o : List ℕ} {n : ℕ} → Walking t node top m₀ o₀ m o n → n ≡ top → Goes t m₀ o₀ m o (Way (before top (way (merges t) node)))
-walk-done {t} {node} {m₀ = m₀} {o₀ = o₀} {m = m} {o = o} c e = subst (λ (v : ℕ). Goes t m₀ o₀ m o (Way (before v (way (merges t) node)))) e (c .goes)
+pub walk-done : {t : List ℕ} {node top : ℕ} {m₀ o₀ m o : List ℕ} {n : ℕ} → Walking t node top m₀ o₀ m o n → n ≡ top → Goes t m₀ o₀ m o (Way (up-to t node top))
+walk-done {t} {node} {m₀ = m₀} {o₀ = o₀} {m = m} {o = o} c e = subst (λ (v : ℕ). Goes t m₀ o₀ m o (Way (up-to t node v))) e (c .goes)
 
 -- ---- expand_pairs
 
@@ -274,7 +278,7 @@ pair-first {t} {from = from} z h = record {
 
 -- one pair is not older than all of them
 pub pair-older : {t : List ℕ} {from to : ℕ} {m₀ o₀ m o : List ℕ} {j : ℕ} → Pairing t from to m₀ o₀ m o j → j < to →
-    part-age (merges t) (Pairs (pair-at t j ∷ [])) ≤ part-age (merges t) (Pairs (pairs-from t from to))
+    NotOlder t (Pairs (pair-at t j ∷ [])) (Pairs (pairs-from t from to))
 unfolding part-age
 pair-older {t} {from} {to} {j = j} c k = pairs-age-among (merges t) (pair-at t j ∷ []) (pairs-from t from to) go
   where
@@ -327,7 +331,7 @@ pair-few {t} z k = let n = in-force-few t z in let l = k .in-force in omega arit
 pub record PairNodes (t : List ℕ) (j x y : ℕ) : Type 0 where
   pub is : (x, y) ≡ pair-at t j
   pub nodes : EqualNodes t x y
-  pub as-old : part-age (merges t) (NewPair x y) ≤ part-age (merges t) (Pairs (pair-at t j ∷ []))
+  pub as-old : NotOlder t (NewPair x y) (Pairs (pair-at t j ∷ []))
 
 pub pair-nodes : {t : List ℕ} {j x y : ℕ} → EqualPair t j → x ≡ left-word t j → y ≡ right-word t j → PairNodes t j x y
 unfolding part-age

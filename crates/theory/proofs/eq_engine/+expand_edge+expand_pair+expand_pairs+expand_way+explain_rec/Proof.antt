@@ -10,9 +10,9 @@ use borrow.Author.Needs.{needs}
 use borrow.Fn.Kinds.{In}
 use borrow.Fn.PlainCycle.{Measures, falls, and}
 use lib.ListN.{length}
-use Rattle.theory.specs.EqEngine.{before, way}
+use Rattle.theory.specs.EqEngine.{way}
 use Rattle.theory.specs.Memory.Table.{pair-at, just-at, merges}
-use Rattle.theory.specs.Memory.Explaining.{NewPair, Way, Label, Pairs, part-age, pairs-from}
+use Rattle.theory.specs.Memory.Explaining.{NewPair, Way, Label, Pairs, part-age, up-to, pairs-from}
 use Rattle.theory.proofs.Memory.Explaining.{goes-one, met, goes-two, Walking, walk-first, walk-rises, walk-edge, walk-older, walk-next, walk-done, Pairing, pair-first, pair-older, pair-next, pair-done, pair-few, pair-nodes, pair-new, pair-known, edge-literal, edge-interface, edge-congruent, label-room, label-goes}
 use Rattle.core.proofs.table.get.Reads as get
 use Rattle.core.proofs.table.get_at.Reads as get-at
@@ -49,7 +49,7 @@ abbrev μ-expand-pairs : Measures 3 expand-pairs-kinds.ps ℕ
 μ-expand-pairs κs a = part-age (merges (a .0 .now)) (Pairs (pairs-from (a .0 .now) (a .1 .0) (a .1 .1 .0))) * 5 + 2
 
 abbrev μ-expand-way : Measures 3 expand-way-kinds.ps ℕ
-μ-expand-way κs a = part-age (merges (a .0 .now)) (Way (before (a .1 .1 .0) (way (merges (a .0 .now)) (a .1 .0)))) * 5 + 4
+μ-expand-way κs a = part-age (merges (a .0 .now)) (Way (up-to (a .0 .now) (a .1 .0) (a .1 .1 .0))) * 5 + 4
 
 abbrev μ-explain-rec : Measures 3 explain-rec-kinds.ps ℕ
 μ-explain-rec κs a = part-age (merges (a .0 .now)) (NewPair (a .1 .0) (a .1 .1 .0)) * 5
