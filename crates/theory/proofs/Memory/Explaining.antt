@@ -3,8 +3,9 @@ use Prim.Native.Nat.{ℕ, zero, suc, _+_, _-_, _/_, _%_, _≤_, _<_}
 use mathlib.Core.Path.{_≡_, refl, sym, subst, ap, ap₂, _∙_}
 use mathlib.Core.Logic.{_⊎_, inl, inr}
 use mathlib.Core.Bool.{Bool, true, false, cond, _||_}
-use mathlib.Core.List.{List, [], _∷_, _++_, map, foldl-append, append-nil}
+use mathlib.Core.List.{List, [], _∷_, _++_, map, foldl-append, append-nil, append-assoc}
 use native.Mathlib.Decide.{ℕ-discrete}
+use native.Mathlib.Numerals.{add-one}
 use native.Mathlib.Omega.{arith}
 use borrow.Author.Tests.{eq-eqb, ne-eqb}
 use lib.Dec.{eqb}
@@ -22,7 +23,7 @@ use Rattle.theory.specs.Memory.Answer.{leaves, leaf-meaning, HasRoom, Pu
 use Rattle.theory.specs.Memory.Explaining.{age, pairs-age, steps-age, Part, NewPair, Way, Label, Pairs, part-age, NotOlder, up-to, expand-way, expand-new, expand, pairs-from, marked, is-pair, Shows, Explaining, Goes, EqualNodes, EqualPair, PairsEqual, MarksPair, Explains}
 use Rattle.theory.proofs.Members.{in-left, in-right}
 use Rattle.theory.proofs.Classes.{Same, same-kept, same-equal, equal-same}
-use Rattle.theory.proofs.Forest.{Forest, Above, at-root, at-step, above-trans, from-step, shorter, longer, before-self, before-step, before-next, climb, way-meets}
+use Rattle.theory.proofs.Forest.{Forest, Above, at-root, at-step, before-self, before-step, way-meets}
 use Rattle.theory.proofs.Explain.{pairs-before}
 use Rattle.theory.proofs.Ages.{pairs-age-in, pairs-age-among, steps-age-in, steps-age-among, age-bound, ways-older}
 use Rattle.theory.proofs.Memory.Log.{merges-length, sound-joins, after-within, in-force-few}
@@ -134,29 +135,31 @@ goes-two {t} {m} {o} {m₃ = m₃} {o₃ = o₃} {a = a} {b = b} {n = n} z k h m
 
 -- ---- expand_way
 
--- the steps from node up to n are expanded, and top stands above n
+-- the steps walked are expanded; those from n up to top are left
 pub record Walking (t : List ℕ) (node top : ℕ) (m₀ o₀ m o : List ℕ) (n : ℕ) : Type 0 where
   pub within : IsNode n
-  pub on : Above (way (merges t)) n node
   pub ahead : Above (way (merges t)) top n
   pub marks-long : length m ≡ length m₀
   pub out-long : length o ≡ length o₀
-  pub goes : Goes t m₀ o₀ m o (Way (up-to t node n))
+  pub walked : List Step
+  pub whole : up-to t node top ≡ walked ++ up-to t n top
+  pub goes : Goes t m₀ o₀ m o (Way walked)
 
 pub walk-first : {t m o : List ℕ} {node top : ℕ} → Explaining t m o → Upward t node top → Walking t node top m o m o node
 unfolding expand expand-way
-walk-first {t} {node = node} z u = record {
+walk-first z u = record {
   within = u .is-node;
-  on = inl refl;
   ahead = u .above;
   marks-long = refl;
   out-long = refl;
-  goes =
-      goes-nothing (Way (up-to t node node)) (z .answer)
-      (λ d e. ap (λ (w : List Step). expand-way (merges t) w d e) (before-self (way (merges t)) (sound-forest t (z .engine)) node));
+  walked = [];
+  whole = refl;
+  goes = goes-nothing (Way []) (z .answer) (λ d e. refl);
 }
 
-module _ {t : List ℕ} {node top : ℕ} {m₀ o₀ m o : List ℕ} {n : ℕ} (z : EngineSound t) (c : Walking t node top m₀ o₀ m o n) (h : n ≡ top → ⊥) where
+-- one step more, from n, which is not top
+module _ {t : List ℕ} {node top : ℕ} {m₀ o₀ m o : List ℕ} {n : ℕ} (z : EngineSound t) (c : Walking t node top m₀ o₀ m o n)
+    (h : n ≡ top → ⊥) where
   abbrev W : ℕ → List Step
   W = way (merges t)
 
@@ -174,143 +177,124 @@ module _ {t : List ℕ} {node top : ℕ} {m₀ o₀ m o : List ℕ} {n : ℕ} (z
   pub walk-edge : {i : ℕ} → i ≡ fedge-word t n → i < merges# t
   walk-edge e = let k = walk-rises refl .edge in omega arith
 
-  -- the edge above n is one of those from node up to top
-  walk-in : (s : Step) (w : List Step) → W n ≡ s ∷ w → In s (up-to t node top)
-  walk-in s w p =
-      climb W F (λ x. In s (up-to t x top)) n (subst (λ (u : List Step). In s u) (sym (before-step W F top n s w p h)) (inl refl))
-      (λ x u v q k j f. subst (λ (l : List Step). In s l) (sym (before-step W F top x u v q (below x u v q j))) (inr f))
-      (W node) node refl (c .on)
-    where
-      below : (x : ℕ) (u : Step) (v : List Step) → W x ≡ u ∷ v → Above W n (u .up) → x ≡ top → ⊥
-      below x u v q j e =
-          let a = longer W F x u v q in
-          let b = shorter W F n (u .up) j in
-          let d = shorter W F top n (c .ahead) in
-          let g = ap (λ (y : ℕ). length (W y)) e in
-          omega arith
+  split-off : {p : ℕ} (r : Rises t n p) → up-to t node top ≡ c .walked ++ (r .step ∷ up-to t p top)
+  split-off r =
+      c .whole
+      ∙ ap (λ (w : List Step). c .walked ++ w)
+      (before-step W F top n (r .step) (r .rest) (r .is) h ∙ ap (λ (v : ℕ). r .step ∷ up-to t v top) (r .up))
 
   pub walk-older : {i : ℕ} → i ≡ fedge-word t n → NotOlder t (Label (just-at t i)) (Way (up-to t node top))
   unfolding part-age
   walk-older e =
       let r = walk-rises refl in
+      let here = in-right (r .step) (c .walked) (r .step ∷ up-to t (fparent-word t n) top) (inl refl) in
       subst (λ (j : EqJust). pairs-age (merges t) (pairs-of j) ≤ steps-age (merges t) (up-to t node top)) (sym (ap (just-at t) e ∙ r .label))
-      (steps-age-in (merges t) (up-to t node top) (r .step) (walk-in (r .step) (r .rest) (r .is)))
+      (steps-age-in (merges t) (up-to t node top) (r .step) (subst (λ (w : List Step). In (r .step) w) (sym (split-off r)) here))
 
   pub walk-next : {i p : ℕ} {m₁ o₁ : List ℕ} → i ≡ fedge-word t n → p ≡ fparent-word t n → Goes t m o m₁ o₁ (Label (just-at t i)) →
       length m₁ ≡ length m → length o₁ ≡ length o → Walking t node top m₀ o₀ m₁ o₁ p
   unfolding expand expand-way part-age
-  walk-next {i} {p} {m₁} {o₁} e q g a b = record {
-    within = r .within;
-    on = subst (λ (v : ℕ). Above W v node) (r .up) (above-trans W F (W node) (s .up) n node refl (c .on) (from-step W F (s .up) n s (r .rest) (r .is) (inl refl)));
-    ahead = subst (λ (v : ℕ). Above W top v) (r .up) (up (at-step W F top n s (r .rest) (r .is) (c .ahead)));
-    marks-long = a ∙ c .marks-long;
-    out-long = b ∙ c .out-long;
-    goes =
-        subst (λ (v : List Step). Goes t m₀ o₀ m₁ o₁ (Way v)) (sym more)
-        (goes-then (Way (u ++ (s ∷ []))) (steps-age-among (merges t) u (u ++ (s ∷ [])) (λ k. in-left k u (s ∷ [])))
-        (steps-age-in (merges t) (u ++ (s ∷ [])) s (in-right s u (s ∷ []) (inl refl)))
-        (λ d f. sym (foldl-append (λ (f′ : Explained) (s′ : Step). expand-edge (explain-rec d (merges t)) (s′ .just) f′) f u (s ∷ [])))
-        (c .goes) (subst (λ (j : EqJust). Goes t m o m₁ o₁ (Label j)) (ap (just-at t) e ∙ r .label) g));
-  }
+  walk-next {i} {p} {m₁} {o₁} e q g a b =
+      let r = walk-rises q in
+      let s = r .step in
+      let w = c .walked in
+      let w′ = w ++ (s ∷ []) in
+      record {
+        within = r .within;
+        ahead = subst (λ (v : ℕ). Above W top v) (r .up) (up (at-step W F top n s (r .rest) (r .is) (c .ahead)));
+        marks-long = a ∙ c .marks-long;
+        out-long = b ∙ c .out-long;
+        walked = w′;
+        whole = split-off r ∙ sym (append-assoc w (s ∷ []) (up-to t p top));
+        goes =
+            goes-then (Way w′) (steps-age-among (merges t) w w′ (λ k. in-left k w (s ∷ [])))
+            (steps-age-in (merges t) w′ s (in-right s w (s ∷ []) (inl refl)))
+            (λ d f. sym (foldl-append (λ (f′ : Explained) (s′ : Step). expand-edge (explain-rec d (merges t)) (s′ .just) f′) f w (s ∷ [])))
+            (c .goes) (subst (λ (j : EqJust). Goes t m o m₁ o₁ (Label j)) (ap (just-at t) e ∙ r .label) g);
+      }
     where
-      r : Rises t n p
-      r = walk-rises q
-
-      s : Step
-      s = r .step
-
-      u : List Step
-      u = up-to t node n
-
-      more : up-to t node p ≡ u ++ (s ∷ [])
-      more = ap (λ (v : ℕ). up-to t node v) (sym (r .up)) ∙ before-next W F n node s (r .rest) (c .on) (r .is)
-
-      up : (top ≡ n) ⊎ Above W top (s .up) → Above W top (s .up)
+      up : {v : ℕ} → (top ≡ n) ⊎ Above W top v → Above W top v
       up (inl k) = absurd (h (sym k))
       up (inr k) = k
 
-pub walk-done : {t : List ℕ} {node top : ℕ} {m₀ o₀ m o : List ℕ} {n : ℕ} → Walking t node top m₀ o₀ m o n → n ≡ top → Goes t m₀ o₀ m o (Way (up-to t node top))
-walk-done {t} {node} {m₀ = m₀} {o₀ = o₀} {m = m} {o = o} c e = subst (λ (v : ℕ). Goes t m₀ o₀ m o (Way (up-to t node v))) e (c .goes)
+pub walk-done : {t : List ℕ} {node top : ℕ} {m₀ o₀ m o : List ℕ} {n : ℕ} → EngineSound t → Walking t node top m₀ o₀ m o n → n ≡ top →
+    Goes t m₀ o₀ m o (Way (up-to t node top))
+walk-done {t} {top = top} {m₀ = m₀} {o₀ = o₀} {m = m} {o = o} z c e =
+    let none-left = ap (λ (v : ℕ). up-to t v top) e ∙ before-self (way (merges t)) (sound-forest t z) top in
+    subst (λ (w : List Step). Goes t m₀ o₀ m o (Way w))
+    (sym (c .whole ∙ ap (λ (w : List Step). c .walked ++ w) none-left ∙ append-nil (c .walked))) (c .goes)
 
 -- ---- expand_pairs
 
--- the pairs up to j are explained
+-- the pairs before j are explained
 pub record Pairing (t : List ℕ) (from to : ℕ) (m₀ o₀ m o : List ℕ) (j : ℕ) : Type 0 where
   pub after : from ≤ j
   pub within : j ≤ to
   pub marks-long : length m ≡ length m₀
   pub out-long : length o ≡ length o₀
-  pub goes : Goes t m₀ o₀ m o (Pairs (pairs-from t from j))
+  pub done : List (ℕ × ℕ)
+  pub whole : pairs-from t from to ≡ done ++ pairs-from t j to
+  pub goes : Goes t m₀ o₀ m o (Pairs done)
 
-pairs-none : (t : List ℕ) (from : ℕ) → pairs-from t from from ≡ []
+pairs-next : (t : List ℕ) (j to : ℕ) → j < to → pairs-from t j to ≡ pair-at t j ∷ pairs-from t (j + 1) to
 unfolding pairs-from range
-pairs-none t from = let e : from - from ≡ 0 = omega arith in ap (λ (n : ℕ). map (pair-at t) (range from n)) e
-
-pairs-last : (t : List ℕ) (from j : ℕ) → from ≤ j → pairs-from t from (j + 1) ≡ pairs-from t from j ++ (pair-at t j ∷ [])
-unfolding pairs-from
-pairs-last t from j h =
-    let count : (j + 1) - from ≡ suc (j - from) = omega arith in
-    let last : from + (j - from) ≡ j = omega arith in
-    ap (λ (n : ℕ). map (pair-at t) (range from n)) count
-    ∙ map-range-suc (pair-at t) from (j - from)
-    ∙ ap (λ (i : ℕ). map (pair-at t) (range from (j - from)) ++ (pair-at t i ∷ [])) last
-
-pair-in : (t : List ℕ) (from to j : ℕ) → from ≤ j → j < to → In (pair-at t j) (pairs-from t from to)
-unfolding pairs-from
-pair-in t from to j h k = go (range from (to - from)) (in-range from (to - from) j h (omega arith))
-  where
-    go : (xs : List ℕ) → In j xs → In (pair-at t j) (map (pair-at t) xs)
-    go [] i = absurd i
-    go (x ∷ xs) (inl e) = inl (ap (pair-at t) e)
-    go (x ∷ xs) (inr i) = inr (go xs i)
+pairs-next t j to h =
+    let count : to - j ≡ suc (to - (j + 1)) = omega arith in
+    ap (λ (n : ℕ). map (pair-at t) (range j n)) count ∙ ap (λ (i : ℕ). pair-at t j ∷ map (pair-at t) (range i (to - (j + 1)))) (sym (add-one j))
 
 pub pair-first : {t m o : List ℕ} {from to : ℕ} → Explaining t m o → from ≤ to → Pairing t from to m o m o from
 unfolding expand
-pair-first {t} {from = from} z h = record {
+pair-first z h = record {
   after = omega arith;
   within = h;
   marks-long = refl;
   out-long = refl;
-  goes =
-      goes-nothing (Pairs (pairs-from t from from)) (z .answer)
-      (λ d e. ap (λ (ps : List (ℕ × ℕ)). expand (merges t) (Pairs ps) d e) (pairs-none t from));
+  done = [];
+  whole = refl;
+  goes = goes-nothing (Pairs []) (z .answer) (λ d e. refl);
 }
 
--- one pair is not older than all of them
-pub pair-older : {t : List ℕ} {from to : ℕ} {m₀ o₀ m o : List ℕ} {j : ℕ} → Pairing t from to m₀ o₀ m o j → j < to →
-    NotOlder t (Pairs (pair-at t j ∷ [])) (Pairs (pairs-from t from to))
-unfolding part-age
-pair-older {t} {from} {to} {j = j} c k = pairs-age-among (merges t) (pair-at t j ∷ []) (pairs-from t from to) go
-  where
-    go : (p : ℕ × ℕ) → In p (pair-at t j ∷ []) → In p (pairs-from t from to)
-    go p (inl e) = subst (λ (q : ℕ × ℕ). In q (pairs-from t from to)) (sym e) (pair-in t from to j (c .after) k)
-    go p (inr i) = absurd i
+module _ {t : List ℕ} {from to : ℕ} {m₀ o₀ m o : List ℕ} {j : ℕ} (c : Pairing t from to m₀ o₀ m o j) (h : j < to) where
+  one-off : pairs-from t from to ≡ c .done ++ (pair-at t j ∷ pairs-from t (j + 1) to)
+  one-off = c .whole ∙ ap (λ (ps : List (ℕ × ℕ)). c .done ++ ps) (pairs-next t j to h)
 
-pub pair-next : {t : List ℕ} {from to : ℕ} {m₀ o₀ m o m₁ o₁ : List ℕ} {j : ℕ} → Pairing t from to m₀ o₀ m o j → j < to →
-    Goes t m o m₁ o₁ (Pairs (pair-at t j ∷ [])) → length m₁ ≡ length m → length o₁ ≡ length o → Pairing t from to m₀ o₀ m₁ o₁ (j + 1)
-unfolding expand part-age
-pair-next {t} {from} {m₀ = m₀} {o₀ = o₀} {m₁ = m₁} {o₁ = o₁} {j = j} c h g a b =
-    let f = c .after in
-    let us = pairs-from t from j in
-    let vs : List (ℕ × ℕ) = pair-at t j ∷ [] in
-    record {
-      after = omega arith;
-      within = omega arith;
-      marks-long = a ∙ c .marks-long;
-      out-long = b ∙ c .out-long;
-      goes =
-          subst (λ (ps : List (ℕ × ℕ)). Goes t m₀ o₀ m₁ o₁ (Pairs ps)) (sym (pairs-last t from j f))
-          (goes-then (Pairs (us ++ vs)) (pairs-age-among (merges t) us (us ++ vs) (λ p. in-left p us vs))
-          (pairs-age-among (merges t) vs (us ++ vs) (λ p. in-right p us vs))
-          (λ d e. sym (foldl-append (λ (e′ : Explained) (p : ℕ × ℕ). explain-rec d (merges t) (p .0) (p .1) e′) e us vs))
-          (c .goes) g);
-    }
+  pub pair-older : NotOlder t (Pairs (pair-at t j ∷ [])) (Pairs (pairs-from t from to))
+  unfolding part-age
+  pair-older = pairs-age-among (merges t) (pair-at t j ∷ []) (pairs-from t from to) go
+    where
+      go : (p : ℕ × ℕ) → In p (pair-at t j ∷ []) → In p (pairs-from t from to)
+      go p (inl e) = subst (λ (ps : List (ℕ × ℕ)). In p ps) (sym one-off) (in-right p (c .done) (pair-at t j ∷ pairs-from t (j + 1) to) (inl e))
+      go p (inr i) = absurd i
 
-pub pair-done : {t : List ℕ} {from to : ℕ} {m₀ o₀ m o : List ℕ} {j : ℕ} → Pairing t from to m₀ o₀ m o j → to ≤ j → Goes t m₀ o₀ m o (Pairs (pairs-from t from to))
+  pub pair-next : {m₁ o₁ : List ℕ} → Goes t m o m₁ o₁ (Pairs (pair-at t j ∷ [])) → length m₁ ≡ length m → length o₁ ≡ length o →
+      Pairing t from to m₀ o₀ m₁ o₁ (j + 1)
+  unfolding expand part-age
+  pair-next g a b =
+      let f = c .after in
+      let us = c .done in
+      let vs : List (ℕ × ℕ) = pair-at t j ∷ [] in
+      record {
+        after = omega arith;
+        within = omega arith;
+        marks-long = a ∙ c .marks-long;
+        out-long = b ∙ c .out-long;
+        done = us ++ vs;
+        whole = one-off ∙ sym (append-assoc us vs (pairs-from t (j + 1) to));
+        goes =
+            goes-then (Pairs (us ++ vs)) (pairs-age-among (merges t) us (us ++ vs) (λ p. in-left p us vs))
+            (pairs-age-among (merges t) vs (us ++ vs) (λ p. in-right p us vs))
+            (λ d e. sym (foldl-append (λ (e′ : Explained) (p : ℕ × ℕ). explain-rec d (merges t) (p .0) (p .1) e′) e us vs))
+            (c .goes) g;
+      }
+
+pub pair-done : {t : List ℕ} {from to : ℕ} {m₀ o₀ m o : List ℕ} {j : ℕ} → Pairing t from to m₀ o₀ m o j → to ≤ j →
+    Goes t m₀ o₀ m o (Pairs (pairs-from t from to))
+unfolding pairs-from range
 pair-done {t} {from} {to} {m₀} {o₀} {m} {o} {j} c h =
-    let k = c .within in
-    let e : j ≡ to = omega arith in
-    subst (λ (i : ℕ). Goes t m₀ o₀ m o (Pairs (pairs-from t from i))) e (c .goes)
+    let e : to - j ≡ 0 = omega arith in
+    let none-left : pairs-from t j to ≡ [] = ap (λ (n : ℕ). map (pair-at t) (range j n)) e in
+    subst (λ (ps : List (ℕ × ℕ)). Goes t m₀ o₀ m o (Pairs ps))
+    (sym (c .whole ∙ ap (λ (ps : List (ℕ × ℕ)). c .done ++ ps) none-left ∙ append-nil (c .done))) (c .goes)
 
 -- ---- expand_pair
 
@@ -431,6 +415,15 @@ module _ (t o : List ℕ) (i : ℕ) (l : EqLeaf) (z : EngineSound t) (y : Answer
 pairs-same : (ms : List Merge) → Justified ms → (m : Merge) → In m ms → (p : ℕ × ℕ) → In p (pairs-of (m .just)) → Same ms (p .0) (p .1)
 pairs-same [] J m i p j = absurd i
 pairs-same (n ∷ r) J m i p j = same-kept n r (p .0) (p .1) (pairs-before n r J m i p j)
+
+pair-in : (t : List ℕ) (from to j : ℕ) → from ≤ j → j < to → In (pair-at t j) (pairs-from t from to)
+unfolding pairs-from
+pair-in t from to j h k = go (range from (to - from)) (in-range from (to - from) j h (omega arith))
+  where
+    go : (xs : List ℕ) → In j xs → In (pair-at t j) (map (pair-at t) xs)
+    go [] i = absurd i
+    go (x ∷ xs) (inl e) = inl (ap (pair-at t) e)
+    go (x ∷ xs) (inr i) = inr (go xs i)
 
 -- merge i is labelled by the congruence of the pairs from v up to a
 pub record LabelPairs (t : List ℕ) (i v a : ℕ) : Type 0 where

@@ -230,7 +230,7 @@ pub +expand-edge+expand-pair+expand-pairs+expand-way+explain-rec-spec : {M : Typ
     walk-next z (at-test .before .loop .inv) (at-test .loop-test .taken) (at-get .get-at .ensures .0) (c .get-at2 .ensures .0)
     (at-edge .expand-edge .ensures) (kept .0) (kept .1 .0))
     (λ c. c .before .loop .inv .marks-long) (λ c. c .before .loop .inv .out-long)
-    (λ c. walk-done (c .before .loop .inv) (c .loop-test .left)))
+    (λ c. walk-done (c .before .before .before .before .before .pre .1 .0 .engine) (c .before .loop .inv) (c .loop-test .left)))
     λ t. explain-rec-lts.spec (mark-pairs.Asked, mark-pairs.Learnt, forest-nca.Asked, forest-nca.Learnt, expand-way-below t, expand-way.Post)
     _ explain-rec.Post
     (λ c. goes-one (c .before .before .before .before .pre .1 .0) (c .if1 .taken))
