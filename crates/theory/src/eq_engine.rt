@@ -515,7 +515,7 @@ fn expand_edge(t: &[u32], i: usize, marks: &mut [u32], out: &mut [u32])
 {
     let word = get_at(t, LABEL, i);
     let value = get_at(t, VALUE, i);
-    let kind = word / 65536 % 4;
+    let kind = word / KIND_UNIT % 4;
     if kind == 0 {
         push_leaf(out, EqLeaf::Asserted(Lit(value as u32)));
     } else if kind == 1 {
@@ -524,7 +524,7 @@ fn expand_edge(t: &[u32], i: usize, marks: &mut [u32], out: &mut [u32])
         push_leaf(
             out,
             EqLeaf::Interface(TheoryJust {
-                theory: (word % 65536) as u16,
+                theory: (word % KIND_UNIT) as u16,
                 tag: value as u32,
             }),
         );

@@ -1,8 +1,8 @@
 -- What each step of an explanation does to the marks and to the answer table.
-use Prim.Native.Nat.{ℕ, zero, suc, _+_, _-_, _/_, _%_, _≤_, _<_}
+use Prim.Native.Nat.{ℕ, zero, suc, _+_, _-_, _≤_, _<_}
 use mathlib.Core.Path.{_≡_, refl, sym, subst, ap, ap₂, _∙_}
 use mathlib.Core.Logic.{_⊎_, inl, inr}
-use mathlib.Core.Bool.{Bool, true, false, cond, _||_}
+use mathlib.Core.Bool.{Bool, true, false, cond, _||_, or-false, or-true}
 use mathlib.Core.List.{List, [], _∷_, _++_, map, foldl-append, append-nil, append-assoc}
 use native.Mathlib.Decide.{ℕ-discrete}
 use native.Mathlib.Numerals.{add-one}
@@ -16,7 +16,7 @@ use Rattle.core.specs.Memory.Table.{word}
 use Rattle.core.proofs.Lists.{In, T-true, true-T, in-range, map-range-suc}
 use Rattle.theory.specs.Types.{EqJust, Asserted, Congruence, Interface, EqLeaf, AssertedLeaf, InterfaceLeaf}
 use Rattle.theory.specs.EqEngine.{Merge, Step, Explained, are-equal, pairs-of, before, common, way, same-pair, visit, cite, path, expand-edge, explain-rec, explain, firsts-after}
-use Rattle.theory.specs.Memory.Table.{left-word, right-word, pair-at, merges#, label-word, value-word, after-word, fparent-word, fedge-word, label, begins, IsNode, just-at, merge-at, pairs-start, merges-below, merges, Justified, EngineSound}
+use Rattle.theory.specs.Memory.Table.{left-word, right-word, pair-at, merges#, label-word, value-word, after-word, fparent-word, fedge-word, label, begins, kind-of, theory-of, IsNode, just-at, merge-at, pairs-start, merges-below, merges, Justified, EngineSound}
 use Rattle.theory.specs.declared.types.EqLeaf as Given
 use Rattle.theory.specs.Memory.Steps.{Upward}
 use Rattle.theory.specs.Memory.Answer.{leaves, leaf-meaning, HasRoom, Pushed, Labels, Cites, AnswerSound}
@@ -36,8 +36,7 @@ nca t a b = common a (way (merges t) a) b (way (merges t) b)
 
 -- ---- one part after the other, or nothing to do
 
-goes-then : {t m₀ o₀ m₁ o₁ m₂ o₂ : List ℕ} {p q : Part} (r : Part) → NotOlder t p r →
-    NotOlder t q r →
+goes-then : {t m₀ o₀ m₁ o₁ m₂ o₂ : List ℕ} {p q : Part} (r : Part) → NotOlder t p r → NotOlder t q r →
     ((d : ℕ) (e : Explained) → expand (merges t) q d (expand (merges t) p d e) ≡ expand (merges t) r d e) →
     Goes t m₀ o₀ m₁ o₁ p → Goes t m₁ o₁ m₂ o₂ q → Goes t m₀ o₀ m₂ o₂ r
 goes-then {t} {p = p} r a b h x y = record {
@@ -45,7 +44,8 @@ goes-then {t} {p = p} r a b h x y = record {
   shows = λ d seen e n s. rw (h d e) at (y .shows d seen (expand (merges t) p d e) (omega arith) (x .shows d seen e (omega arith) s));
 }
 
-goes-nothing : {t m o : List ℕ} (p : Part) → AnswerSound (merges t) o → ((d : ℕ) (e : Explained) → expand (merges t) p d e ≡ e) → Goes t m o m o p
+goes-nothing : {t m o : List ℕ} (p : Part) → AnswerSound (merges t) o → ((d : ℕ) (e : Explained) → expand (merges t) p d e ≡ e) →
+    Goes t m o m o p
 goes-nothing {t} {m} {o} p z h = record { answer = z; shows = λ d seen e n s. subst (Shows t m o seen) (sym (h d e)) s }
 
 -- ---- a pair that is new, or has been expanded
@@ -64,20 +64,16 @@ module _ (ms : List Merge) (x y : ℕ) (e : Explained) where
   new-is : (d : ℕ) → any (same-pair x y) (e .visited) ≡ false → expand-new ms x y d e ≡ explain-rec d ms x y e
   unfolding expand-new explain-rec expand-way
   new-is zero q = refl
-  new-is (suc d) q = ap (λ (b : Bool). cond b e (expand-way ms (path ms x y) d (visit x y e))) (go (eqb x y) q)
-    where
-      go : (a : Bool) {b : Bool} → b ≡ false → a ≡ (a || b)
-      go true q = refl
-      go false q = sym q
+  new-is (suc d) q =
+      ap (λ (b : Bool). cond b e (expand-way ms (path ms x y) d (visit x y e)))
+      (sym (ap (λ (b : Bool). eqb x y || b) q ∙ or-false (eqb x y)))
 
   skip-is : (d : ℕ) → any (same-pair x y) (e .visited) ≡ true → e ≡ explain-rec d ms x y e
   unfolding explain-rec expand-way
   skip-is zero q = refl
-  skip-is (suc d) q = sym (ap (λ (b : Bool). cond b e (expand-way ms (path ms x y) d (visit x y e))) (go (eqb x y) q))
-    where
-      go : (a : Bool) {b : Bool} → b ≡ true → (a || b) ≡ true
-      go true q = refl
-      go false q = q
+  skip-is (suc d) q =
+      sym
+      (ap (λ (b : Bool). cond b e (expand-way ms (path ms x y) d (visit x y e))) (ap (λ (b : Bool). eqb x y || b) q ∙ or-true (eqb x y)))
 
 -- ---- explain_rec
 
@@ -85,7 +81,8 @@ pub goes-one : {t m o : List ℕ} {a b : ℕ} → Explaining t m o → a ≡ b �
 unfolding expand
 goes-one {t} {a = a} {b = b} z q = goes-nothing (NewPair a b) (z .answer) (λ d e. expand-one (merges t) a b e d q)
 
-visit-shows : {t m m₁ o : List ℕ} {a b : ℕ} {seen : List EqLeaf} {e : Explained} → MarksPair t a b m m₁ → Shows t m o seen e → Shows t m₁ o seen (visit a b e)
+visit-shows : {t m m₁ o : List ℕ} {a b : ℕ} {seen : List EqLeaf} {e : Explained} → MarksPair t a b m m₁ → Shows t m o seen e →
+    Shows t m₁ o seen (visit a b e)
 unfolding visit any
 visit-shows {t} {a = a} {b = b} k s =
     record { listed = s .listed; marks-are = λ j h. k .each j h ∙ ap (cond (is-pair t j (a, b)) true) (s .marks-are j h) }
@@ -111,27 +108,28 @@ met {t} {a} {b} {n} z k q =
     }
 
 pub goes-two : {t m o m₁ m₂ o₂ m₃ o₃ : List ℕ} {a b n : ℕ} → EngineSound t → EqualNodes t a b → (a ≡ b → ⊥) → MarksPair t a b m m₁ →
-    n ≡ nca t a b → Goes t m₁ o m₂ o₂ (Way (up-to t a n)) →
-    Goes t m₂ o₂ m₃ o₃ (Way (up-to t b n)) → Goes t m o m₃ o₃ (NewPair a b)
+    n ≡ nca t a b → Goes t m₁ o m₂ o₂ (Way (up-to t a n)) → Goes t m₂ o₂ m₃ o₃ (Way (up-to t b n)) → Goes t m o m₃ o₃ (NewPair a b)
 unfolding expand expand-way path part-age
 goes-two {t} {m} {o} {m₃ = m₃} {o₃ = o₃} {a = a} {b = b} {n = n} z k h marks q x y = record { answer = y .answer; shows = shows }
   where
-    W : ℕ → List Step
-    W = way (merges t)
+    first : ℕ → Explained → Explained
+    first d e = expand-way (merges t) (up-to t a n) d (visit a b e)
 
-    both : (d : ℕ) (e : Explained) → expand-way (merges t) (up-to t b n) d (expand-way (merges t) (up-to t a n) d (visit a b e)) ≡ expand-new (merges t) a b (suc d) e
+    both : (d : ℕ) (e : Explained) → expand-way (merges t) (up-to t b n) d (first d e) ≡ expand-new (merges t) a b (suc d) e
     both d e =
         sym (foldl-append (λ (f : Explained) (s : Step). expand-edge (explain-rec d (merges t)) (s .just) f) (visit a b e) (up-to t a n) (up-to t b n))
         ∙ ap (λ (v : ℕ). expand-way (merges t) (up-to t a v ++ up-to t b v) d (visit a b e)) q
         ∙ sym (expand-two (merges t) a b e d h)
 
-    shows : (d : ℕ) (seen : List EqLeaf) (e : Explained) → suc (age (merges t) a b) ≤ d → Shows t m o seen e → Shows t m₃ o₃ seen (expand-new (merges t) a b d e)
+    shows : (d : ℕ) (seen : List EqLeaf) (e : Explained) → suc (age (merges t) a b) ≤ d → Shows t m o seen e →
+        Shows t m₃ o₃ seen (expand-new (merges t) a b d e)
     shows zero seen e l s = absurd (omega arith)
     shows (suc d) seen e l s =
         let w = met z k q in
+        let v = w .left-older in
+        let u = w .right-older in
         subst (Shows t m₃ o₃ seen) (both d e)
-        (y .shows d seen (expand-way (merges t) (up-to t a n) d (visit a b e)) (let v = w .right-older in omega arith)
-        (x .shows d seen (visit a b e) (let v = w .left-older in omega arith) (visit-shows marks s)))
+        (y .shows d seen (first d e) (omega arith) (x .shows d seen (visit a b e) (omega arith) (visit-shows marks s)))
 
 -- ---- expand_way
 
@@ -147,15 +145,9 @@ pub record Walking (t : List ℕ) (node top : ℕ) (m₀ o₀ m o : List ℕ) (n
 
 pub walk-first : {t m o : List ℕ} {node top : ℕ} → Explaining t m o → Upward t node top → Walking t node top m o m o node
 unfolding expand expand-way
-walk-first z u = record {
-  within = u .is-node;
-  ahead = u .above;
-  marks-long = refl;
-  out-long = refl;
-  walked = [];
-  whole = refl;
-  goes = goes-nothing (Way []) (z .answer) (λ d e. refl);
-}
+walk-first z u =
+    let goes = goes-nothing (Way []) (z .answer) (λ d e. refl) in
+    record { within = u .is-node; ahead = u .above; marks-long = refl; out-long = refl; walked = []; whole = refl; goes = goes }
 
 -- one step more, from n, which is not top
 module _ {t : List ℕ} {node top : ℕ} {m₀ o₀ m o : List ℕ} {n : ℕ} (z : EngineSound t) (c : Walking t node top m₀ o₀ m o n)
@@ -244,15 +236,9 @@ pairs-next t j to h =
 
 pub pair-first : {t m o : List ℕ} {from to : ℕ} → Explaining t m o → from ≤ to → Pairing t from to m o m o from
 unfolding expand
-pair-first z h = record {
-  after = omega arith;
-  within = h;
-  marks-long = refl;
-  out-long = refl;
-  done = [];
-  whole = refl;
-  goes = goes-nothing (Pairs []) (z .answer) (λ d e. refl);
-}
+pair-first z h =
+    let goes = goes-nothing (Pairs []) (z .answer) (λ d e. refl) in
+    record { after = omega arith; within = h; marks-long = refl; out-long = refl; done = []; whole = refl; goes = goes }
 
 module _ {t : List ℕ} {from to : ℕ} {m₀ o₀ m o : List ℕ} {j : ℕ} (c : Pairing t from to m₀ o₀ m o j) (h : j < to) where
   one-off : pairs-from t from to ≡ c .done ++ (pair-at t j ∷ pairs-from t (j + 1) to)
@@ -298,10 +284,6 @@ pair-done {t} {from} {to} {m₀} {o₀} {m} {o} {j} c h =
 
 -- ---- expand_pair
 
-marked-zero : (w : ℕ) → w ≡ 0 → marked w ≡ false
-unfolding marked
-marked-zero w e = ap marked e
-
 marked-other : (w : ℕ) → (w ≡ 0 → ⊥) → marked w ≡ true
 unfolding marked
 marked-other zero h = absurd (h refl)
@@ -327,26 +309,32 @@ pair-nodes {t} {j} {x} {y} k p q =
       as-old = pairs-age-in (merges t) (pair-at t j ∷ []) (x, y) (inl e);
     }
 
-pub pair-new : {t m o m₁ o₁ : List ℕ} {j w x y : ℕ} → EqualPair t j → PairNodes t j x y → w ≡ word m j → w ≡ 0 → Goes t m o m₁ o₁ (NewPair x y) →
-    Goes t m o m₁ o₁ (Pairs (pair-at t j ∷ []))
-unfolding expand
-pair-new {t} {m} {m₁ = m₁} {o₁ = o₁} {j = j} k p r q g =
-    let a = p .as-old in
-    record {
-      answer = g .answer;
-      shows = λ d seen f n s.
-          let new = new-is (merges t) (pair-at t j .0) (pair-at t j .1) f d (sym (s .marks-are j (k .in-force)) ∙ marked-zero (word m j) (sym r ∙ q)) in
-          subst (Shows t m₁ o₁ seen) (ap (λ (v : ℕ × ℕ). expand-new (merges t) (v .0) (v .1) d f) (p .is) ∙ new) (g .shows d seen f (omega arith) s);
-    }
+-- the mark w of argument pair j
+module _ {t m o : List ℕ} {j w : ℕ} (k : EqualPair t j) (r : w ≡ word m j) where
+  marked-as : {seen : List EqLeaf} {f : Explained} → Shows t m o seen f → marked w ≡ any (is-pair t j) (f .visited)
+  marked-as s = ap marked r ∙ s .marks-are j (k .in-force)
 
-pub pair-known : {t m o : List ℕ} {j w : ℕ} → Explaining t m o → EqualPair t j → w ≡ word m j → (w ≡ 0 → ⊥) → Goes t m o m o (Pairs (pair-at t j ∷ []))
-unfolding expand
-pair-known {t} {m} {o} {j} z k r q = record {
-  answer = z .answer;
-  shows = λ d seen f n s.
-      subst (Shows t m o seen)
-      (skip-is (merges t) (pair-at t j .0) (pair-at t j .1) f d (sym (s .marks-are j (k .in-force)) ∙ marked-other (word m j) (λ h. q (r ∙ h)))) s;
-}
+  pub pair-new : {m₁ o₁ : List ℕ} {x y : ℕ} → PairNodes t j x y → w ≡ 0 → Goes t m o m₁ o₁ (NewPair x y) →
+      Goes t m o m₁ o₁ (Pairs (pair-at t j ∷ []))
+  unfolding expand marked
+  pair-new {m₁} {o₁} p q g =
+      let a = p .as-old in
+      record {
+        answer = g .answer;
+        shows = λ d seen f n s.
+            subst (Shows t m₁ o₁ seen)
+            (ap (λ (v : ℕ × ℕ). expand-new (merges t) (v .0) (v .1) d f) (p .is)
+            ∙ new-is (merges t) (pair-at t j .0) (pair-at t j .1) f d (sym (marked-as s) ∙ ap marked q))
+            (g .shows d seen f (omega arith) s);
+      }
+
+  pub pair-known : Explaining t m o → (w ≡ 0 → ⊥) → Goes t m o m o (Pairs (pair-at t j ∷ []))
+  unfolding expand
+  pair-known z q = record {
+    answer = z .answer;
+    shows = λ d seen f n s.
+        subst (Shows t m o seen) (skip-is (merges t) (pair-at t j .0) (pair-at t j .1) f d (sym (marked-as s) ∙ marked-other w q)) s;
+  }
 
 -- ---- expand_edge
 
@@ -361,33 +349,34 @@ in-merges t i (suc n) h = go (ℕ-discrete i n) (in-merges t i n)
 
 -- the label of merge i by its words k and v
 module _ (t : List ℕ) (i k v : ℕ) (e : k ≡ label-word t i) (q : v ≡ value-word t i) where
-  label-is : just-at t i ≡ label t (k / 65536 % 4) (k % 65536) v (after-word t i)
+  label-is : just-at t i ≡ label t (kind-of k) (theory-of k) v (after-word t i)
   unfolding just-at
-  label-is = sym (ap₂ (λ (x y : ℕ). label t (x / 65536 % 4) (x % 65536) y (after-word t i)) e q)
+  label-is = sym (ap₂ (λ (x y : ℕ). label t (kind-of x) (theory-of x) y (after-word t i)) e q)
 
-  pub edge-literal : k / 65536 % 4 ≡ 0 → Labels (just-at t i) (leaf-meaning (Given.the-variants.Asserted (record { 0 = v })))
+  pub edge-literal : kind-of k ≡ 0 → Labels (just-at t i) (leaf-meaning (Given.the-variants.Asserted (record { 0 = v })))
   unfolding label leaf-meaning
   edge-literal h =
-      subst (λ (j : EqJust). Labels j (AssertedLeaf v)) (sym (label-is ∙ ap (λ (n : ℕ). label t n (k % 65536) v (after-word t i)) h)) refl
+      subst (λ (j : EqJust). Labels j (AssertedLeaf v)) (sym (label-is ∙ ap (λ (n : ℕ). label t n (theory-of k) v (after-word t i)) h)) refl
 
-  pub edge-interface : (k / 65536 % 4 ≡ 0 → ⊥) → (k / 65536 % 4 ≡ 1 → ⊥) →
-      Labels (just-at t i) (leaf-meaning (Given.the-variants.Interface (record { theory = k % 65536; tag = v })))
+  pub edge-interface : (kind-of k ≡ 0 → ⊥) → (kind-of k ≡ 1 → ⊥) →
+      Labels (just-at t i) (leaf-meaning (Given.the-variants.Interface (record { theory = theory-of k; tag = v })))
   unfolding label leaf-meaning
-  edge-interface h g = subst (λ (j : EqJust). Labels j (InterfaceLeaf (k % 65536) v)) (sym label-is) (go (k / 65536 % 4) h g)
+  edge-interface h g = subst (λ (j : EqJust). Labels j (InterfaceLeaf (theory-of k) v)) (sym label-is) (go (kind-of k) h g)
     where
-      go : (n : ℕ) → (n ≡ 0 → ⊥) → (n ≡ 1 → ⊥) → Labels (label t n (k % 65536) v (after-word t i)) (InterfaceLeaf (k % 65536) v)
+      go : (n : ℕ) → (n ≡ 0 → ⊥) → (n ≡ 1 → ⊥) → Labels (label t n (theory-of k) v (after-word t i)) (InterfaceLeaf (theory-of k) v)
       go zero a b = absurd (a refl)
       go (suc zero) a b = absurd (b refl)
       go (suc (suc n)) a b = refl
 
   -- the label of a congruence
-  edge-is : (a : ℕ) → a ≡ after-word t i → k / 65536 % 4 ≡ 1 → just-at t i ≡ Congruence (pairs-from t v a)
+  edge-is : (a : ℕ) → a ≡ after-word t i → kind-of k ≡ 1 → just-at t i ≡ Congruence (pairs-from t v a)
   unfolding label pairs-from
   edge-is a r h =
-      label-is ∙ ap (λ (n : ℕ). label t n (k % 65536) v (after-word t i)) h ∙ sym (ap (λ (n : ℕ). Congruence (pairs-from t v n)) r)
+      label-is ∙ ap (λ (n : ℕ). label t n (theory-of k) v (after-word t i)) h ∙ sym (ap (λ (n : ℕ). Congruence (pairs-from t v n)) r)
 
 -- a leaf that labels merge i
-module _ (t o : List ℕ) (i : ℕ) (l : EqLeaf) (z : EngineSound t) (y : AnswerSound (merges t) o) (h : i < merges# t) (k : Labels (just-at t i) l) where
+module _ (t o : List ℕ) (i : ℕ) (l : EqLeaf) (z : EngineSound t) (y : AnswerSound (merges t) o) (h : i < merges# t)
+    (k : Labels (just-at t i) l) where
   label-cites : Cites (merges t) l
   unfolding merges merge-at
   label-cites = (merge-at t i, in-merges t i (merges# t) h, k)
@@ -431,12 +420,13 @@ pub record LabelPairs (t : List ℕ) (i v a : ℕ) : Type 0 where
   pub as-old : part-age (merges t) (Pairs (pairs-from t v a)) ≡ part-age (merges t) (Label (just-at t i))
   pub goes : (m o m₁ o₁ : List ℕ) → Goes t m o m₁ o₁ (Pairs (pairs-from t v a)) → Goes t m o m₁ o₁ (Label (just-at t i))
 
-pub edge-congruent : {t : List ℕ} {i k v a : ℕ} → EngineSound t → i < merges# t → k ≡ label-word t i → v ≡ value-word t i → a ≡ after-word t i →
-    k / 65536 % 4 ≡ 1 → LabelPairs t i v a
+pub edge-congruent : {t : List ℕ} {i k v a : ℕ} → EngineSound t → i < merges# t → k ≡ label-word t i → v ≡ value-word t i →
+    a ≡ after-word t i → kind-of k ≡ 1 → LabelPairs t i v a
 unfolding merges merge-at pairs-start begins pairs-of expand expand-edge part-age
 edge-congruent {t} {i} {k} {v} {a} z h e q r w =
     let f = z .pairs-fit i h .0 in
-    let s : pairs-start t i ≡ value-word t i = ap (λ (n : ℕ). begins n (value-word t i) (after-word t i)) (sym (ap (λ (n : ℕ). n / 65536 % 4) e) ∙ w) in
+    let s : pairs-start t i ≡ value-word t i =
+    ap (λ (n : ℕ). begins n (value-word t i) (after-word t i)) (sym (ap kind-of e) ∙ w) in
     let l = after-within t i z h in
     record {
       ready = record { ordered = omega arith; each = λ j b c. record { in-force = omega arith; nodes = nodes j b c } };
@@ -456,7 +446,8 @@ edge-congruent {t} {i} {k} {v} {a} z h e q r w =
         let among = subst (λ (x : EqJust). In p (pairs-of x)) (sym is) (pair-in t v a j b c) in
         let within = z .pair-nodes (merge-at t i) here p among in
         let same = pairs-same (merges t) (z .justified) (merge-at t i) here p among in
-        record { first = within .0; second = within .1; equal = T-true (are-equal (merges t) (p .0) (p .1)) (same-equal (merges t) (p .0) (p .1) same) }
+        let equal = T-true (are-equal (merges t) (p .0) (p .1)) (same-equal (merges t) (p .0) (p .1) same) in
+        record { first = within .0; second = within .1; equal = equal }
 
 -- ---- explain
 
@@ -467,14 +458,14 @@ no-marks (suc n) zero = refl
 no-marks (suc n) (suc j) = no-marks n j
 
 pub explained : {t m o m₁ o₁ : List ℕ} {a b : ℕ} (n : ℕ) → m ≡ replicate n 0 → Goes t m o m₁ o₁ (NewPair a b) → Explains t a b o o₁
-unfolding expand part-age explain firsts-after any
+unfolding expand part-age explain firsts-after any marked
 explained {t} {m} {o} {a = a} {b = b} n e g =
     let h = age-bound (merges t) a b in
     let none-yet : Explained = record { visited = []; leaves = [] } in
     let d = suc (length (merges t)) in
     let s = g .shows d (leaves o) none-yet (omega arith) (record {
       listed = sym (append-nil (leaves o));
-      marks-are = λ j l. marked-zero (word m j) (ap (λ (u : List ℕ). word u j) e ∙ no-marks n j);
+      marks-are = λ j l. ap marked (ap (λ (u : List ℕ). word u j) e ∙ no-marks n j);
     }) in
     record {
       sound = g .answer;

@@ -53,7 +53,8 @@ unfolding word-for
 word-none f none e = refl
 word-none f (some r) e = absurd (omega arith)
 
-word-some : (f : Registered → ℕ) (o : Option Registered) → (word-for f o ≡ 0 → ⊥) → (r : Registered) × (o ≡ some r) × (f r ≡ word-for f o - 1)
+word-some : (f : Registered → ℕ) (o : Option Registered) → (word-for f o ≡ 0 → ⊥) →
+    (r : Registered) × (o ≡ some r) × (f r ≡ word-for f o - 1)
 unfolding word-for
 word-some f none d = absurd (d refl)
 word-some f (some r) d = (r, refl, omega arith)
@@ -75,7 +76,9 @@ module _ (t : List ℕ) (v w : ℕ) (z : RegistrySound t) where
 
   pub no-var : v < max-terms → w ≡ at t FIRST v → w ≡ 0 → none ≡ var-of-atom (atoms t) v
   unfolding var-of-atom var-of
-  no-var h e q = sym (ap var-of (word-none (λ (r : Registered). r .var) (first (of-atom v) (atoms t)) (sym (z .firsts-are v h) ∙ sym e ∙ q)))
+  no-var h e q =
+      let o = word-none (λ (r : Registered). r .var) (first (of-atom v) (atoms t)) (sym (z .firsts-are v h) ∙ sym e ∙ q) in
+      sym (ap var-of o)
 
   pub one-var : v < max-terms → w ≡ at t FIRST v → (w ≡ 0 → ⊥) → some (w - 1) ≡ var-of-atom (atoms t) v
   unfolding var-of-atom var-of

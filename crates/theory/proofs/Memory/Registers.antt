@@ -197,14 +197,18 @@ pub record Emptying (t₀ t : List ℕ) (k : ℕ) : Type 0 where
 pub empty-first : (t u : List ℕ) → registry-size ≤ length t → u ≡ put t COUNTS VARS 0 → Emptying u u 0
 empty-first t u l e = record { kept = refl; long = search (e, stores); count = search (e, stores); empty = λ y h. absurd (omega arith) }
 
-pub empty-next : {t₀ t t₁ u : List ℕ} {k : ℕ} → Emptying t₀ t k → k < max-vars → t₁ ≡ put t ATOM k 0 → u ≡ put t₁ FIRST k 0 → Emptying t₀ u (k + 1)
+pub empty-next : {t₀ t t₁ u : List ℕ} {k : ℕ} → Emptying t₀ t k → k < max-vars → t₁ ≡ put t ATOM k 0 → u ≡ put t₁ FIRST k 0 →
+    Emptying t₀ u (k + 1)
 empty-next {u = u} {k = k} c h e₁ e₂ = let l = c .long in record {
   kept = search (e₂, e₁, stores);
   long = search (e₂, e₁, stores);
   count = search (e₂, e₁, c .count, stores);
   empty =
       below-more (λ (y : ℕ). (at u ATOM y ≡ 0) × (at u FIRST y ≡ 0)) k
-      (λ y g. let b : y < max-vars = omega arith in let d : y ≡ k → ⊥ = omega arith in let q = c .empty y g in search (e₂, e₁, q .0, q .1, stores))
+      (λ y g.
+      let b : y < max-vars = omega arith in
+      let d : y ≡ k → ⊥ = omega arith in
+      search (e₂, e₁, c .empty y g .0, c .empty y g .1, stores))
       (search (e₂, e₁, stores));
 }
 

@@ -172,11 +172,11 @@ pub +expand-edge+expand-pair+expand-pairs+expand-way+explain-rec-spec : {M : Typ
     let at-if = at-right .before .before in
     let p = at-if .before .before .before .before .before .before .pre .1 in
     let w = pair-nodes (p .1) (at-right .before .get-at .ensures .0) (at-right .get-at2 .ensures .0) in
-    pair-new (p .1) w (at-if .before .get .ensures .0) (at-if .if1 .taken) (at-rec .explain-rec .ensures))
+    pair-new (p .1) (at-if .before .get .ensures .0) w (at-if .if1 .taken) (at-rec .explain-rec .ensures))
     (λ c. search needs)
     (λ c.
     let p = c .before .before .before .before .before .before .pre .1 in
-    pair-known (p .0) (p .1) (c .before .get .ensures .0) (c .if1 .left)))
+    pair-known (p .1) (c .before .get .ensures .0) (p .0) (c .if1 .left)))
     (λ t. expand-pairs-lts.spec (expand-pair-below t, expand-pair.Post)
     _ expand-pairs.Post Inv-pairs μ-pairs
     (λ c. let p = c .before .before .before .pre .1 in pair-first (p .0) (p .1 .ordered))
