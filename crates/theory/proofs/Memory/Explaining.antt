@@ -48,6 +48,11 @@ goes-nothing : {t m o : List ℕ} (p : Part) → AnswerSound (merges t) o → ((
     Goes t m o m o p
 goes-nothing {t} {m} {o} p z h = record { answer = z; shows = λ d seen e n s. subst (Shows t m o seen) (sym (h d e)) s }
 
+way-append : (ms : List Merge) (u w : List Step) (d : ℕ) (e : Explained) →
+    expand-way ms w d (expand-way ms u d e) ≡ expand-way ms (u ++ w) d e
+unfolding expand-way
+way-append ms u w d e = sym (foldl-append (λ (f : Explained) (s : Step). expand-edge (explain-rec d ms) (s .just) f) e u w)
+
 -- ---- a pair that is new, or has been expanded
 
 module _ (ms : List Merge) (x y : ℕ) (e : Explained) where
@@ -117,7 +122,7 @@ goes-two {t} {m} {o} {m₃ = m₃} {o₃ = o₃} {a = a} {b = b} {n = n} z k h m
 
     both : (d : ℕ) (e : Explained) → expand-way (merges t) (up-to t b n) d (first d e) ≡ expand-new (merges t) a b (suc d) e
     both d e =
-        sym (foldl-append (λ (f : Explained) (s : Step). expand-edge (explain-rec d (merges t)) (s .just) f) (visit a b e) (up-to t a n) (up-to t b n))
+        way-append (merges t) (up-to t a n) (up-to t b n) d (visit a b e)
         ∙ ap (λ (v : ℕ). expand-way (merges t) (up-to t a v ++ up-to t b v) d (visit a b e)) q
         ∙ sym (expand-two (merges t) a b e d h)
 
@@ -180,8 +185,9 @@ module _ {t : List ℕ} {node top : ℕ} {m₀ o₀ m o : List ℕ} {n : ℕ} (z
   walk-older e =
       let r = walk-rises refl in
       let here = in-right (r .step) (c .walked) (r .step ∷ up-to t (fparent-word t n) top) (inl refl) in
-      subst (λ (j : EqJust). pairs-age (merges t) (pairs-of j) ≤ steps-age (merges t) (up-to t node top)) (sym (ap (just-at t) e ∙ r .label))
-      (steps-age-in (merges t) (up-to t node top) (r .step) (subst (λ (w : List Step). In (r .step) w) (sym (split-off r)) here))
+      let among = subst (λ (w : List Step). In (r .step) w) (sym (split-off r)) here in
+      subst (λ (j : EqJust). NotOlder t (Label j) (Way (up-to t node top))) (sym (ap (just-at t) e ∙ r .label))
+      (steps-age-in (merges t) (up-to t node top) (r .step) among)
 
   pub walk-next : {i p : ℕ} {m₁ o₁ : List ℕ} → i ≡ fedge-word t n → p ≡ fparent-word t n → Goes t m o m₁ o₁ (Label (just-at t i)) →
       length m₁ ≡ length m → length o₁ ≡ length o → Walking t node top m₀ o₀ m₁ o₁ p
@@ -201,7 +207,7 @@ module _ {t : List ℕ} {node top : ℕ} {m₀ o₀ m o : List ℕ} {n : ℕ} (z
         goes =
             goes-then (Way w′) (steps-age-among (merges t) w w′ (λ k. in-left k w (s ∷ [])))
             (steps-age-in (merges t) w′ s (in-right s w (s ∷ []) (inl refl)))
-            (λ d f. sym (foldl-append (λ (f′ : Explained) (s′ : Step). expand-edge (explain-rec d (merges t)) (s′ .just) f′) f w (s ∷ [])))
+            (way-append (merges t) w (s ∷ []))
             (c .goes) (subst (λ (j : EqJust). Goes t m o m₁ o₁ (Label j)) (ap (just-at t) e ∙ r .label) g);
       }
     where
@@ -232,7 +238,8 @@ pairs-next : (t : List ℕ) (j to : ℕ) → j < to → pairs-from t j to ≡ pa
 unfolding pairs-from range
 pairs-next t j to h =
     let count : to - j ≡ suc (to - (j + 1)) = omega arith in
-    ap (λ (n : ℕ). map (pair-at t) (range j n)) count ∙ ap (λ (i : ℕ). pair-at t j ∷ map (pair-at t) (range i (to - (j + 1)))) (sym (add-one j))
+    ap (λ (n : ℕ). map (pair-at t) (range j n)) count
+    ∙ ap (λ (i : ℕ). pair-at t j ∷ map (pair-at t) (range i (to - (j + 1)))) (sym (add-one j))
 
 pub pair-first : {t m o : List ℕ} {from to : ℕ} → Explaining t m o → from ≤ to → Pairing t from to m o m o from
 unfolding expand
@@ -249,7 +256,8 @@ module _ {t : List ℕ} {from to : ℕ} {m₀ o₀ m o : List ℕ} {j : ℕ} (c 
   pair-older = pairs-age-among (merges t) (pair-at t j ∷ []) (pairs-from t from to) go
     where
       go : (p : ℕ × ℕ) → In p (pair-at t j ∷ []) → In p (pairs-from t from to)
-      go p (inl e) = subst (λ (ps : List (ℕ × ℕ)). In p ps) (sym one-off) (in-right p (c .done) (pair-at t j ∷ pairs-from t (j + 1) to) (inl e))
+      go p (inl e) =
+          subst (λ (ps : List (ℕ × ℕ)). In p ps) (sym one-off) (in-right p (c .done) (pair-at t j ∷ pairs-from t (j + 1) to) (inl e))
       go p (inr i) = absurd i
 
   pub pair-next : {m₁ o₁ : List ℕ} → Goes t m o m₁ o₁ (Pairs (pair-at t j ∷ [])) → length m₁ ≡ length m → length o₁ ≡ length o →
@@ -347,58 +355,39 @@ in-merges t i (suc n) h = go (ℕ-discrete i n) (in-merges t i n)
     go (yes e) f = inl (ap (merge-at t) e)
     go (no k) f = inr (f (omega arith))
 
--- the label of merge i by its words k and v
-module _ (t : List ℕ) (i k v : ℕ) (e : k ≡ label-word t i) (q : v ≡ value-word t i) where
-  label-is : just-at t i ≡ label t (kind-of k) (theory-of k) v (after-word t i)
-  unfolding just-at
-  label-is = sym (ap₂ (λ (x y : ℕ). label t (kind-of x) (theory-of x) y (after-word t i)) e q)
+-- the leaf of a label is what it makes of an explanation
+label-expands : (ms : List Merge) (j : EqJust) (l : EqLeaf) → Labels j l → (d : ℕ) (e : Explained) → cite l e ≡ expand ms (Label j) d e
+unfolding expand expand-edge
+label-expands ms (Asserted n) l q d e = ap (λ (x : EqLeaf). cite x e) q
+label-expands ms (Congruence ps) l q d e = absurd q
+label-expands ms (Interface n g) l q d e = ap (λ (x : EqLeaf). cite x e) q
 
-  pub edge-literal : kind-of k ≡ 0 → Labels (just-at t i) (leaf-meaning (Given.the-variants.Asserted (record { 0 = v })))
-  unfolding label leaf-meaning
-  edge-literal h =
-      subst (λ (j : EqJust). Labels j (AssertedLeaf v)) (sym (label-is ∙ ap (λ (n : ℕ). label t n (theory-of k) v (after-word t i)) h)) refl
+-- merge i is labelled by a leaf, or by the congruence of the pairs from v up to a
+pub record LabelLeaf (t m o : List ℕ) (i : ℕ) (l : EqLeaf) : Type 0 where
+  pub room : HasRoom o l
+  pub goes : (u : List ℕ) → Pushed o u l → Goes t m o m u (Label (just-at t i))
 
-  pub edge-interface : (kind-of k ≡ 0 → ⊥) → (kind-of k ≡ 1 → ⊥) →
-      Labels (just-at t i) (leaf-meaning (Given.the-variants.Interface (record { theory = theory-of k; tag = v })))
-  unfolding label leaf-meaning
-  edge-interface h g = subst (λ (j : EqJust). Labels j (InterfaceLeaf (theory-of k) v)) (sym label-is) (go (kind-of k) h g)
-    where
-      go : (n : ℕ) → (n ≡ 0 → ⊥) → (n ≡ 1 → ⊥) → Labels (label t n (theory-of k) v (after-word t i)) (InterfaceLeaf (theory-of k) v)
-      go zero a b = absurd (a refl)
-      go (suc zero) a b = absurd (b refl)
-      go (suc (suc n)) a b = refl
+pub record LabelPairs (t : List ℕ) (i v a : ℕ) : Type 0 where
+  pub ready : PairsEqual t v a
+  pub as-old : part-age (merges t) (Pairs (pairs-from t v a)) ≡ part-age (merges t) (Label (just-at t i))
+  pub goes : (m o m₁ o₁ : List ℕ) → Goes t m o m₁ o₁ (Pairs (pairs-from t v a)) → Goes t m o m₁ o₁ (Label (just-at t i))
 
-  -- the label of a congruence
-  edge-is : (a : ℕ) → a ≡ after-word t i → kind-of k ≡ 1 → just-at t i ≡ Congruence (pairs-from t v a)
-  unfolding label pairs-from
-  edge-is a r h =
-      label-is ∙ ap (λ (n : ℕ). label t n (theory-of k) v (after-word t i)) h ∙ sym (ap (λ (n : ℕ). Congruence (pairs-from t v n)) r)
-
--- a leaf that labels merge i
-module _ (t o : List ℕ) (i : ℕ) (l : EqLeaf) (z : EngineSound t) (y : AnswerSound (merges t) o) (h : i < merges# t)
-    (k : Labels (just-at t i) l) where
-  label-cites : Cites (merges t) l
-  unfolding merges merge-at
-  label-cites = (merge-at t i, in-merges t i (merges# t) h, k)
-
-  pub label-room : HasRoom o l
-  unfolding merges
-  label-room = let n = z .fewer in push-room (merges t) o l y (let w = merges-length t in omega arith) label-cites
-
-  label-expands : (j : EqJust) → Labels j l → (d : ℕ) (e : Explained) → cite l e ≡ expand (merges t) (Label j) d e
-  unfolding expand expand-edge
-  label-expands (Asserted n) q d e = ap (λ (x : EqLeaf). cite x e) q
-  label-expands (Congruence ps) q d e = absurd q
-  label-expands (Interface n g) q d e = ap (λ (x : EqLeaf). cite x e) q
-
-  pub label-goes : (m u : List ℕ) → Pushed o u l → Goes t m o m u (Label (just-at t i))
-  unfolding cite
-  label-goes m u p = record {
-    answer = push-sound (merges t) o u l (y .other) (y .apart) (y .cited) (inr label-cites) p;
-    shows = λ d seen e b s.
-        subst (Shows t m u seen) (label-expands (just-at t i) k d e)
-        (record { listed = pushed-firsts seen (e .leaves) l (s .listed) (p .listed); marks-are = s .marks-are });
-  }
+label-leaf : {t m o : List ℕ} {i : ℕ} (l : EqLeaf) → Explaining t m o → i < merges# t → Labels (just-at t i) l → LabelLeaf t m o i l
+unfolding merges merge-at cite
+label-leaf {t} {m} {o} {i} l z h k =
+    let f = z .engine .fewer in
+    let n = merges-length t in
+    let y = z .answer in
+    let cites : Cites (merges t) l = (merge-at t i, in-merges t i (merges# t) h, k) in
+    record {
+      room = push-room (merges t) o l y (omega arith) cites;
+      goes = λ u p. record {
+        answer = push-sound (merges t) o u l (y .other) (y .apart) (y .cited) (inr cites) p;
+        shows = λ d seen e b s.
+            subst (Shows t m u seen) (label-expands (merges t) (just-at t i) l k d e)
+            (record { listed = pushed-firsts seen (e .leaves) l (s .listed) (p .listed); marks-are = s .marks-are });
+      };
+    }
 
 -- the pairs of each label are equal
 pairs-same : (ms : List Merge) → Justified ms → (m : Merge) → In m ms → (p : ℕ × ℕ) → In p (pairs-of (m .just)) → Same ms (p .0) (p .1)
@@ -414,40 +403,56 @@ pair-in t from to j h k = go (range from (to - from)) (in-range from (to - from)
     go (x ∷ xs) (inl e) = inl (ap (pair-at t) e)
     go (x ∷ xs) (inr i) = inr (go xs i)
 
--- merge i is labelled by the congruence of the pairs from v up to a
-pub record LabelPairs (t : List ℕ) (i v a : ℕ) : Type 0 where
-  pub ready : PairsEqual t v a
-  pub as-old : part-age (merges t) (Pairs (pairs-from t v a)) ≡ part-age (merges t) (Label (just-at t i))
-  pub goes : (m o m₁ o₁ : List ℕ) → Goes t m o m₁ o₁ (Pairs (pairs-from t v a)) → Goes t m o m₁ o₁ (Label (just-at t i))
+-- merge i by the words k and v that were read
+module _ {t m o : List ℕ} {i k v : ℕ} (z : Explaining t m o) (h : i < merges# t) (e : k ≡ label-word t i) (q : v ≡ value-word t i) where
+  label-is : just-at t i ≡ label t (kind-of k) (theory-of k) v (after-word t i)
+  unfolding just-at
+  label-is = sym (ap₂ (λ (x y : ℕ). label t (kind-of x) (theory-of x) y (after-word t i)) e q)
 
-pub edge-congruent : {t : List ℕ} {i k v a : ℕ} → EngineSound t → i < merges# t → k ≡ label-word t i → v ≡ value-word t i →
-    a ≡ after-word t i → kind-of k ≡ 1 → LabelPairs t i v a
-unfolding merges merge-at pairs-start begins pairs-of expand expand-edge part-age
-edge-congruent {t} {i} {k} {v} {a} z h e q r w =
-    let f = z .pairs-fit i h .0 in
-    let s : pairs-start t i ≡ value-word t i =
-    ap (λ (n : ℕ). begins n (value-word t i) (after-word t i)) (sym (ap kind-of e) ∙ w) in
-    let l = after-within t i z h in
-    record {
-      ready = record { ordered = omega arith; each = λ j b c. record { in-force = omega arith; nodes = nodes j b c } };
-      as-old = sym (ap (λ (j : EqJust). pairs-age (merges t) (pairs-of j)) is);
-      goes = λ m o m₁ o₁ g. subst (λ (j : EqJust). Goes t m o m₁ o₁ (Label j)) (sym is) (record { answer = g .answer; shows = g .shows });
-    }
-  where
-    is : just-at t i ≡ Congruence (pairs-from t v a)
-    is = edge-is t i k v e q a r w
+  of-kind : {n : ℕ} → kind-of k ≡ n → just-at t i ≡ label t n (theory-of k) v (after-word t i)
+  of-kind w = label-is ∙ ap (λ (n : ℕ). label t n (theory-of k) v (after-word t i)) w
 
-    here : In (merge-at t i) (merges t)
-    here = in-merges t i (merges# t) h
+  pub edge-literal : kind-of k ≡ 0 → LabelLeaf t m o i (leaf-meaning (Given.the-variants.Asserted (record { 0 = v })))
+  unfolding label leaf-meaning
+  edge-literal w = label-leaf (AssertedLeaf v) z h (subst (λ (j : EqJust). Labels j (AssertedLeaf v)) (sym (of-kind w)) refl)
 
-    nodes : (j : ℕ) → v ≤ j → j < a → EqualNodes t (pair-at t j .0) (pair-at t j .1)
-    nodes j b c =
-        let p = pair-at t j in
-        let among = subst (λ (x : EqJust). In p (pairs-of x)) (sym is) (pair-in t v a j b c) in
-        let within = z .pair-nodes (merge-at t i) here p among in
-        let same = pairs-same (merges t) (z .justified) (merge-at t i) here p among in
-        let equal = T-true (are-equal (merges t) (p .0) (p .1)) (same-equal (merges t) (p .0) (p .1) same) in
-        record { first = within .0; second = within .1; equal = equal }
+  pub edge-interface : (kind-of k ≡ 0 → ⊥) → (kind-of k ≡ 1 → ⊥) →
+      LabelLeaf t m o i (leaf-meaning (Given.the-variants.Interface (record { theory = theory-of k; tag = v })))
+  unfolding label leaf-meaning
+  edge-interface a b = label-leaf l z h (subst (λ (j : EqJust). Labels j l) (sym label-is) (go (kind-of k) a b))
+    where
+      l : EqLeaf
+      l = InterfaceLeaf (theory-of k) v
+
+      go : (n : ℕ) → (n ≡ 0 → ⊥) → (n ≡ 1 → ⊥) → Labels (label t n (theory-of k) v (after-word t i)) l
+      go zero a b = absurd (a refl)
+      go (suc zero) a b = absurd (b refl)
+      go (suc (suc n)) a b = refl
+
+  pub edge-congruence : {a : ℕ} → a ≡ after-word t i → kind-of k ≡ 1 → LabelPairs t i v a
+  unfolding merges merge-at label pairs-from pairs-start begins pairs-of expand expand-edge part-age
+  edge-congruence {a} r w =
+      let f = z .engine .pairs-fit i h .0 in
+      let s : pairs-start t i ≡ value-word t i = ap (λ (n : ℕ). begins n (value-word t i) (after-word t i)) (sym (ap kind-of e) ∙ w) in
+      let l = after-within t i (z .engine) h in
+      record {
+        ready = record { ordered = omega arith; each = λ j b c. record { in-force = omega arith; nodes = nodes j b c } };
+        as-old = sym (ap (λ (j : EqJust). pairs-age (merges t) (pairs-of j)) is);
+        goes = λ m o m₁ o₁ g. subst (λ (j : EqJust). Goes t m o m₁ o₁ (Label j)) (sym is) (record { answer = g .answer; shows = g .shows });
+      }
+    where
+      is : just-at t i ≡ Congruence (pairs-from t v a)
+      is = of-kind w ∙ sym (ap (λ (n : ℕ). Congruence (pairs-from t v n)) r)
+
+      nodes : (j : ℕ) → v ≤ j → j < a → EqualNodes t (pair-at t j .0) (pair-at t j .1)
+      nodes j b c =
+          let p = pair-at t j in
+          let here = in-merges t i (merges# t) h in
+          let among = subst (λ (x : EqJust). In p (pairs-of x)) (sym is) (pair-in t v a j b c) in
+          let within = z .engine .pair-nodes (merge-at t i) here p among in
+          let same = pairs-same (merges t) (z .engine .justified) (merge-at t i) here p among in
+          let equal = T-true (are-equal (merges t) (p .0) (p .1)) (same-equal (merges t) (p .0) (p .1) same) in
+          record { first = within .0; second = within .1; equal = equal }
 
 -- ---- explain
 

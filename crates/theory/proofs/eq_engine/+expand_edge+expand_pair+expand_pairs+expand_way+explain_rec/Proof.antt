@@ -13,7 +13,7 @@ use lib.ListN.{length}
 use Rattle.theory.specs.EqEngine.{way}
 use Rattle.theory.specs.Memory.Table.{pair-at, just-at, merges}
 use Rattle.theory.specs.Memory.Explaining.{NewPair, Way, Label, Pairs, part-age, up-to, pairs-from}
-use Rattle.theory.proofs.Memory.Explaining.{goes-one, met, goes-two, Walking, walk-first, walk-rises, walk-edge, walk-older, walk-next, walk-done, Pairing, pair-first, pair-older, pair-next, pair-done, pair-few, pair-nodes, pair-new, pair-known, edge-literal, edge-interface, edge-congruent, label-room, label-goes}
+use Rattle.theory.proofs.Memory.Explaining.{goes-one, met, goes-two, Walking, walk-first, walk-rises, walk-edge, walk-older, walk-next, walk-done, Pairing, pair-first, pair-older, pair-next, pair-done, pair-few, pair-nodes, pair-new, pair-known, edge-literal, edge-interface, edge-congruence}
 use Rattle.core.proofs.table.get.Reads as get
 use Rattle.core.proofs.table.get_at.Reads as get-at
 use Rattle.theory.proofs.types.push_leaf.Reads as push-leaf
@@ -96,18 +96,19 @@ pub +expand-edge+expand-pair+expand-pairs+expand-way+explain-rec-spec : {M : Typ
     let at-get2 = c .before .before in
     let at-get = at-get2 .before in
     let p = at-get .before .before .before .before .pre .1 in
-    let l = edge-literal _ _ _ _ (at-get .get-at .ensures .0) (at-get2 .get-at2 .ensures .0) (c .before .if1 .taken) in
-    (p .0 .answer .words, label-room _ _ _ _ (p .0 .engine) (p .0 .answer) (p .1) l))
+    let w = edge-literal (p .0) (p .1) (at-get .get-at .ensures .0) (at-get2 .get-at2 .ensures .0) (c .before .if1 .taken) in
+    (p .0 .answer .words, w .room))
     (λ c κs. search needs)
     -- the pairs of a congruence
     (λ c κs.
     let at-get3 = c .before .before in
-    let at-get2 = at-get3 .before .before .before in
+    let at-if2 = at-get3 .before in
+    let at-get2 = at-if2 .before .before in
     let at-get = at-get2 .before in
     let start = at-get .before .before .before .before in
     let p = start .pre .1 in
-    let w = edge-congruent (p .0 .engine) (p .1) (at-get .get-at .ensures .0) (at-get2 .get-at2 .ensures .0) (at-get3 .get-at3 .ensures .0)
-    (at-get3 .before .if2 .taken) in
+    let w = edge-congruence (p .0) (p .1) (at-get .get-at .ensures .0) (at-get2 .get-at2 .ensures .0) (at-get3 .get-at3 .ensures .0)
+    (at-if2 .if2 .taken) in
     let o = w .as-old in
     let m = start .pre .0 in
     (omega arith, (p .0, w .ready)))
@@ -115,30 +116,32 @@ pub +expand-edge+expand-pair+expand-pairs+expand-way+explain-rec-spec : {M : Typ
     (λ c. search needs)
     -- an interface leaf is pushed
     (λ c κs.
-    let at-get2 = c .before .before .before in
+    let at-if2 = c .before in
+    let at-get2 = at-if2 .before .before in
     let at-get = at-get2 .before in
     let p = at-get .before .before .before .before .pre .1 in
-    let l = edge-interface _ _ _ _ (at-get .get-at .ensures .0) (at-get2 .get-at2 .ensures .0) (c .before .before .if1 .left)
-    (c .before .if2 .left) in
-    (p .0 .answer .words, label-room _ _ _ _ (p .0 .engine) (p .0 .answer) (p .1) l))
+    let w = edge-interface (p .0) (p .1) (at-get .get-at .ensures .0) (at-get2 .get-at2 .ensures .0) (at-if2 .before .if1 .left)
+    (at-if2 .if2 .left) in
+    (p .0 .answer .words, w .room))
     (λ c. c .before .before .push-leaf .kept .0)
     (λ c.
     let at-push = c .before .before in
     let at-get2 = at-push .before .before .before in
     let at-get = at-get2 .before in
     let p = at-get .before .before .before .before .pre .1 in
-    let l = edge-literal _ _ _ _ (at-get .get-at .ensures .0) (at-get2 .get-at2 .ensures .0) (at-push .before .before .if1 .taken) in
-    label-goes _ _ _ _ (p .0 .engine) (p .0 .answer) (p .1) l _ _ (at-push .push-leaf .ensures))
+    let w = edge-literal (p .0) (p .1) (at-get .get-at .ensures .0) (at-get2 .get-at2 .ensures .0) (at-push .before .before .if1 .taken) in
+    w .goes _ (at-push .push-leaf .ensures))
     (λ c. c .before .before .before .before .expand-pairs .kept .1 .1 .1 .0)
     (λ c. c .before .before .before .before .expand-pairs .kept .1 .1 .1 .1 .0)
     (λ c.
     let at-pairs = c .before .before .before .before in
     let at-get3 = at-pairs .before .before .before in
-    let at-get2 = at-get3 .before .before .before in
+    let at-if2 = at-get3 .before in
+    let at-get2 = at-if2 .before .before in
     let at-get = at-get2 .before in
     let p = at-get .before .before .before .before .pre .1 in
-    let w = edge-congruent (p .0 .engine) (p .1) (at-get .get-at .ensures .0) (at-get2 .get-at2 .ensures .0) (at-get3 .get-at3 .ensures .0)
-    (at-get3 .before .if2 .taken) in
+    let w = edge-congruence (p .0) (p .1) (at-get .get-at .ensures .0) (at-get2 .get-at2 .ensures .0) (at-get3 .get-at3 .ensures .0)
+    (at-if2 .if2 .taken) in
     w .goes _ _ _ _ (at-pairs .expand-pairs .ensures))
     (λ c. c .before .before .push-leaf2 .kept .0)
     (λ c.
@@ -147,9 +150,9 @@ pub +expand-edge+expand-pair+expand-pairs+expand-way+explain-rec-spec : {M : Typ
     let at-get2 = at-if2 .before .before in
     let at-get = at-get2 .before in
     let p = at-get .before .before .before .before .pre .1 in
-    let l = edge-interface _ _ _ _ (at-get .get-at .ensures .0) (at-get2 .get-at2 .ensures .0) (at-if2 .before .if1 .left)
+    let w = edge-interface (p .0) (p .1) (at-get .get-at .ensures .0) (at-get2 .get-at2 .ensures .0) (at-if2 .before .if1 .left)
     (at-if2 .if2 .left) in
-    label-goes _ _ _ _ (p .0 .engine) (p .0 .answer) (p .1) l _ _ (at-push .push-leaf2 .ensures)))
+    w .goes _ (at-push .push-leaf2 .ensures)))
     (λ t. expand-pair-lts.spec (get.Asked, get.Learnt, get-at.Asked, get-at.Learnt, explain-rec-below t, explain-rec.Post)
     _ expand-pair.Post
     (λ c κs. let p = c .before .before .before .before .pre .1 in omega (arith, pair-few (p .0 .engine) (p .1)))
@@ -231,7 +234,8 @@ pub +expand-edge+expand-pair+expand-pairs+expand-way+explain-rec-spec : {M : Typ
     (at-edge .expand-edge .ensures) (kept .0) (kept .1 .0))
     (λ c. c .before .loop .inv .marks-long) (λ c. c .before .loop .inv .out-long)
     (λ c. walk-done (c .before .before .before .before .before .pre .1 .0 .engine) (c .before .loop .inv) (c .loop-test .left)))
-    λ t. explain-rec-lts.spec (mark-pairs.Asked, mark-pairs.Learnt, forest-nca.Asked, forest-nca.Learnt, expand-way-below t, expand-way.Post)
+    λ t. explain-rec-lts.spec
+    (mark-pairs.Asked, mark-pairs.Learnt, forest-nca.Asked, forest-nca.Learnt, expand-way-below t, expand-way.Post)
     _ explain-rec.Post
     (λ c. goes-one (c .before .before .before .before .pre .1 .0) (c .if1 .taken))
     (λ c κs. let p = c .before .before .before .before .before .pre .1 in (p .0 .engine, p .0 .long))
