@@ -34,6 +34,10 @@ use Rattle.theory.proofs.Memory.Leaves.{push-room, push-sound, pushed-f
 abbrev nca : List ℕ → ℕ → ℕ → ℕ
 nca t a b = common a (way (merges t) a) b (way (merges t) b)
 
+-- an explanation goes on with other marks and leaves
+pub on-with : {t m o m₁ o₁ : List ℕ} → Explaining t m o → AnswerSound (merges t) o₁ → length m₁ ≡ length m → Explaining t m₁ o₁
+on-with z y e = record { engine = z .engine; answer = y; long = let l = z .long in omega arith }
+
 -- ---- one part after the other, or nothing to do
 
 goes-then : {t m₀ o₀ m₁ o₁ m₂ o₂ : List ℕ} {p q : Part} (r : Part) → NotOlder t p r → NotOlder t q r →

@@ -13,7 +13,7 @@ use lib.ListN.{length}
 use Rattle.theory.specs.EqEngine.{way}
 use Rattle.theory.specs.Memory.Table.{pair-at, just-at, merges}
 use Rattle.theory.specs.Memory.Explaining.{NewPair, Way, Label, Pairs, part-age, up-to, pairs-from}
-use Rattle.theory.proofs.Memory.Explaining.{goes-one, met, goes-two, Walking, walk-first, walk-rises, walk-edge, walk-older, walk-next, walk-done, Pairing, pair-first, pair-older, pair-next, pair-done, pair-few, pair-nodes, pair-new, pair-known, edge-literal, edge-interface, edge-congruence}
+use Rattle.theory.proofs.Memory.Explaining.{on-with, goes-one, met, goes-two, Walking, walk-first, walk-rises, walk-edge, walk-older, walk-next, walk-done, Pairing, pair-first, pair-older, pair-next, pair-done, pair-few, pair-nodes, pair-new, pair-known, edge-literal, edge-interface, edge-congruence}
 use Rattle.core.proofs.table.get.Reads as get
 use Rattle.core.proofs.table.get_at.Reads as get-at
 use Rattle.theory.proofs.types.push_leaf.Reads as push-leaf
@@ -109,9 +109,7 @@ pub +expand-edge+expand-pair+expand-pairs+expand-way+explain-rec-spec : {M : Typ
     let p = start .pre .1 in
     let w = edge-congruence (p .0) (p .1) (at-get .get-at .ensures .0) (at-get2 .get-at2 .ensures .0) (at-get3 .get-at3 .ensures .0)
     (at-if2 .if2 .taken) in
-    let o = w .as-old in
-    let m = start .pre .0 in
-    (omega arith, (p .0, w .ready)))
+    (omega (arith, start .pre .0, w .as-old), (p .0, w .ready)))
     (λ c. let h = mod-lt (c .before .before .before .before .get-at .result) {m = 65536} (omega arith) in omega arith)
     (λ c. search needs)
     -- an interface leaf is pushed
@@ -164,9 +162,7 @@ pub +expand-edge+expand-pair+expand-pairs+expand-way+explain-rec-spec : {M : Typ
     let start = at-right .before .before .before .before .before .before .before .before in
     let p = start .pre .1 in
     let w = pair-nodes (p .1) (at-right .before .get-at .ensures .0) (at-right .get-at2 .ensures .0) in
-    let o = w .as-old in
-    let m = start .pre .0 in
-    (omega arith, (p .0, w .nodes)))
+    (omega (arith, start .pre .0, w .as-old), (p .0, w .nodes)))
     (λ c. c .before .before .before .before .explain-rec .kept .1 .1 .1 .0)
     (λ c. c .before .before .before .before .explain-rec .kept .1 .1 .1 .1 .0)
     (λ c.
@@ -189,11 +185,7 @@ pub +expand-edge+expand-pair+expand-pairs+expand-way+explain-rec-spec : {M : Typ
     let p = start .pre .1 in
     let i = at-loop .loop .inv in
     let h = c .before .before .loop-test .taken in
-    let o = pair-older i h in
-    let m = start .pre .0 in
-    let l = p .0 .long in
-    let k = i .marks-long in
-    (omega arith, (record { engine = p .0 .engine; answer = i .goes .answer; long = omega arith }, p .1 .each _ (i .after) h)))
+    (omega (arith, start .pre .0, pair-older i h), (on-with (p .0) (i .goes .answer) (i .marks-long), p .1 .each _ (i .after) h)))
     (λ c. search needs) (λ c. search needs)
     (λ c.
     let at-pair = c .before .before .before .before in
@@ -213,17 +205,13 @@ pub +expand-edge+expand-pair+expand-pairs+expand-way+explain-rec-spec : {M : Typ
     let i = at-test .before .loop .inv in
     let h = at-test .loop-test .taken in
     let e = c .before .before .get-at .ensures .0 in
-    let o = walk-older (p .0 .engine) i h e in
-    let m = start .pre .0 in
-    let l = p .0 .long in
-    let k = i .marks-long in
-    (omega arith, (record { engine = p .0 .engine; answer = i .goes .answer; long = omega arith }, walk-edge (p .0 .engine) i h e)))
+    let z = p .0 .engine in
+    (omega (arith, start .pre .0, walk-older z i h e), (on-with (p .0) (i .goes .answer) (i .marks-long), walk-edge z i h e)))
     (λ c κs. search needs)
     (λ c.
     let at-test = c .before .before .before .before .before .before .before .before .before in
     let z = at-test .before .before .before .before .before .pre .1 .0 .engine in
-    let l = walk-rises z (at-test .before .loop .inv) (at-test .loop-test .taken) (c .get-at2 .ensures .0) .longer in
-    omega arith)
+    omega (arith, walk-rises z (at-test .before .loop .inv) (at-test .loop-test .taken) (c .get-at2 .ensures .0) .longer))
     (λ c.
     let at-edge = c .before .before .before .before .before in
     let at-get = at-edge .before .before .before in
@@ -249,11 +237,8 @@ pub +expand-edge+expand-pair+expand-pairs+expand-way+explain-rec-spec : {M : Typ
     let start = at-mark .before .before .before .before .before .before in
     let p = start .pre .1 in
     let w = met (p .0 .engine) (p .1) (at-nca .forest-nca .ensures) in
-    let m = start .pre .0 in
-    let l = p .0 .long in
     let k = at-mark .mark-pairs .kept .1 .1 .1 .0 in
-    let o = w .left-older in
-    (omega arith, (record { engine = p .0 .engine; answer = p .0 .answer; long = omega arith }, w .left-up)))
+    (omega (arith, start .pre .0, w .left-older), (on-with (p .0) (p .0 .answer) k, w .left-up)))
     (λ c κs.
     let at-way = c .before .before .before .before .before .before in
     let at-nca = at-way .before .before .before in
@@ -261,12 +246,8 @@ pub +expand-edge+expand-pair+expand-pairs+expand-way+explain-rec-spec : {M : Typ
     let start = at-mark .before .before .before .before .before .before in
     let p = start .pre .1 in
     let w = met (p .0 .engine) (p .1) (at-nca .forest-nca .ensures) in
-    let m = start .pre .0 in
-    let l = p .0 .long in
-    let k = at-mark .mark-pairs .kept .1 .1 .1 .0 in
-    let r = at-way .expand-way .kept .1 .1 .1 .0 in
-    let o = w .right-older in
-    (omega arith, (record { engine = p .0 .engine; answer = at-way .expand-way .ensures .answer; long = omega arith }, w .right-up)))
+    let k = at-way .expand-way .kept .1 .1 .1 .0 ∙ at-mark .mark-pairs .kept .1 .1 .1 .0 in
+    (omega (arith, start .pre .0, w .right-older), (on-with (p .0) (at-way .expand-way .ensures .answer) k, w .right-up)))
     (λ c.
     let at-way2 = c .before .before .before .before in
     let at-way = at-way2 .before .before .before .before .before .before .before in
