@@ -13,14 +13,14 @@ use lib.ListN.{length, replicate}
 use Rattle.core.specs.Limits.{max-pairs}
 use Rattle.core.specs.Lists.{any, range}
 use Rattle.core.specs.Memory.Table.{word}
-use Rattle.core.proofs.Lists.{In, T-true, true-T, in-range, map-range-suc}
+use Rattle.core.proofs.Lists.{In, T-true, true-T, in-range}
 use Rattle.theory.specs.Types.{EqJust, Asserted, Congruence, Interface, EqLeaf, AssertedLeaf, InterfaceLeaf}
-use Rattle.theory.specs.EqEngine.{Merge, Step, Explained, are-equal, pairs-of, before, common, way, same-pair, visit, cite, path, expand-edge, explain-rec, explain, firsts-after}
+use Rattle.theory.specs.EqEngine.{Merge, Step, Explained, are-equal, pairs-of, common, way, same-pair, visit, cite, path, expand-edge, explain-rec, explain, firsts-after}
 use Rattle.theory.specs.Memory.Table.{left-word, right-word, pair-at, merges#, label-word, value-word, after-word, fparent-word, fedge-word, label, begins, kind-of, theory-of, IsNode, just-at, merge-at, pairs-start, merges-below, merges, Justified, EngineSound}
 use Rattle.theory.specs.declared.types.EqLeaf as Given
 use Rattle.theory.specs.Memory.Steps.{Upward}
 use Rattle.theory.specs.Memory.Answer.{leaves, leaf-meaning, HasRoom, Pushed, Labels, Cites, AnswerSound}
-use Rattle.theory.specs.Memory.Explaining.{age, pairs-age, steps-age, Part, NewPair, Way, Label, Pairs, part-age, NotOlder, up-to, expand-way, expand-new, expand, pairs-from, marked, is-pair, Shows, Explaining, Goes, EqualNodes, EqualPair, PairsEqual, MarksPair, Explains}
+use Rattle.theory.specs.Memory.Explaining.{age, pairs-age, Part, NewPair, Way, Label, Pairs, part-age, NotOlder, up-to, expand-way, expand-new, expand, pairs-from, marked, is-pair, Shows, Explaining, Goes, EqualNodes, EqualPair, PairsEqual, MarksPair, Explains}
 use Rattle.theory.proofs.Members.{in-left, in-right}
 use Rattle.theory.proofs.Classes.{Same, same-kept, same-equal, equal-same}
 use Rattle.theory.proofs.Forest.{Forest, Above, at-root, at-step, before-self, before-step, way-meets}

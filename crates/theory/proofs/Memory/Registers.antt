@@ -10,19 +10,35 @@ use native.Mathlib.Numerals.{add-one}
 use native.Mathlib.Omega.{arith}
 use borrow.Author.Count.{below-more}
 use borrow.Author.Tests.{eq-eqb, ne-eqb}
-use lib.Dec.{eqb}
+use lib.Dec.{T, eqb, leb, lit<}
 use lib.ListN.{length}
 use Rattle.core.specs.Limits.{max-vars, max-terms}
 use Rattle.core.specs.Lists.{first, range}
-use Rattle.core.specs.Memory.Words.{at, put, counted}
+use Rattle.core.specs.Memory.Words.{at, put, apart, counted}
 use Rattle.core.proofs.Lists.{In, in-at, in-range}
 use Rattle.core.proofs.Memory.Counted.{counted-length, counted-at, counted-grown}
 use Rattle.core.proofs.Memory.Searching.{any-found}
+use Rattle.core.proofs.Memory.Stores as Stores
 use Rattle.theory.specs.Atom.{Registered, register, is-registered}
-use Rattle.theory.specs.Memory.Registry.{COUNTS, VARS, VAR, ATOM, FIRST, registry-size, vars#, registered-at, atoms, of-var, of-atom, word-for, or-else, atom-word, first-word, first-with, RegistrySound, Registrable}
+use Rattle.theory.specs.Memory.Registry.{COUNTS, VARS, VAR, ATOM, FIRST, registry-room, registry-size, vars#, registered-at, atoms, of-var, of-atom, word-for, or-else, atom-word, first-word, first-with, RegistrySound, Registrable}
 use Rattle.theory.proofs.Members.{Apart, apart-length, apart-last}
 use Rattle.theory.proofs.Sizes.{length-range}
-use Rattle.theory.proofs.Memory.Registering.{stores, registered-yes}
+use Rattle.theory.proofs.Memory.Registering.{registered-yes}
+
+-- ---- stores
+
+other : (t : List ℕ) (b c x y v : ℕ) → T (apart registry-room b c) → x < registry-room b → y < registry-room c →
+    at (put t c y v) b x ≡ at t b x
+other = Stores.other-region registry-room
+
+same : (t : List ℕ) (b x v : ℕ) → T (leb (b + registry-room b) registry-size) → registry-size ≤ length t → x < registry-room b →
+    at (put t b x v) b x ≡ v
+same = Stores.same-place registry-room registry-size
+
+long : (t : List ℕ) (b x v : ℕ) → registry-size ≤ length t → registry-size ≤ length (put t b x v)
+long = Stores.put-long registry-room registry-size
+
+ruleset stores = (tt, lit<, other, same, long, Stores.other-place, Stores.length-put)
 
 -- ---- a variable that is not registered
 
