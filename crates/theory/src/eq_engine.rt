@@ -10,21 +10,21 @@ use core::table::get;
 use core::table::get_at;
 use core::table::put;
 use core::table::put_at;
-ghost use Prim.Native.Nat.{ℕ, suc, _+_, _<_, _≤_};
+ghost use Prim.Native.Nat.{suc, _+_, _<_, _≤_};
 ghost use mathlib.Core.Path.{_≡_};
 ghost use mathlib.Core.Bool.{true, false, cond, _&&_};
-ghost use mathlib.Core.List.{[], _∷_, _++_};
-ghost use lib.Dec.{eqb, leb};
+ghost use mathlib.Core.List.{[], _∷_};
+ghost use lib.Dec.{eqb};
 ghost use lib.ListN.{length, set};
 ghost use Rattle.core.specs.Lists.{zip};
 ghost use Rattle.theory.specs.Types.{Congruence};
-ghost use Rattle.theory.specs.EqEngine.{child, root, find, are-equal, merge, pop-merges, pairs-of, pairs-in-force, before, common, way, same-pair, explain, firsts-after};
+ghost use Rattle.theory.specs.EqEngine.{child, root, find, are-equal, merge, pairs-in-force, before, common, way, same-pair};
 ghost use Rattle.core.specs.Limits.{max-terms, max-pairs, max-levels};
 ghost use Rattle.core.specs.Memory.Words.{put};
 ghost use Rattle.theory.specs.Memory.Replay.{IsNode, end};
-ghost use Rattle.theory.specs.Memory.Table.{engine-size, PARENT, SIZE, FPARENT, merges#, size-word, parent-word, left-word, right-word, pair-at, label, just-at, merges, just-meaning, level, EngineSound, Engine, TwoNodes, Merges, Congruent, Pops};
+ghost use Rattle.theory.specs.Memory.Table.{engine-size, PARENT, SIZE, FPARENT, merges#, size-word, parent-word, pair-at, label, just-at, merges, just-meaning, level, EngineSound, Engine, TwoNodes, Merges, Congruent, Pops};
 ghost use Rattle.theory.specs.Memory.Steps.{Upward, Rerooted, Spliced, TwoClasses, united, Entry, logged, Joinable, HoldsLabel, PairRoom, Copied, Separable, separated, Undoes, newest-above, Drops};
-ghost use Rattle.theory.specs.Memory.Explaining.{NewPair, Way, Label, Pairs, pairs-from, is-pair, Explaining, Goes, EqualNodes, EqualPair, PairsEqual, MarksPair, Markable, Explainable, Explains};
+ghost use Rattle.theory.specs.Memory.Explaining.{NewPair, Way, Label, Pairs, up-to, pairs-from, is-pair, Explaining, Goes, EqualNodes, EqualPair, PairsEqual, MarksPair, Markable, Explainable, Explains};
 
 // ---- the layout of the table (specs/Memory/Table.antt)
 
@@ -499,7 +499,7 @@ fn explain_rec(t: &[u32], a: usize, b: usize, marks: &mut [u32], out: &mut [u32]
 fn expand_way(t: &[u32], node: usize, top: usize, marks: &mut [u32], out: &mut [u32])
     requires { ⌜ Explaining (now t) (now marks) (now out) × Upward (now t) node top ⌝ }
     ensures { λ _. ⌜ Goes (now (t .entry)) (now (marks .entry)) (now (out .entry)) (now (marks .exit)) (now (out .exit))
-        (Way (before top (way (merges (now (t .entry))) node))) ⌝ }
+        (Way (up-to (now (t .entry)) node top)) ⌝ }
 {
     let mut n = node;
     while n != top {
@@ -516,7 +516,7 @@ fn expand_edge(t: &[u32], i: usize, marks: &mut [u32], out: &mut [u32])
 {
     let word = get_at(t, LABEL, i);
     let value = get_at(t, VALUE, i);
-    let kind = word / 65536 % 4;
+    let kind = word / KIND_UNIT % 4;
     if kind == 0 {
         push_leaf(out, EqLeaf::Asserted(Lit(value as u32)));
     } else if kind == 1 {
@@ -525,7 +525,7 @@ fn expand_edge(t: &[u32], i: usize, marks: &mut [u32], out: &mut [u32])
         push_leaf(
             out,
             EqLeaf::Interface(TheoryJust {
-                theory: (word % 65536) as u16,
+                theory: (word % KIND_UNIT) as u16,
                 tag: value as u32,
             }),
         );

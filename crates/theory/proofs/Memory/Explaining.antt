@@ -1,10 +1,11 @@
 -- What each step of an explanation does to the marks and to the answer table.
-use Prim.Native.Nat.{ℕ, zero, suc, _+_, _-_, _/_, _%_, _≤_, _<_}
+use Prim.Native.Nat.{ℕ, zero, suc, _+_, _-_, _≤_, _<_}
 use mathlib.Core.Path.{_≡_, refl, sym, subst, ap, ap₂, _∙_}
 use mathlib.Core.Logic.{_⊎_, inl, inr}
-use mathlib.Core.Bool.{Bool, true, false, cond, _||_}
-use mathlib.Core.List.{List, [], _∷_, _++_, map, foldl-append, append-nil}
+use mathlib.Core.Bool.{Bool, true, false, cond, _||_, or-false, or-true}
+use mathlib.Core.List.{List, [], _∷_, _++_, map, foldl-append, append-nil, append-assoc}
 use native.Mathlib.Decide.{ℕ-discrete}
+use native.Mathlib.Numerals.{add-one}
 use native.Mathlib.Omega.{arith}
 use borrow.Author.Tests.{eq-eqb, ne-eqb}
 use lib.Dec.{eqb}
@@ -12,28 +13,35 @@ use lib.ListN.{length, replicate}
 use Rattle.core.specs.Limits.{max-pairs}
 use Rattle.core.specs.Lists.{any, range}
 use Rattle.core.specs.Memory.Table.{word}
-use Rattle.core.proofs.Lists.{In, T-true, true-T, in-range, map-range-suc}
+use Rattle.core.proofs.Lists.{In, T-true, true-T, in-range}
 use Rattle.theory.specs.Types.{EqJust, Asserted, Congruence, Interface, EqLeaf, AssertedLeaf, InterfaceLeaf}
-use Rattle.theory.specs.EqEngine.{Merge, Step, Explained, are-equal, pairs-of, pairs-in-force, before, common, way, same-pair, visit, cite, path, expand-edge, explain-rec, explain, firsts-after}
+use Rattle.theory.specs.EqEngine.{Merge, Step, Explained, are-equal, pairs-of, common, way, same-pair, visit, cite, path, expand-edge, explain-rec, explain, firsts-after}
 use Rattle.theory.specs.Memory.Replay.{IsNode, Justified}
-use Rattle.theory.specs.Memory.Table.{left-word, right-word, pair-at, merges#, label-word, value-word, after-word, fparent-word, fedge-word, label, begins, just-at, merge-at, pairs-start, merges-below, merges, EngineSound}
+use Rattle.theory.specs.Memory.Table.{left-word, right-word, pair-at, merges#, label-word, value-word, after-word, fparent-word, fedge-word, label, begins, kind-of, theory-of, just-at, merge-at, pairs-start, merges-below, merges, EngineSound}
 use Rattle.theory.specs.declared.types.EqLeaf as Given
 use Rattle.theory.specs.Memory.Steps.{Upward}
 use Rattle.theory.specs.Memory.Answer.{leaves, leaf-meaning, HasRoom, Pushed, Labels, Cites, AnswerSound}
-use Rattle.theory.specs.Memory.Explaining.{age, pairs-age, steps-age, Part, NewPair, Way, Label, Pairs, part-age, expand-way, expand-new, expand, pairs-from, marked, is-pair, Shows, Explaining, Goes, EqualNodes, EqualPair, PairsEqual, MarksPair, Explains}
+use Rattle.theory.specs.Memory.Explaining.{age, pairs-age, Part, NewPair, Way, Label, Pairs, part-age, NotOlder, up-to, expand-way, expand-new, expand, pairs-from, marked, is-pair, Shows, Explaining, Goes, EqualNodes, EqualPair, PairsEqual, MarksPair, Explains}
 use Rattle.theory.proofs.Members.{in-left, in-right}
 use Rattle.theory.proofs.Classes.{Same, same-kept, same-equal, equal-same}
-use Rattle.theory.proofs.Forest.{Forest, Above, at-root, at-step, above-trans, from-step, shorter, longer, before-self, before-step, before-next, climb, way-meets}
+use Rattle.theory.proofs.Forest.{Forest, Above, at-root, at-step, before-self, before-step, way-meets}
 use Rattle.theory.proofs.Explain.{pairs-before}
 use Rattle.theory.proofs.Ages.{pairs-age-in, pairs-age-among, steps-age-in, steps-age-among, age-bound, ways-older}
 use Rattle.theory.proofs.Memory.Log.{merges-length, sound-joins, after-within, in-force-few}
 use Rattle.theory.proofs.Memory.Walks.{sound-forest, Rises, first-edge}
 use Rattle.theory.proofs.Memory.Leaves.{push-room, push-sound, pushed-firsts}
 
+-- the nearest common ancestor of two equal nodes
+abbrev nca : List ℕ → ℕ → ℕ → ℕ
+nca t a b = common a (way (merges t) a) b (way (merges t) b)
+
+-- an explanation goes on with other marks and leaves
+pub on-with : {t m o m₁ o₁ : List ℕ} → Explaining t m o → AnswerSound (merges t) o₁ → length m₁ ≡ length m → Explaining t m₁ o₁
+on-with z y e = record { engine = z .engine; answer = y; long = let l = z .long in omega arith }
+
 -- ---- one part after the other, or nothing to do
 
-goes-then : {t m₀ o₀ m₁ o₁ m₂ o₂ : List ℕ} {p q : Part} (r : Part) → part-age (merges t) p ≤ part-age (merges t) r →
-    part-age (merges t) q ≤ part-age (merges t) r →
+goes-then : {t m₀ o₀ m₁ o₁ m₂ o₂ : List ℕ} {p q : Part} (r : Part) → NotOlder t p r → NotOlder t q r →
     ((d : ℕ) (e : Explained) → expand (merges t) q d (expand (merges t) p d e) ≡ expand (merges t) r d e) →
     Goes t m₀ o₀ m₁ o₁ p → Goes t m₁ o₁ m₂ o₂ q → Goes t m₀ o₀ m₂ o₂ r
 goes-then {t} {p = p} r a b h x y = record {
@@ -41,8 +49,14 @@ goes-then {t} {p = p} r a b h x y = record {
   shows = λ d seen e n s. rw (h d e) at (y .shows d seen (expand (merges t) p d e) (omega arith) (x .shows d seen e (omega arith) s));
 }
 
-goes-nothing : {t m o : List ℕ} (p : Part) → AnswerSound (merges t) o → ((d : ℕ) (e : Explained) → expand (merges t) p d e ≡ e) → Goes t m o m o p
+goes-nothing : {t m o : List ℕ} (p : Part) → AnswerSound (merges t) o → ((d : ℕ) (e : Explained) → expand (merges t) p d e ≡ e) →
+    Goes t m o m o p
 goes-nothing {t} {m} {o} p z h = record { answer = z; shows = λ d seen e n s. subst (Shows t m o seen) (sym (h d e)) s }
+
+way-append : (ms : List Merge) (u w : List Step) (d : ℕ) (e : Explained) →
+    expand-way ms w d (expand-way ms u d e) ≡ expand-way ms (u ++ w) d e
+unfolding expand-way
+way-append ms u w d e = sym (foldl-append (λ (f : Explained) (s : Step). expand-edge (explain-rec d ms) (s .just) f) e u w)
 
 -- ---- a pair that is new, or has been expanded
 
@@ -60,20 +74,16 @@ module _ (ms : List Merge) (x y : ℕ) (e : Explained) where
   new-is : (d : ℕ) → any (same-pair x y) (e .visited) ≡ false → expand-new ms x y d e ≡ explain-rec d ms x y e
   unfolding expand-new explain-rec expand-way
   new-is zero q = refl
-  new-is (suc d) q = ap (λ (b : Bool). cond b e (expand-way ms (path ms x y) d (visit x y e))) (go (eqb x y) q)
-    where
-      go : (a : Bool) {b : Bool} → b ≡ false → a ≡ (a || b)
-      go true q = refl
-      go false q = sym q
+  new-is (suc d) q =
+      ap (λ (b : Bool). cond b e (expand-way ms (path ms x y) d (visit x y e)))
+      (sym (ap (λ (b : Bool). eqb x y || b) q ∙ or-false (eqb x y)))
 
   skip-is : (d : ℕ) → any (same-pair x y) (e .visited) ≡ true → e ≡ explain-rec d ms x y e
   unfolding explain-rec expand-way
   skip-is zero q = refl
-  skip-is (suc d) q = sym (ap (λ (b : Bool). cond b e (expand-way ms (path ms x y) d (visit x y e))) (go (eqb x y) q))
-    where
-      go : (a : Bool) {b : Bool} → b ≡ true → (a || b) ≡ true
-      go true q = refl
-      go false q = q
+  skip-is (suc d) q =
+      sym
+      (ap (λ (b : Bool). cond b e (expand-way ms (path ms x y) d (visit x y e))) (ap (λ (b : Bool). eqb x y || b) q ∙ or-true (eqb x y)))
 
 -- ---- explain_rec
 
@@ -81,7 +91,8 @@ pub goes-one : {t m o : List ℕ} {a b : ℕ} → Explaining t m o → a ≡ b �
 unfolding expand
 goes-one {t} {a = a} {b = b} z q = goes-nothing (NewPair a b) (z .answer) (λ d e. expand-one (merges t) a b e d q)
 
-visit-shows : {t m m₁ o : List ℕ} {a b : ℕ} {seen : List EqLeaf} {e : Explained} → MarksPair t a b m m₁ → Shows t m o seen e → Shows t m₁ o seen (visit a b e)
+visit-shows : {t m m₁ o : List ℕ} {a b : ℕ} {seen : List EqLeaf} {e : Explained} → MarksPair t a b m m₁ → Shows t m o seen e →
+    Shows t m₁ o seen (visit a b e)
 unfolding visit any
 visit-shows {t} {a = a} {b = b} k s =
     record { listed = s .listed; marks-are = λ j h. k .each j h ∙ ap (cond (is-pair t j (a, b)) true) (s .marks-are j h) }
@@ -90,10 +101,10 @@ visit-shows {t} {a = a} {b = b} k s =
 pub record Met (t : List ℕ) (a b n : ℕ) : Type 0 where
   pub left-up : Upward t a n
   pub right-up : Upward t b n
-  pub left-older : part-age (merges t) (Way (before n (way (merges t) a))) < part-age (merges t) (NewPair a b)
-  pub right-older : part-age (merges t) (Way (before n (way (merges t) b))) < part-age (merges t) (NewPair a b)
+  pub left-older : part-age (merges t) (Way (up-to t a n)) < part-age (merges t) (NewPair a b)
+  pub right-older : part-age (merges t) (Way (up-to t b n)) < part-age (merges t) (NewPair a b)
 
-pub met : {t : List ℕ} {a b n : ℕ} → EngineSound t → EqualNodes t a b → n ≡ common a (way (merges t) a) b (way (merges t) b) → Met t a b n
+pub met : {t : List ℕ} {a b n : ℕ} → EngineSound t → EqualNodes t a b → n ≡ nca t a b → Met t a b n
 unfolding part-age
 met {t} {a} {b} {n} z k q =
     let same = equal-same (merges t) a b (true-T (are-equal (merges t) a b) (k .equal)) in
@@ -107,53 +118,50 @@ met {t} {a} {b} {n} z k q =
     }
 
 pub goes-two : {t m o m₁ m₂ o₂ m₃ o₃ : List ℕ} {a b n : ℕ} → EngineSound t → EqualNodes t a b → (a ≡ b → ⊥) → MarksPair t a b m m₁ →
-    n ≡ common a (way (merges t) a) b (way (merges t) b) → Goes t m₁ o m₂ o₂ (Way (before n (way (merges t) a))) →
-    Goes t m₂ o₂ m₃ o₃ (Way (before n (way (merges t) b))) → Goes t m o m₃ o₃ (NewPair a b)
+    n ≡ nca t a b → Goes t m₁ o m₂ o₂ (Way (up-to t a n)) → Goes t m₂ o₂ m₃ o₃ (Way (up-to t b n)) → Goes t m o m₃ o₃ (NewPair a b)
 unfolding expand expand-way path part-age
 goes-two {t} {m} {o} {m₃ = m₃} {o₃ = o₃} {a = a} {b = b} {n = n} z k h marks q x y = record { answer = y .answer; shows = shows }
   where
-    W : ℕ → List Step
-    W = way (merges t)
+    first : ℕ → Explained → Explained
+    first d e = expand-way (merges t) (up-to t a n) d (visit a b e)
 
-    both : (d : ℕ) (e : Explained) → expand-way (merges t) (before n (W b)) d (expand-way (merges t) (before n (W a)) d (visit a b e)) ≡ expand-new (merges t) a b (suc d) e
+    both : (d : ℕ) (e : Explained) → expand-way (merges t) (up-to t b n) d (first d e) ≡ expand-new (merges t) a b (suc d) e
     both d e =
-        sym (foldl-append (λ (f : Explained) (s : Step). expand-edge (explain-rec d (merges t)) (s .just) f) (visit a b e) (before n (W a)) (before n (W b)))
-        ∙ ap (λ (v : ℕ). expand-way (merges t) (before v (W a) ++ before v (W b)) d (visit a b e)) q
+        way-append (merges t) (up-to t a n) (up-to t b n) d (visit a b e)
+        ∙ ap (λ (v : ℕ). expand-way (merges t) (up-to t a v ++ up-to t b v) d (visit a b e)) q
         ∙ sym (expand-two (merges t) a b e d h)
 
-    shows : (d : ℕ) (seen : List EqLeaf) (e : Explained) → suc (age (merges t) a b) ≤ d → Shows t m o seen e → Shows t m₃ o₃ seen (expand-new (merges t) a b d e)
+    shows : (d : ℕ) (seen : List EqLeaf) (e : Explained) → suc (age (merges t) a b) ≤ d → Shows t m o seen e →
+        Shows t m₃ o₃ seen (expand-new (merges t) a b d e)
     shows zero seen e l s = absurd (omega arith)
     shows (suc d) seen e l s =
         let w = met z k q in
+        let v = w .left-older in
+        let u = w .right-older in
         subst (Shows t m₃ o₃ seen) (both d e)
-        (y .shows d seen (expand-way (merges t) (before n (W a)) d (visit a b e)) (let v = w .right-older in omega arith)
-        (x .shows d seen (visit a b e) (let v = w .left-older in omega arith) (visit-shows marks s)))
+        (y .shows d seen (first d e) (omega arith) (x .shows d seen (visit a b e) (omega arith) (visit-shows marks s)))
 
 -- ---- expand_way
 
--- the steps from node up to n are expanded, and top stands above n
+-- the steps walked are expanded; those from n up to top are left
 pub record Walking (t : List ℕ) (node top : ℕ) (m₀ o₀ m o : List ℕ) (n : ℕ) : Type 0 where
   pub within : IsNode n
-  pub on : Above (way (merges t)) n node
   pub ahead : Above (way (merges t)) top n
   pub marks-long : length m ≡ length m₀
   pub out-long : length o ≡ length o₀
-  pub goes : Goes t m₀ o₀ m o (Way (before n (way (merges t) node)))
+  pub walked : List Step
+  pub whole : up-to t node top ≡ walked ++ up-to t n top
+  pub goes : Goes t m₀ o₀ m o (Way walked)
 
 pub walk-first : {t m o : List ℕ} {node top : ℕ} → Explaining t m o → Upward t node top → Walking t node top m o m o node
 unfolding expand expand-way
-walk-first {t} {node = node} z u = record {
-  within = u .is-node;
-  on = inl refl;
-  ahead = u .above;
-  marks-long = refl;
-  out-long = refl;
-  goes =
-      goes-nothing (Way (before node (way (merges t) node))) (z .answer)
-      (λ d e. ap (λ (w : List Step). expand-way (merges t) w d e) (before-self (way (merges t)) (sound-forest t (z .engine)) node));
-}
+walk-first z u =
+    let goes = goes-nothing (Way []) (z .answer) (λ d e. refl) in
+    record { within = u .is-node; ahead = u .above; marks-long = refl; out-long = refl; walked = []; whole = refl; goes = goes }
 
-module _ {t : List ℕ} {node top : ℕ} {m₀ o₀ m o : List ℕ} {n : ℕ} (z : EngineSound t) (c : Walking t node top m₀ o₀ m o n) (h : n ≡ top → ⊥) where
+-- one step more, from n, which is not top
+module _ {t : List ℕ} {node top : ℕ} {m₀ o₀ m o : List ℕ} {n : ℕ} (z : EngineSound t) (c : Walking t node top m₀ o₀ m o n)
+    (h : n ≡ top → ⊥) where
   abbrev W : ℕ → List Step
   W = way (merges t)
 
@@ -171,149 +179,123 @@ module _ {t : List ℕ} {node top : ℕ} {m₀ o₀ m o : List ℕ} {n : ℕ} (z
   pub walk-edge : {i : ℕ} → i ≡ fedge-word t n → i < merges# t
   walk-edge e = let k = walk-rises refl .edge in omega arith
 
-  -- the edge above n is one of those from node up to top
-  walk-in : (s : Step) (w : List Step) → W n ≡ s ∷ w → In s (before top (W node))
-  walk-in s w p =
-      climb W F (λ x. In s (before top (W x))) n (subst (λ (u : List Step). In s u) (sym (before-step W F top n s w p h)) (inl refl))
-      (λ x u v q k j f. subst (λ (l : List Step). In s l) (sym (before-step W F top x u v q (below x u v q j))) (inr f))
-      (W node) node refl (c .on)
-    where
-      below : (x : ℕ) (u : Step) (v : List Step) → W x ≡ u ∷ v → Above W n (u .up) → x ≡ top → ⊥
-      below x u v q j e =
-          let a = longer W F x u v q in
-          let b = shorter W F n (u .up) j in
-          let d = shorter W F top n (c .ahead) in
-          let g = ap (λ (y : ℕ). length (W y)) e in
-          omega arith
+  split-off : {p : ℕ} (r : Rises t n p) → up-to t node top ≡ c .walked ++ (r .step ∷ up-to t p top)
+  split-off r =
+      c .whole
+      ∙ ap (λ (w : List Step). c .walked ++ w)
+      (before-step W F top n (r .step) (r .rest) (r .is) h ∙ ap (λ (v : ℕ). r .step ∷ up-to t v top) (r .up))
 
-  pub walk-older : {i : ℕ} → i ≡ fedge-word t n → part-age (merges t) (Label (just-at t i)) ≤ part-age (merges t) (Way (before top (W node)))
+  pub walk-older : {i : ℕ} → i ≡ fedge-word t n → NotOlder t (Label (just-at t i)) (Way (up-to t node top))
   unfolding part-age
   walk-older e =
       let r = walk-rises refl in
-      subst (λ (j : EqJust). pairs-age (merges t) (pairs-of j) ≤ steps-age (merges t) (before top (W node))) (sym (ap (just-at t) e ∙ r .label))
-      (steps-age-in (merges t) (before top (W node)) (r .step) (walk-in (r .step) (r .rest) (r .is)))
+      let here = in-right (r .step) (c .walked) (r .step ∷ up-to t (fparent-word t n) top) (inl refl) in
+      let among = subst (λ (w : List Step). In (r .step) w) (sym (split-off r)) here in
+      subst (λ (j : EqJust). NotOlder t (Label j) (Way (up-to t node top))) (sym (ap (just-at t) e ∙ r .label))
+      (steps-age-in (merges t) (up-to t node top) (r .step) among)
 
   pub walk-next : {i p : ℕ} {m₁ o₁ : List ℕ} → i ≡ fedge-word t n → p ≡ fparent-word t n → Goes t m o m₁ o₁ (Label (just-at t i)) →
       length m₁ ≡ length m → length o₁ ≡ length o → Walking t node top m₀ o₀ m₁ o₁ p
   unfolding expand expand-way part-age
-  walk-next {i} {p} {m₁} {o₁} e q g a b = record {
-    within = r .within;
-    on = subst (λ (v : ℕ). Above W v node) (r .up) (above-trans W F (W node) (s .up) n node refl (c .on) (from-step W F (s .up) n s (r .rest) (r .is) (inl refl)));
-    ahead = subst (λ (v : ℕ). Above W top v) (r .up) (up (at-step W F top n s (r .rest) (r .is) (c .ahead)));
-    marks-long = a ∙ c .marks-long;
-    out-long = b ∙ c .out-long;
-    goes =
-        subst (λ (v : List Step). Goes t m₀ o₀ m₁ o₁ (Way v)) (sym more)
-        (goes-then (Way (u ++ (s ∷ []))) (steps-age-among (merges t) u (u ++ (s ∷ [])) (λ k. in-left k u (s ∷ [])))
-        (steps-age-in (merges t) (u ++ (s ∷ [])) s (in-right s u (s ∷ []) (inl refl)))
-        (λ d f. sym (foldl-append (λ (f′ : Explained) (s′ : Step). expand-edge (explain-rec d (merges t)) (s′ .just) f′) f u (s ∷ [])))
-        (c .goes) (subst (λ (j : EqJust). Goes t m o m₁ o₁ (Label j)) (ap (just-at t) e ∙ r .label) g));
-  }
+  walk-next {i} {p} {m₁} {o₁} e q g a b =
+      let r = walk-rises q in
+      let s = r .step in
+      let w = c .walked in
+      let w′ = w ++ (s ∷ []) in
+      record {
+        within = r .within;
+        ahead = subst (λ (v : ℕ). Above W top v) (r .up) (up (at-step W F top n s (r .rest) (r .is) (c .ahead)));
+        marks-long = a ∙ c .marks-long;
+        out-long = b ∙ c .out-long;
+        walked = w′;
+        whole = split-off r ∙ sym (append-assoc w (s ∷ []) (up-to t p top));
+        goes =
+            goes-then (Way w′) (steps-age-among (merges t) w w′ (λ k. in-left k w (s ∷ [])))
+            (steps-age-in (merges t) w′ s (in-right s w (s ∷ []) (inl refl)))
+            (way-append (merges t) w (s ∷ []))
+            (c .goes) (subst (λ (j : EqJust). Goes t m o m₁ o₁ (Label j)) (ap (just-at t) e ∙ r .label) g);
+      }
     where
-      r : Rises t n p
-      r = walk-rises q
-
-      s : Step
-      s = r .step
-
-      u : List Step
-      u = before n (W node)
-
-      more : before p (W node) ≡ u ++ (s ∷ [])
-      more = ap (λ (v : ℕ). before v (W node)) (sym (r .up)) ∙ before-next W F n node s (r .rest) (c .on) (r .is)
-
-      up : (top ≡ n) ⊎ Above W top (s .up) → Above W top (s .up)
+      up : {v : ℕ} → (top ≡ n) ⊎ Above W top v → Above W top v
       up (inl k) = absurd (h (sym k))
       up (inr k) = k
 
-pub walk-done : {t : List ℕ} {node top : ℕ} {m₀ o₀ m o : List ℕ} {n : ℕ} → Walking t node top m₀ o₀ m o n → n ≡ top → Goes t m₀ o₀ m o (Way (before top (way (merges t) node)))
-walk-done {t} {node} {m₀ = m₀} {o₀ = o₀} {m = m} {o = o} c e = subst (λ (v : ℕ). Goes t m₀ o₀ m o (Way (before v (way (merges t) node)))) e (c .goes)
+pub walk-done : {t : List ℕ} {node top : ℕ} {m₀ o₀ m o : List ℕ} {n : ℕ} → EngineSound t → Walking t node top m₀ o₀ m o n → n ≡ top →
+    Goes t m₀ o₀ m o (Way (up-to t node top))
+walk-done {t} {top = top} {m₀ = m₀} {o₀ = o₀} {m = m} {o = o} z c e =
+    let none-left = ap (λ (v : ℕ). up-to t v top) e ∙ before-self (way (merges t)) (sound-forest t z) top in
+    subst (λ (w : List Step). Goes t m₀ o₀ m o (Way w))
+    (sym (c .whole ∙ ap (λ (w : List Step). c .walked ++ w) none-left ∙ append-nil (c .walked))) (c .goes)
 
 -- ---- expand_pairs
 
--- the pairs up to j are explained
+-- the pairs before j are explained
 pub record Pairing (t : List ℕ) (from to : ℕ) (m₀ o₀ m o : List ℕ) (j : ℕ) : Type 0 where
   pub after : from ≤ j
   pub within : j ≤ to
   pub marks-long : length m ≡ length m₀
   pub out-long : length o ≡ length o₀
-  pub goes : Goes t m₀ o₀ m o (Pairs (pairs-from t from j))
+  pub done : List (ℕ × ℕ)
+  pub whole : pairs-from t from to ≡ done ++ pairs-from t j to
+  pub goes : Goes t m₀ o₀ m o (Pairs done)
 
-pairs-none : (t : List ℕ) (from : ℕ) → pairs-from t from from ≡ []
+pairs-next : (t : List ℕ) (j to : ℕ) → j < to → pairs-from t j to ≡ pair-at t j ∷ pairs-from t (j + 1) to
 unfolding pairs-from range
-pairs-none t from = let e : from - from ≡ 0 = omega arith in ap (λ (n : ℕ). map (pair-at t) (range from n)) e
-
-pairs-last : (t : List ℕ) (from j : ℕ) → from ≤ j → pairs-from t from (j + 1) ≡ pairs-from t from j ++ (pair-at t j ∷ [])
-unfolding pairs-from
-pairs-last t from j h =
-    let count : (j + 1) - from ≡ suc (j - from) = omega arith in
-    let last : from + (j - from) ≡ j = omega arith in
-    ap (λ (n : ℕ). map (pair-at t) (range from n)) count
-    ∙ map-range-suc (pair-at t) from (j - from)
-    ∙ ap (λ (i : ℕ). map (pair-at t) (range from (j - from)) ++ (pair-at t i ∷ [])) last
-
-pair-in : (t : List ℕ) (from to j : ℕ) → from ≤ j → j < to → In (pair-at t j) (pairs-from t from to)
-unfolding pairs-from
-pair-in t from to j h k = go (range from (to - from)) (in-range from (to - from) j h (omega arith))
-  where
-    go : (xs : List ℕ) → In j xs → In (pair-at t j) (map (pair-at t) xs)
-    go [] i = absurd i
-    go (x ∷ xs) (inl e) = inl (ap (pair-at t) e)
-    go (x ∷ xs) (inr i) = inr (go xs i)
+pairs-next t j to h =
+    let count : to - j ≡ suc (to - (j + 1)) = omega arith in
+    ap (λ (n : ℕ). map (pair-at t) (range j n)) count
+    ∙ ap (λ (i : ℕ). pair-at t j ∷ map (pair-at t) (range i (to - (j + 1)))) (sym (add-one j))
 
 pub pair-first : {t m o : List ℕ} {from to : ℕ} → Explaining t m o → from ≤ to → Pairing t from to m o m o from
 unfolding expand
-pair-first {t} {from = from} z h = record {
-  after = omega arith;
-  within = h;
-  marks-long = refl;
-  out-long = refl;
-  goes =
-      goes-nothing (Pairs (pairs-from t from from)) (z .answer)
-      (λ d e. ap (λ (ps : List (ℕ × ℕ)). expand (merges t) (Pairs ps) d e) (pairs-none t from));
-}
+pair-first z h =
+    let goes = goes-nothing (Pairs []) (z .answer) (λ d e. refl) in
+    record { after = omega arith; within = h; marks-long = refl; out-long = refl; done = []; whole = refl; goes = goes }
 
--- one pair is not older than all of them
-pub pair-older : {t : List ℕ} {from to : ℕ} {m₀ o₀ m o : List ℕ} {j : ℕ} → Pairing t from to m₀ o₀ m o j → j < to →
-    part-age (merges t) (Pairs (pair-at t j ∷ [])) ≤ part-age (merges t) (Pairs (pairs-from t from to))
-unfolding part-age
-pair-older {t} {from} {to} {j = j} c k = pairs-age-among (merges t) (pair-at t j ∷ []) (pairs-from t from to) go
-  where
-    go : (p : ℕ × ℕ) → In p (pair-at t j ∷ []) → In p (pairs-from t from to)
-    go p (inl e) = subst (λ (q : ℕ × ℕ). In q (pairs-from t from to)) (sym e) (pair-in t from to j (c .after) k)
-    go p (inr i) = absurd i
+module _ {t : List ℕ} {from to : ℕ} {m₀ o₀ m o : List ℕ} {j : ℕ} (c : Pairing t from to m₀ o₀ m o j) (h : j < to) where
+  one-off : pairs-from t from to ≡ c .done ++ (pair-at t j ∷ pairs-from t (j + 1) to)
+  one-off = c .whole ∙ ap (λ (ps : List (ℕ × ℕ)). c .done ++ ps) (pairs-next t j to h)
 
-pub pair-next : {t : List ℕ} {from to : ℕ} {m₀ o₀ m o m₁ o₁ : List ℕ} {j : ℕ} → Pairing t from to m₀ o₀ m o j → j < to →
-    Goes t m o m₁ o₁ (Pairs (pair-at t j ∷ [])) → length m₁ ≡ length m → length o₁ ≡ length o → Pairing t from to m₀ o₀ m₁ o₁ (j + 1)
-unfolding expand part-age
-pair-next {t} {from} {m₀ = m₀} {o₀ = o₀} {m₁ = m₁} {o₁ = o₁} {j = j} c h g a b =
-    let f = c .after in
-    let us = pairs-from t from j in
-    let vs : List (ℕ × ℕ) = pair-at t j ∷ [] in
-    record {
-      after = omega arith;
-      within = omega arith;
-      marks-long = a ∙ c .marks-long;
-      out-long = b ∙ c .out-long;
-      goes =
-          subst (λ (ps : List (ℕ × ℕ)). Goes t m₀ o₀ m₁ o₁ (Pairs ps)) (sym (pairs-last t from j f))
-          (goes-then (Pairs (us ++ vs)) (pairs-age-among (merges t) us (us ++ vs) (λ p. in-left p us vs))
-          (pairs-age-among (merges t) vs (us ++ vs) (λ p. in-right p us vs))
-          (λ d e. sym (foldl-append (λ (e′ : Explained) (p : ℕ × ℕ). explain-rec d (merges t) (p .0) (p .1) e′) e us vs))
-          (c .goes) g);
-    }
+  pub pair-older : NotOlder t (Pairs (pair-at t j ∷ [])) (Pairs (pairs-from t from to))
+  unfolding part-age
+  pair-older = pairs-age-among (merges t) (pair-at t j ∷ []) (pairs-from t from to) go
+    where
+      go : (p : ℕ × ℕ) → In p (pair-at t j ∷ []) → In p (pairs-from t from to)
+      go p (inl e) =
+          subst (λ (ps : List (ℕ × ℕ)). In p ps) (sym one-off) (in-right p (c .done) (pair-at t j ∷ pairs-from t (j + 1) to) (inl e))
+      go p (inr i) = absurd i
 
-pub pair-done : {t : List ℕ} {from to : ℕ} {m₀ o₀ m o : List ℕ} {j : ℕ} → Pairing t from to m₀ o₀ m o j → to ≤ j → Goes t m₀ o₀ m o (Pairs (pairs-from t from to))
+  pub pair-next : {m₁ o₁ : List ℕ} → Goes t m o m₁ o₁ (Pairs (pair-at t j ∷ [])) → length m₁ ≡ length m → length o₁ ≡ length o →
+      Pairing t from to m₀ o₀ m₁ o₁ (j + 1)
+  unfolding expand part-age
+  pair-next g a b =
+      let f = c .after in
+      let us = c .done in
+      let vs : List (ℕ × ℕ) = pair-at t j ∷ [] in
+      record {
+        after = omega arith;
+        within = omega arith;
+        marks-long = a ∙ c .marks-long;
+        out-long = b ∙ c .out-long;
+        done = us ++ vs;
+        whole = one-off ∙ sym (append-assoc us vs (pairs-from t (j + 1) to));
+        goes =
+            goes-then (Pairs (us ++ vs)) (pairs-age-among (merges t) us (us ++ vs) (λ p. in-left p us vs))
+            (pairs-age-among (merges t) vs (us ++ vs) (λ p. in-right p us vs))
+            (λ d e. sym (foldl-append (λ (e′ : Explained) (p : ℕ × ℕ). explain-rec d (merges t) (p .0) (p .1) e′) e us vs))
+            (c .goes) g;
+      }
+
+pub pair-done : {t : List ℕ} {from to : ℕ} {m₀ o₀ m o : List ℕ} {j : ℕ} → Pairing t from to m₀ o₀ m o j → to ≤ j →
+    Goes t m₀ o₀ m o (Pairs (pairs-from t from to))
+unfolding pairs-from range
 pair-done {t} {from} {to} {m₀} {o₀} {m} {o} {j} c h =
-    let k = c .within in
-    let e : j ≡ to = omega arith in
-    subst (λ (i : ℕ). Goes t m₀ o₀ m o (Pairs (pairs-from t from i))) e (c .goes)
+    let e : to - j ≡ 0 = omega arith in
+    let none-left : pairs-from t j to ≡ [] = ap (λ (n : ℕ). map (pair-at t) (range j n)) e in
+    subst (λ (ps : List (ℕ × ℕ)). Goes t m₀ o₀ m o (Pairs ps))
+    (sym (c .whole ∙ ap (λ (ps : List (ℕ × ℕ)). c .done ++ ps) none-left ∙ append-nil (c .done))) (c .goes)
 
 -- ---- expand_pair
-
-marked-zero : (w : ℕ) → w ≡ 0 → marked w ≡ false
-unfolding marked
-marked-zero w e = ap marked e
 
 marked-other : (w : ℕ) → (w ≡ 0 → ⊥) → marked w ≡ true
 unfolding marked
@@ -328,7 +310,7 @@ pair-few {t} z k = let n = in-force-few t z in let l = k .in-force in omega arit
 pub record PairNodes (t : List ℕ) (j x y : ℕ) : Type 0 where
   pub is : (x, y) ≡ pair-at t j
   pub nodes : EqualNodes t x y
-  pub as-old : part-age (merges t) (NewPair x y) ≤ part-age (merges t) (Pairs (pair-at t j ∷ []))
+  pub as-old : NotOlder t (NewPair x y) (Pairs (pair-at t j ∷ []))
 
 pub pair-nodes : {t : List ℕ} {j x y : ℕ} → EqualPair t j → x ≡ left-word t j → y ≡ right-word t j → PairNodes t j x y
 unfolding part-age
@@ -340,26 +322,32 @@ pair-nodes {t} {j} {x} {y} k p q =
       as-old = pairs-age-in (merges t) (pair-at t j ∷ []) (x, y) (inl e);
     }
 
-pub pair-new : {t m o m₁ o₁ : List ℕ} {j w x y : ℕ} → EqualPair t j → PairNodes t j x y → w ≡ word m j → w ≡ 0 → Goes t m o m₁ o₁ (NewPair x y) →
-    Goes t m o m₁ o₁ (Pairs (pair-at t j ∷ []))
-unfolding expand
-pair-new {t} {m} {m₁ = m₁} {o₁ = o₁} {j = j} k p r q g =
-    let a = p .as-old in
-    record {
-      answer = g .answer;
-      shows = λ d seen f n s.
-          let new = new-is (merges t) (pair-at t j .0) (pair-at t j .1) f d (sym (s .marks-are j (k .in-force)) ∙ marked-zero (word m j) (sym r ∙ q)) in
-          subst (Shows t m₁ o₁ seen) (ap (λ (v : ℕ × ℕ). expand-new (merges t) (v .0) (v .1) d f) (p .is) ∙ new) (g .shows d seen f (omega arith) s);
-    }
+-- the mark w of argument pair j
+module _ {t m o : List ℕ} {j w : ℕ} (k : EqualPair t j) (r : w ≡ word m j) where
+  marked-as : {seen : List EqLeaf} {f : Explained} → Shows t m o seen f → marked w ≡ any (is-pair t j) (f .visited)
+  marked-as s = ap marked r ∙ s .marks-are j (k .in-force)
 
-pub pair-known : {t m o : List ℕ} {j w : ℕ} → Explaining t m o → EqualPair t j → w ≡ word m j → (w ≡ 0 → ⊥) → Goes t m o m o (Pairs (pair-at t j ∷ []))
-unfolding expand
-pair-known {t} {m} {o} {j} z k r q = record {
-  answer = z .answer;
-  shows = λ d seen f n s.
-      subst (Shows t m o seen)
-      (skip-is (merges t) (pair-at t j .0) (pair-at t j .1) f d (sym (s .marks-are j (k .in-force)) ∙ marked-other (word m j) (λ h. q (r ∙ h)))) s;
-}
+  pub pair-new : {m₁ o₁ : List ℕ} {x y : ℕ} → PairNodes t j x y → w ≡ 0 → Goes t m o m₁ o₁ (NewPair x y) →
+      Goes t m o m₁ o₁ (Pairs (pair-at t j ∷ []))
+  unfolding expand marked
+  pair-new {m₁} {o₁} p q g =
+      let a = p .as-old in
+      record {
+        answer = g .answer;
+        shows = λ d seen f n s.
+            subst (Shows t m₁ o₁ seen)
+            (ap (λ (v : ℕ × ℕ). expand-new (merges t) (v .0) (v .1) d f) (p .is)
+            ∙ new-is (merges t) (pair-at t j .0) (pair-at t j .1) f d (sym (marked-as s) ∙ ap marked q))
+            (g .shows d seen f (omega arith) s);
+      }
+
+  pub pair-known : Explaining t m o → (w ≡ 0 → ⊥) → Goes t m o m o (Pairs (pair-at t j ∷ []))
+  unfolding expand
+  pair-known z q = record {
+    answer = z .answer;
+    shows = λ d seen f n s.
+        subst (Shows t m o seen) (skip-is (merges t) (pair-at t j .0) (pair-at t j .1) f d (sym (marked-as s) ∙ marked-other w q)) s;
+  }
 
 -- ---- expand_edge
 
@@ -372,95 +360,104 @@ in-merges t i (suc n) h = go (ℕ-discrete i n) (in-merges t i n)
     go (yes e) f = inl (ap (merge-at t) e)
     go (no k) f = inr (f (omega arith))
 
--- the label of merge i by its words k and v
-module _ (t : List ℕ) (i k v : ℕ) (e : k ≡ label-word t i) (q : v ≡ value-word t i) where
-  label-is : just-at t i ≡ label t (k / 65536 % 4) (k % 65536) v (after-word t i)
-  unfolding just-at
-  label-is = sym (ap₂ (λ (x y : ℕ). label t (x / 65536 % 4) (x % 65536) y (after-word t i)) e q)
+-- the leaf of a label is what it makes of an explanation
+label-expands : (ms : List Merge) (j : EqJust) (l : EqLeaf) → Labels j l → (d : ℕ) (e : Explained) → cite l e ≡ expand ms (Label j) d e
+unfolding expand expand-edge
+label-expands ms (Asserted n) l q d e = ap (λ (x : EqLeaf). cite x e) q
+label-expands ms (Congruence ps) l q d e = absurd q
+label-expands ms (Interface n g) l q d e = ap (λ (x : EqLeaf). cite x e) q
 
-  pub edge-literal : k / 65536 % 4 ≡ 0 → Labels (just-at t i) (leaf-meaning (Given.the-variants.Asserted (record { 0 = v })))
-  unfolding label leaf-meaning
-  edge-literal h =
-      subst (λ (j : EqJust). Labels j (AssertedLeaf v)) (sym (label-is ∙ ap (λ (n : ℕ). label t n (k % 65536) v (after-word t i)) h)) refl
+-- merge i is labelled by a leaf, or by the congruence of the pairs from v up to a
+pub record LabelLeaf (t m o : List ℕ) (i : ℕ) (l : EqLeaf) : Type 0 where
+  pub room : HasRoom o l
+  pub goes : (u : List ℕ) → Pushed o u l → Goes t m o m u (Label (just-at t i))
 
-  pub edge-interface : (k / 65536 % 4 ≡ 0 → ⊥) → (k / 65536 % 4 ≡ 1 → ⊥) →
-      Labels (just-at t i) (leaf-meaning (Given.the-variants.Interface (record { theory = k % 65536; tag = v })))
-  unfolding label leaf-meaning
-  edge-interface h g = subst (λ (j : EqJust). Labels j (InterfaceLeaf (k % 65536) v)) (sym label-is) (go (k / 65536 % 4) h g)
-    where
-      go : (n : ℕ) → (n ≡ 0 → ⊥) → (n ≡ 1 → ⊥) → Labels (label t n (k % 65536) v (after-word t i)) (InterfaceLeaf (k % 65536) v)
-      go zero a b = absurd (a refl)
-      go (suc zero) a b = absurd (b refl)
-      go (suc (suc n)) a b = refl
+pub record LabelPairs (t : List ℕ) (i v a : ℕ) : Type 0 where
+  pub ready : PairsEqual t v a
+  pub as-old : part-age (merges t) (Pairs (pairs-from t v a)) ≡ part-age (merges t) (Label (just-at t i))
+  pub goes : (m o m₁ o₁ : List ℕ) → Goes t m o m₁ o₁ (Pairs (pairs-from t v a)) → Goes t m o m₁ o₁ (Label (just-at t i))
 
-  -- the label of a congruence
-  edge-is : (a : ℕ) → a ≡ after-word t i → k / 65536 % 4 ≡ 1 → just-at t i ≡ Congruence (pairs-from t v a)
-  unfolding label pairs-from
-  edge-is a r h =
-      label-is ∙ ap (λ (n : ℕ). label t n (k % 65536) v (after-word t i)) h ∙ sym (ap (λ (n : ℕ). Congruence (pairs-from t v n)) r)
-
--- a leaf that labels merge i
-module _ (t o : List ℕ) (i : ℕ) (l : EqLeaf) (z : EngineSound t) (y : AnswerSound (merges t) o) (h : i < merges# t) (k : Labels (just-at t i) l) where
-  label-cites : Cites (merges t) l
-  unfolding merges merge-at
-  label-cites = (merge-at t i, in-merges t i (merges# t) h, k)
-
-  pub label-room : HasRoom o l
-  unfolding merges
-  label-room = let n = z .fewer in push-room (merges t) o l y (let w = merges-length t in omega arith) label-cites
-
-  label-expands : (j : EqJust) → Labels j l → (d : ℕ) (e : Explained) → cite l e ≡ expand (merges t) (Label j) d e
-  unfolding expand expand-edge
-  label-expands (Asserted n) q d e = ap (λ (x : EqLeaf). cite x e) q
-  label-expands (Congruence ps) q d e = absurd q
-  label-expands (Interface n g) q d e = ap (λ (x : EqLeaf). cite x e) q
-
-  pub label-goes : (m u : List ℕ) → Pushed o u l → Goes t m o m u (Label (just-at t i))
-  unfolding cite
-  label-goes m u p = record {
-    answer = push-sound (merges t) o u l (y .other) (y .apart) (y .cited) (inr label-cites) p;
-    shows = λ d seen e b s.
-        subst (Shows t m u seen) (label-expands (just-at t i) k d e)
-        (record { listed = pushed-firsts seen (e .leaves) l (s .listed) (p .listed); marks-are = s .marks-are });
-  }
+label-leaf : {t m o : List ℕ} {i : ℕ} (l : EqLeaf) → Explaining t m o → i < merges# t → Labels (just-at t i) l → LabelLeaf t m o i l
+unfolding merges merge-at cite
+label-leaf {t} {m} {o} {i} l z h k =
+    let f = z .engine .fewer in
+    let n = merges-length t in
+    let y = z .answer in
+    let cites : Cites (merges t) l = (merge-at t i, in-merges t i (merges# t) h, k) in
+    record {
+      room = push-room (merges t) o l y (omega arith) cites;
+      goes = λ u p. record {
+        answer = push-sound (merges t) o u l (y .other) (y .apart) (y .cited) (inr cites) p;
+        shows = λ d seen e b s.
+            subst (Shows t m u seen) (label-expands (merges t) (just-at t i) l k d e)
+            (record { listed = pushed-firsts seen (e .leaves) l (s .listed) (p .listed); marks-are = s .marks-are });
+      };
+    }
 
 -- the pairs of each label are equal
 pairs-same : (ms : List Merge) → Justified ms → (m : Merge) → In m ms → (p : ℕ × ℕ) → In p (pairs-of (m .just)) → Same ms (p .0) (p .1)
 pairs-same [] J m i p j = absurd i
 pairs-same (n ∷ r) J m i p j = same-kept n r (p .0) (p .1) (pairs-before n r J m i p j)
 
--- merge i is labelled by the congruence of the pairs from v up to a
-pub record LabelPairs (t : List ℕ) (i v a : ℕ) : Type 0 where
-  pub ready : PairsEqual t v a
-  pub as-old : part-age (merges t) (Pairs (pairs-from t v a)) ≡ part-age (merges t) (Label (just-at t i))
-  pub goes : (m o m₁ o₁ : List ℕ) → Goes t m o m₁ o₁ (Pairs (pairs-from t v a)) → Goes t m o m₁ o₁ (Label (just-at t i))
-
-pub edge-congruent : {t : List ℕ} {i k v a : ℕ} → EngineSound t → i < merges# t → k ≡ label-word t i → v ≡ value-word t i → a ≡ after-word t i →
-    k / 65536 % 4 ≡ 1 → LabelPairs t i v a
-unfolding merges merge-at pairs-start begins pairs-of expand expand-edge part-age
-edge-congruent {t} {i} {k} {v} {a} z h e q r w =
-    let f = z .entries i h .fit .0 in
-    let s : pairs-start t i ≡ value-word t i = ap (λ (n : ℕ). begins n (value-word t i) (after-word t i)) (sym (ap (λ (n : ℕ). n / 65536 % 4) e) ∙ w) in
-    let l = after-within t i z h in
-    record {
-      ready = record { ordered = omega arith; each = λ j b c. record { in-force = omega arith; nodes = nodes j b c } };
-      as-old = sym (ap (λ (j : EqJust). pairs-age (merges t) (pairs-of j)) is);
-      goes = λ m o m₁ o₁ g. subst (λ (j : EqJust). Goes t m o m₁ o₁ (Label j)) (sym is) (record { answer = g .answer; shows = g .shows });
-    }
+pair-in : (t : List ℕ) (from to j : ℕ) → from ≤ j → j < to → In (pair-at t j) (pairs-from t from to)
+unfolding pairs-from
+pair-in t from to j h k = go (range from (to - from)) (in-range from (to - from) j h (omega arith))
   where
-    is : just-at t i ≡ Congruence (pairs-from t v a)
-    is = edge-is t i k v e q a r w
+    go : (xs : List ℕ) → In j xs → In (pair-at t j) (map (pair-at t) xs)
+    go [] i = absurd i
+    go (x ∷ xs) (inl e) = inl (ap (pair-at t) e)
+    go (x ∷ xs) (inr i) = inr (go xs i)
 
-    here : In (merge-at t i) (merges t)
-    here = in-merges t i (merges# t) h
+-- merge i by the words k and v that were read
+module _ {t m o : List ℕ} {i k v : ℕ} (z : Explaining t m o) (h : i < merges# t) (e : k ≡ label-word t i) (q : v ≡ value-word t i) where
+  label-is : just-at t i ≡ label t (kind-of k) (theory-of k) v (after-word t i)
+  unfolding just-at
+  label-is = sym (ap₂ (λ (x y : ℕ). label t (kind-of x) (theory-of x) y (after-word t i)) e q)
 
-    nodes : (j : ℕ) → v ≤ j → j < a → EqualNodes t (pair-at t j .0) (pair-at t j .1)
-    nodes j b c =
-        let p = pair-at t j in
-        let among = subst (λ (x : EqJust). In p (pairs-of x)) (sym is) (pair-in t v a j b c) in
-        let within = z .pair-nodes (merge-at t i) here p among in
-        let same = pairs-same (merges t) (z .justified) (merge-at t i) here p among in
-        record { first = within .0; second = within .1; equal = T-true (are-equal (merges t) (p .0) (p .1)) (same-equal (merges t) (p .0) (p .1) same) }
+  of-kind : {n : ℕ} → kind-of k ≡ n → just-at t i ≡ label t n (theory-of k) v (after-word t i)
+  of-kind w = label-is ∙ ap (λ (n : ℕ). label t n (theory-of k) v (after-word t i)) w
+
+  pub edge-literal : kind-of k ≡ 0 → LabelLeaf t m o i (leaf-meaning (Given.the-variants.Asserted (record { 0 = v })))
+  unfolding label leaf-meaning
+  edge-literal w = label-leaf (AssertedLeaf v) z h (subst (λ (j : EqJust). Labels j (AssertedLeaf v)) (sym (of-kind w)) refl)
+
+  pub edge-interface : (kind-of k ≡ 0 → ⊥) → (kind-of k ≡ 1 → ⊥) →
+      LabelLeaf t m o i (leaf-meaning (Given.the-variants.Interface (record { theory = theory-of k; tag = v })))
+  unfolding label leaf-meaning
+  edge-interface a b = label-leaf l z h (subst (λ (j : EqJust). Labels j l) (sym label-is) (go (kind-of k) a b))
+    where
+      l : EqLeaf
+      l = InterfaceLeaf (theory-of k) v
+
+      go : (n : ℕ) → (n ≡ 0 → ⊥) → (n ≡ 1 → ⊥) → Labels (label t n (theory-of k) v (after-word t i)) l
+      go zero a b = absurd (a refl)
+      go (suc zero) a b = absurd (b refl)
+      go (suc (suc n)) a b = refl
+
+  pub edge-congruence : {a : ℕ} → a ≡ after-word t i → kind-of k ≡ 1 → LabelPairs t i v a
+  unfolding merges merge-at label pairs-from pairs-start begins pairs-of expand expand-edge part-age
+  edge-congruence {a} r w =
+      let f = z .engine .entries i h .fit .0 in
+      let s : pairs-start t i ≡ value-word t i = ap (λ (n : ℕ). begins n (value-word t i) (after-word t i)) (sym (ap kind-of e) ∙ w) in
+      let l = after-within t i (z .engine) h in
+      record {
+        ready = record { ordered = omega arith; each = λ j b c. record { in-force = omega arith; nodes = nodes j b c } };
+        as-old = sym (ap (λ (j : EqJust). pairs-age (merges t) (pairs-of j)) is);
+        goes = λ m o m₁ o₁ g. subst (λ (j : EqJust). Goes t m o m₁ o₁ (Label j)) (sym is) (record { answer = g .answer; shows = g .shows });
+      }
+    where
+      is : just-at t i ≡ Congruence (pairs-from t v a)
+      is = of-kind w ∙ sym (ap (λ (n : ℕ). Congruence (pairs-from t v n)) r)
+
+      nodes : (j : ℕ) → v ≤ j → j < a → EqualNodes t (pair-at t j .0) (pair-at t j .1)
+      nodes j b c =
+          let p = pair-at t j in
+          let here = in-merges t i (merges# t) h in
+          let among = subst (λ (x : EqJust). In p (pairs-of x)) (sym is) (pair-in t v a j b c) in
+          let within = z .engine .pair-nodes (merge-at t i) here p among in
+          let same = pairs-same (merges t) (z .engine .justified) (merge-at t i) here p among in
+          let equal = T-true (are-equal (merges t) (p .0) (p .1)) (same-equal (merges t) (p .0) (p .1) same) in
+          record { first = within .0; second = within .1; equal = equal }
 
 -- ---- explain
 
@@ -471,14 +468,14 @@ no-marks (suc n) zero = refl
 no-marks (suc n) (suc j) = no-marks n j
 
 pub explained : {t m o m₁ o₁ : List ℕ} {a b : ℕ} (n : ℕ) → m ≡ replicate n 0 → Goes t m o m₁ o₁ (NewPair a b) → Explains t a b o o₁
-unfolding expand part-age explain firsts-after any
+unfolding expand part-age explain firsts-after any marked
 explained {t} {m} {o} {a = a} {b = b} n e g =
     let h = age-bound (merges t) a b in
     let none-yet : Explained = record { visited = []; leaves = [] } in
     let d = suc (length (merges t)) in
     let s = g .shows d (leaves o) none-yet (omega arith) (record {
       listed = sym (append-nil (leaves o));
-      marks-are = λ j l. marked-zero (word m j) (ap (λ (u : List ℕ). word u j) e ∙ no-marks n j);
+      marks-are = λ j l. ap marked (ap (λ (u : List ℕ). word u j) e ∙ no-marks n j);
     }) in
     record {
       sound = g .answer;

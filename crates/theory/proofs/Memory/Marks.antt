@@ -25,7 +25,8 @@ pub same-pair-first : (x y a b : ℕ) (r : Bool) → r ≡ (eqb x a && eqb y b) 
 unfolding same-pair
 same-pair-first x y a b r p q = sym (ap (λ (u : Bool). u || (eqb x b && eqb y a)) (sym p ∙ q))
 
-pub same-pair-other : (x y a b : ℕ) (r s : Bool) → r ≡ (eqb x a && eqb y b) → r ≡ false → s ≡ (eqb x b && eqb y a) → s ≡ same-pair x y (a, b)
+pub same-pair-other : (x y a b : ℕ) (r s : Bool) → r ≡ (eqb x a && eqb y b) → r ≡ false → s ≡ (eqb x b && eqb y a) →
+    s ≡ same-pair x y (a, b)
 unfolding same-pair
 same-pair-other x y a b r s p q e = e ∙ sym (ap (λ (u : Bool). u || (eqb x b && eqb y a)) (sym p ∙ q))
 
@@ -47,7 +48,8 @@ record Stored (b : Bool) (ks ls : List ℕ) (j : ℕ) : Type 0 where
 
 store : (b : Bool) (ks : List ℕ) (j : ℕ) → j < length ks → Stored b ks (cond b (set ks j 1) ks) j
 unfolding marked
-store true ks j h = record { long = length-set ks j 1; rest = λ i d. getD-set-other ks j i 1 0 d; mark = ap marked (getD-set-same ks j 1 0 h) }
+store true ks j h =
+    record { long = length-set ks j 1; rest = λ i. getD-set-other ks j i 1 0; mark = ap marked (getD-set-same ks j 1 0 h) }
 store false ks j h = record { long = refl; rest = λ i d. refl; mark = refl }
 
 -- the pairs below j are marked as they should be, the others as they were
@@ -72,5 +74,6 @@ marking-next {t} {a} {b} {ks} {ls} {us} {j} c h e =
       left-over = λ i g. s .rest i (omega arith) ∙ c .left-over i (omega arith);
     }
 
-pub marking-done : {t : List ℕ} {a b : ℕ} {ks ls : List ℕ} {n j : ℕ} → n ≡ pairs-in-force (merges t) → Marking t a b ks ls j → n ≤ j → MarksPair t a b ks ls
+pub marking-done : {t : List ℕ} {a b : ℕ} {ks ls : List ℕ} {n j : ℕ} → n ≡ pairs-in-force (merges t) → Marking t a b ks ls j → n ≤ j →
+    MarksPair t a b ks ls
 marking-done e c h = record { each = λ i g. c .done i (omega arith) }

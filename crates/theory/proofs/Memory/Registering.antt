@@ -1,4 +1,4 @@
--- The registry's table: its stores, and what its words say of the list of registrations.
+-- What the words of the registry's table say of the list of registrations.
 use Prim.Native.Nat.{ℕ, zero, suc, _+_, _-_, _≤_, _<_}
 use mathlib.Core.Path.{_≡_, refl, sym, ap, _∙_}
 use mathlib.Core.Bool.{Bool, true, false, cond, false≢true}
@@ -8,30 +8,12 @@ use native.Mathlib.Decide.{decLt}
 use native.Mathlib.Numerals.{add-one}
 use native.Mathlib.Omega.{arith}
 use borrow.Author.Tests.{ne-eqb}
-use lib.Dec.{T, eqb, leb, lit<}
-use lib.ListN.{length}
 use Rattle.core.specs.Limits.{max-vars, max-terms}
 use Rattle.core.specs.Lists.{any, first}
-use Rattle.core.specs.Memory.Words.{at, put, apart}
-use Rattle.core.proofs.Memory.Stores as Stores
+use Rattle.core.specs.Memory.Words.{at}
 use Rattle.core.proofs.Memory.Searching.{any-missing}
 use Rattle.theory.specs.Atom.{Registered, is-registered, atom, atom-of, var-of, var-of-atom}
-use Rattle.theory.specs.Memory.Registry.{VAR, ATOM, FIRST, registry-room, registry-size, vars#, registered-at, atoms, word-for, of-var, of-atom, or-else, first-with, RegistrySound}
-
--- ---- stores
-
-pub other : (t : List ℕ) (b c x y v : ℕ) → T (apart registry-room b c) → x < registry-room b → y < registry-room c →
-    at (put t c y v) b x ≡ at t b x
-other = Stores.other-region registry-room
-
-pub same : (t : List ℕ) (b x v : ℕ) → T (leb (b + registry-room b) registry-size) → registry-size ≤ length t → x < registry-room b →
-    at (put t b x v) b x ≡ v
-same = Stores.same-place registry-room registry-size
-
-pub long : (t : List ℕ) (b x v : ℕ) → registry-size ≤ length t → registry-size ≤ length (put t b x v)
-long = Stores.put-long registry-room registry-size
-
-pub ruleset stores = (tt, lit<, other, same, long, Stores.other-place, Stores.length-put)
+use Rattle.theory.specs.Memory.Registry.{VAR, ATOM, FIRST, vars#, registered-at, atoms, word-for, of-var, of-atom, or-else, first-with, RegistrySound}
 
 -- ---- the first registration that passes a test
 
@@ -53,7 +35,8 @@ unfolding word-for
 word-none f none e = refl
 word-none f (some r) e = absurd (omega arith)
 
-word-some : (f : Registered → ℕ) (o : Option Registered) → (word-for f o ≡ 0 → ⊥) → (r : Registered) × (o ≡ some r) × (f r ≡ word-for f o - 1)
+word-some : (f : Registered → ℕ) (o : Option Registered) → (word-for f o ≡ 0 → ⊥) →
+    (r : Registered) × (o ≡ some r) × (f r ≡ word-for f o - 1)
 unfolding word-for
 word-some f none d = absurd (d refl)
 word-some f (some r) d = (r, refl, omega arith)
@@ -75,7 +58,9 @@ module _ (t : List ℕ) (v w : ℕ) (z : RegistrySound t) where
 
   pub no-var : v < max-terms → w ≡ at t FIRST v → w ≡ 0 → none ≡ var-of-atom (atoms t) v
   unfolding var-of-atom var-of
-  no-var h e q = sym (ap var-of (word-none (λ (r : Registered). r .var) (first (of-atom v) (atoms t)) (sym (z .firsts-are v h) ∙ sym e ∙ q)))
+  no-var h e q =
+      let o = word-none (λ (r : Registered). r .var) (first (of-atom v) (atoms t)) (sym (z .firsts-are v h) ∙ sym e ∙ q) in
+      sym (ap var-of o)
 
   pub one-var : v < max-terms → w ≡ at t FIRST v → (w ≡ 0 → ⊥) → some (w - 1) ≡ var-of-atom (atoms t) v
   unfolding var-of-atom var-of

@@ -1,7 +1,7 @@
 -- One more registration: the table that its stores leave is sound and means the list with it at the end.
 use Prim.Native.Nat.{ℕ, zero, suc, _+_, _-_, _≤_, _<_}
-use mathlib.Core.Path.{_≡_, refl, sym, subst, ap, ap₂, _∙_}
-use mathlib.Core.Logic.{_⊎_, inl, inr}
+use mathlib.Core.Path.{_≡_, refl, sym, subst, ap, _∙_}
+use mathlib.Core.Logic.{inl, inr}
 use mathlib.Core.Bool.{Bool, true, false, cond, true≢false}
 use mathlib.Core.List.{List, [], _∷_, _++_}
 use mathlib.Core.Option.{Option, none, some}
@@ -10,19 +10,35 @@ use native.Mathlib.Numerals.{add-one}
 use native.Mathlib.Omega.{arith}
 use borrow.Author.Count.{below-more}
 use borrow.Author.Tests.{eq-eqb, ne-eqb}
-use lib.Dec.{eqb}
+use lib.Dec.{T, eqb, leb, lit<}
 use lib.ListN.{length}
 use Rattle.core.specs.Limits.{max-vars, max-terms}
 use Rattle.core.specs.Lists.{first, range}
-use Rattle.core.specs.Memory.Words.{at, put, counted}
+use Rattle.core.specs.Memory.Words.{at, put, apart, counted}
 use Rattle.core.proofs.Lists.{In, in-at, in-range}
 use Rattle.core.proofs.Memory.Counted.{counted-length, counted-at, counted-grown}
 use Rattle.core.proofs.Memory.Searching.{any-found}
+use Rattle.core.proofs.Memory.Stores as Stores
 use Rattle.theory.specs.Atom.{Registered, register, is-registered}
-use Rattle.theory.specs.Memory.Registry.{COUNTS, VARS, VAR, ATOM, FIRST, registry-size, vars#, registered-at, atoms, of-var, of-atom, word-for, or-else, atom-word, first-word, first-with, RegistrySound, Registrable}
+use Rattle.theory.specs.Memory.Registry.{COUNTS, VARS, VAR, ATOM, FIRST, registry-room, registry-size, vars#, registered-at, atoms, of-var, of-atom, word-for, or-else, atom-word, first-word, first-with, RegistrySound, Registrable}
 use Rattle.theory.proofs.Members.{Apart, apart-length, apart-last}
 use Rattle.theory.proofs.Sizes.{length-range}
-use Rattle.theory.proofs.Memory.Registering.{stores, registered-yes}
+use Rattle.theory.proofs.Memory.Registering.{registered-yes}
+
+-- ---- stores
+
+other : (t : List ℕ) (b c x y v : ℕ) → T (apart registry-room b c) → x < registry-room b → y < registry-room c →
+    at (put t c y v) b x ≡ at t b x
+other = Stores.other-region registry-room
+
+same : (t : List ℕ) (b x v : ℕ) → T (leb (b + registry-room b) registry-size) → registry-size ≤ length t → x < registry-room b →
+    at (put t b x v) b x ≡ v
+same = Stores.same-place registry-room registry-size
+
+long : (t : List ℕ) (b x v : ℕ) → registry-size ≤ length t → registry-size ≤ length (put t b x v)
+long = Stores.put-long registry-room registry-size
+
+ruleset stores = (tt, lit<, other, same, long, Stores.other-place, Stores.length-put)
 
 -- ---- a variable that is not registered
 
@@ -197,14 +213,18 @@ pub record Emptying (t₀ t : List ℕ) (k : ℕ) : Type 0 where
 pub empty-first : (t u : List ℕ) → registry-size ≤ length t → u ≡ put t COUNTS VARS 0 → Emptying u u 0
 empty-first t u l e = record { kept = refl; long = search (e, stores); count = search (e, stores); empty = λ y h. absurd (omega arith) }
 
-pub empty-next : {t₀ t t₁ u : List ℕ} {k : ℕ} → Emptying t₀ t k → k < max-vars → t₁ ≡ put t ATOM k 0 → u ≡ put t₁ FIRST k 0 → Emptying t₀ u (k + 1)
+pub empty-next : {t₀ t t₁ u : List ℕ} {k : ℕ} → Emptying t₀ t k → k < max-vars → t₁ ≡ put t ATOM k 0 → u ≡ put t₁ FIRST k 0 →
+    Emptying t₀ u (k + 1)
 empty-next {u = u} {k = k} c h e₁ e₂ = let l = c .long in record {
   kept = search (e₂, e₁, stores);
   long = search (e₂, e₁, stores);
   count = search (e₂, e₁, c .count, stores);
   empty =
       below-more (λ (y : ℕ). (at u ATOM y ≡ 0) × (at u FIRST y ≡ 0)) k
-      (λ y g. let b : y < max-vars = omega arith in let d : y ≡ k → ⊥ = omega arith in let q = c .empty y g in search (e₂, e₁, q .0, q .1, stores))
+      (λ y g.
+      let b : y < max-vars = omega arith in
+      let d : y ≡ k → ⊥ = omega arith in
+      search (e₂, e₁, c .empty y g .0, c .empty y g .1, stores))
       (search (e₂, e₁, stores));
 }
 

@@ -10,7 +10,7 @@ use Rattle.core.specs.Limits.{max-pairs}
 use Rattle.core.specs.Lists.{any, range}
 use Rattle.core.specs.Memory.Table.{word}
 use Rattle.theory.specs.Types.{EqJust, EqLeaf}
-use Rattle.theory.specs.EqEngine.{Merge, Step, Explained, are-equal, pairs-of, pairs-in-force, path, same-pair, visit, expand-edge, explain-rec, explain, firsts-after}
+use Rattle.theory.specs.EqEngine.{Merge, Step, Explained, are-equal, pairs-of, pairs-in-force, before, way, path, same-pair, visit, expand-edge, explain-rec, explain, firsts-after}
 use Rattle.theory.specs.Memory.Replay.{IsNode}
 use Rattle.theory.specs.Memory.Table.{engine-size, pair-at, merges, EngineSound}
 use Rattle.theory.specs.Memory.Answer.{leaves, AnswerSound}
@@ -58,12 +58,20 @@ unfoldable pub expand-new : List Merge → ℕ → ℕ → ℕ → Explained →
 expand-new ms x y zero e = e
 expand-new ms x y (suc d) e = let r = expand-way ms (path ms x y) d (visit x y e) in cond (eqb x y) e r
 
+-- of a table, part p is not older than part q
+abbrev pub NotOlder : List ℕ → Part → Part → Type 0
+NotOlder t p q = part-age (merges t) p ≤ part-age (merges t) q
+
 -- what it makes of an explanation, at a depth
 unfoldable pub expand : List Merge → Part → ℕ → Explained → Explained
 expand ms (NewPair x y) d e = expand-new ms x y d e
 expand ms (Way w) d e = expand-way ms w d e
 expand ms (Label j) d e = expand-edge (explain-rec d ms) j e
 expand ms (Pairs ps) d e = foldl (λ e′ (p : ℕ × ℕ). explain-rec d ms (p .0) (p .1) e′) e ps
+
+-- the steps of the forest from a node up to one above it
+abbrev pub up-to : List ℕ → ℕ → ℕ → List Step
+up-to t node top = before top (way (merges t) node)
 
 -- the argument pairs of a table from one number up to another
 unfoldable pub pairs-from : List ℕ → ℕ → ℕ → List (ℕ × ℕ)

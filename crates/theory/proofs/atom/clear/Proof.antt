@@ -1,8 +1,6 @@
 -- The invariant: no variable, and the first k variables and atoms have none.
 use Prim.Native.Nat.{_-_}
-use native.Mathlib.Omega.{arith}
 use borrow.Author.Needs.{needs}
-use mathlib.Core.Path.{_∙_}
 use Rattle.core.specs.Limits.{max-vars}
 use Rattle.theory.proofs.Memory.Registers.{Emptying, empty-first, empty-next, empty-done}
 use Rattle.theory.proofs.atom.clear.Statement.{statement}

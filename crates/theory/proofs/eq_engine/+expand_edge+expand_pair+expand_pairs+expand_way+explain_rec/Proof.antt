@@ -8,12 +8,12 @@ use native.Mathlib.Omega.{arith}
 use native.Mathlib.Nat.{mod-lt}
 use borrow.Author.Needs.{needs}
 use borrow.Fn.Kinds.{In}
-use borrow.Fn.PlainCycle.{Measures, is, falls, and}
+use borrow.Fn.PlainCycle.{Measures, falls, and}
 use lib.ListN.{length}
-use Rattle.theory.specs.EqEngine.{before, way}
+use Rattle.theory.specs.EqEngine.{way}
 use Rattle.theory.specs.Memory.Table.{pair-at, just-at, merges}
-use Rattle.theory.specs.Memory.Explaining.{NewPair, Way, Label, Pairs, part-age, pairs-from}
-use Rattle.theory.proofs.Memory.Explaining.{goes-one, met, goes-two, Walking, walk-first, walk-rises, walk-edge, walk-older, walk-next, walk-done, Pairing, pair-first, pair-older, pair-next, pair-done, pair-few, pair-nodes, pair-new, pair-known, edge-literal, edge-interface, edge-congruent, label-room, label-goes}
+use Rattle.theory.specs.Memory.Explaining.{NewPair, Way, Label, Pairs, part-age, up-to, pairs-from}
+use Rattle.theory.proofs.Memory.Explaining.{on-with, goes-one, met, goes-two, Walking, walk-first, walk-rises, walk-edge, walk-older, walk-next, walk-done, Pairing, pair-first, pair-older, pair-next, pair-done, pair-few, pair-nodes, pair-new, pair-known, edge-literal, edge-interface, edge-congruence}
 use Rattle.core.proofs.table.get.Reads as get
 use Rattle.core.proofs.table.get_at.Reads as get-at
 use Rattle.theory.proofs.types.push_leaf.Reads as push-leaf
@@ -37,7 +37,7 @@ use Rattle.theory.proofs.eq_engine.+expand_edge+expand_pair+expand_pair
 use Rattle.theory.proofs.eq_engine.+expand_edge+expand_pair+expand_pairs+expand_way+explain_rec.{statement}
 use Rattle.theory.proofs.eq_engine.+expand_edge+expand_pair+expand_pairs+expand_way+explain_rec.Tie.{close}
 
--- ---- measures, what each function asks at a measure, and below it
+-- ---- measures, and what each function asks below one
 
 abbrev μ-expand-edge : Measures 3 expand-edge-kinds.ps ℕ
 μ-expand-edge κs a = part-age (merges (a .0 .now)) (Label (just-at (a .0 .now) (a .1 .0))) * 5 + 3
@@ -49,37 +49,22 @@ abbrev μ-expand-pairs : Measures 3 expand-pairs-kinds.ps ℕ
 μ-expand-pairs κs a = part-age (merges (a .0 .now)) (Pairs (pairs-from (a .0 .now) (a .1 .0) (a .1 .1 .0))) * 5 + 2
 
 abbrev μ-expand-way : Measures 3 expand-way-kinds.ps ℕ
-μ-expand-way κs a = part-age (merges (a .0 .now)) (Way (before (a .1 .1 .0) (way (merges (a .0 .now)) (a .1 .0)))) * 5 + 4
+μ-expand-way κs a = part-age (merges (a .0 .now)) (Way (up-to (a .0 .now) (a .1 .0) (a .1 .1 .0))) * 5 + 4
 
 abbrev μ-explain-rec : Measures 3 explain-rec-kinds.ps ℕ
 μ-explain-rec κs a = part-age (merges (a .0 .now)) (NewPair (a .1 .0) (a .1 .1 .0)) * 5
 
-abbrev expand-edge-at : ℕ → In 3 expand-edge-kinds.ps
-expand-edge-at t = and 3 expand-edge-kinds.ps (is 3 expand-edge-kinds.ps μ-expand-edge t) expand-edge.Pre
-
 abbrev expand-edge-below : ℕ → In 3 expand-edge-kinds.ps
 expand-edge-below t = and 3 expand-edge-kinds.ps (falls 3 expand-edge-kinds.ps _<_ μ-expand-edge t) expand-edge.Pre
-
-abbrev expand-pair-at : ℕ → In 3 expand-pair-kinds.ps
-expand-pair-at t = and 3 expand-pair-kinds.ps (is 3 expand-pair-kinds.ps μ-expand-pair t) expand-pair.Pre
 
 abbrev expand-pair-below : ℕ → In 3 expand-pair-kinds.ps
 expand-pair-below t = and 3 expand-pair-kinds.ps (falls 3 expand-pair-kinds.ps _<_ μ-expand-pair t) expand-pair.Pre
 
-abbrev expand-pairs-at : ℕ → In 3 expand-pairs-kinds.ps
-expand-pairs-at t = and 3 expand-pairs-kinds.ps (is 3 expand-pairs-kinds.ps μ-expand-pairs t) expand-pairs.Pre
-
 abbrev expand-pairs-below : ℕ → In 3 expand-pairs-kinds.ps
 expand-pairs-below t = and 3 expand-pairs-kinds.ps (falls 3 expand-pairs-kinds.ps _<_ μ-expand-pairs t) expand-pairs.Pre
 
-abbrev expand-way-at : ℕ → In 3 expand-way-kinds.ps
-expand-way-at t = and 3 expand-way-kinds.ps (is 3 expand-way-kinds.ps μ-expand-way t) expand-way.Pre
-
 abbrev expand-way-below : ℕ → In 3 expand-way-kinds.ps
 expand-way-below t = and 3 expand-way-kinds.ps (falls 3 expand-way-kinds.ps _<_ μ-expand-way t) expand-way.Pre
-
-abbrev explain-rec-at : ℕ → In 3 explain-rec-kinds.ps
-explain-rec-at t = and 3 explain-rec-kinds.ps (is 3 explain-rec-kinds.ps μ-explain-rec t) explain-rec.Pre
 
 abbrev explain-rec-below : ℕ → In 3 explain-rec-kinds.ps
 explain-rec-below t = and 3 explain-rec-kinds.ps (falls 3 explain-rec-kinds.ps _<_ μ-explain-rec t) explain-rec.Pre
@@ -102,61 +87,59 @@ abbrev μ-way : expand-way-lts.MeasureT-loop
 
 pub +expand-edge+expand-pair+expand-pairs+expand-way+explain-rec-spec : {M : Type 1} → statement M
 +expand-edge+expand-pair+expand-pairs+expand-way+explain-rec-spec =
-    close
-    μ-expand-edge
-    μ-expand-pair
-    μ-expand-pairs
-    μ-expand-way
-    μ-explain-rec
+    close μ-expand-edge μ-expand-pair μ-expand-pairs μ-expand-way μ-explain-rec
     (λ t. expand-edge-lts.spec (get-at.Asked, get-at.Learnt, push-leaf.Asked, push-leaf.Learnt, expand-pairs-below t, expand-pairs.Post)
-    (expand-edge-at t)
-    expand-edge.Post
+    _ expand-edge.Post
     (λ c κs. search needs) (λ c κs. search needs) (λ c. search needs)
     -- a literal is pushed
     (λ c κs.
     let at-get2 = c .before .before in
     let at-get = at-get2 .before in
     let p = at-get .before .before .before .before .pre .1 in
-    let l = edge-literal _ _ _ _ (at-get .get-at .ensures .0) (at-get2 .get-at2 .ensures .0) (c .before .if1 .taken) in
-    (p .0 .answer .words, label-room _ _ _ _ (p .0 .engine) (p .0 .answer) (p .1) l))
+    let w = edge-literal (p .0) (p .1) (at-get .get-at .ensures .0) (at-get2 .get-at2 .ensures .0) (c .before .if1 .taken) in
+    (p .0 .answer .words, w .room))
     (λ c κs. search needs)
     -- the pairs of a congruence
     (λ c κs.
     let at-get3 = c .before .before in
-    let at-get2 = at-get3 .before .before .before in
+    let at-if2 = at-get3 .before in
+    let at-get2 = at-if2 .before .before in
     let at-get = at-get2 .before in
     let start = at-get .before .before .before .before in
     let p = start .pre .1 in
-    let w = edge-congruent (p .0 .engine) (p .1) (at-get .get-at .ensures .0) (at-get2 .get-at2 .ensures .0) (at-get3 .get-at3 .ensures .0) (at-get3 .before .if2 .taken) in
-    let o = w .as-old in
-    let m = start .pre .0 in
-    (omega arith, (p .0, w .ready)))
+    let w = edge-congruence (p .0) (p .1) (at-get .get-at .ensures .0) (at-get2 .get-at2 .ensures .0) (at-get3 .get-at3 .ensures .0)
+    (at-if2 .if2 .taken) in
+    (omega (arith, start .pre .0, w .as-old), (p .0, w .ready)))
     (λ c. let h = mod-lt (c .before .before .before .before .get-at .result) {m = 65536} (omega arith) in omega arith)
     (λ c. search needs)
     -- an interface leaf is pushed
     (λ c κs.
-    let at-get2 = c .before .before .before in
+    let at-if2 = c .before in
+    let at-get2 = at-if2 .before .before in
     let at-get = at-get2 .before in
     let p = at-get .before .before .before .before .pre .1 in
-    let l = edge-interface _ _ _ _ (at-get .get-at .ensures .0) (at-get2 .get-at2 .ensures .0) (c .before .before .if1 .left) (c .before .if2 .left) in
-    (p .0 .answer .words, label-room _ _ _ _ (p .0 .engine) (p .0 .answer) (p .1) l))
+    let w = edge-interface (p .0) (p .1) (at-get .get-at .ensures .0) (at-get2 .get-at2 .ensures .0) (at-if2 .before .if1 .left)
+    (at-if2 .if2 .left) in
+    (p .0 .answer .words, w .room))
     (λ c. c .before .before .push-leaf .kept .0)
     (λ c.
     let at-push = c .before .before in
     let at-get2 = at-push .before .before .before in
     let at-get = at-get2 .before in
     let p = at-get .before .before .before .before .pre .1 in
-    let l = edge-literal _ _ _ _ (at-get .get-at .ensures .0) (at-get2 .get-at2 .ensures .0) (at-push .before .before .if1 .taken) in
-    label-goes _ _ _ _ (p .0 .engine) (p .0 .answer) (p .1) l _ _ (at-push .push-leaf .ensures))
+    let w = edge-literal (p .0) (p .1) (at-get .get-at .ensures .0) (at-get2 .get-at2 .ensures .0) (at-push .before .before .if1 .taken) in
+    w .goes _ (at-push .push-leaf .ensures))
     (λ c. c .before .before .before .before .expand-pairs .kept .1 .1 .1 .0)
     (λ c. c .before .before .before .before .expand-pairs .kept .1 .1 .1 .1 .0)
     (λ c.
     let at-pairs = c .before .before .before .before in
     let at-get3 = at-pairs .before .before .before in
-    let at-get2 = at-get3 .before .before .before in
+    let at-if2 = at-get3 .before in
+    let at-get2 = at-if2 .before .before in
     let at-get = at-get2 .before in
     let p = at-get .before .before .before .before .pre .1 in
-    let w = edge-congruent (p .0 .engine) (p .1) (at-get .get-at .ensures .0) (at-get2 .get-at2 .ensures .0) (at-get3 .get-at3 .ensures .0) (at-get3 .before .if2 .taken) in
+    let w = edge-congruence (p .0) (p .1) (at-get .get-at .ensures .0) (at-get2 .get-at2 .ensures .0) (at-get3 .get-at3 .ensures .0)
+    (at-if2 .if2 .taken) in
     w .goes _ _ _ _ (at-pairs .expand-pairs .ensures))
     (λ c. c .before .before .push-leaf2 .kept .0)
     (λ c.
@@ -165,11 +148,11 @@ pub +expand-edge+expand-pair+expand-pairs+expand-way+explain-rec-spec : {M : Typ
     let at-get2 = at-if2 .before .before in
     let at-get = at-get2 .before in
     let p = at-get .before .before .before .before .pre .1 in
-    let l = edge-interface _ _ _ _ (at-get .get-at .ensures .0) (at-get2 .get-at2 .ensures .0) (at-if2 .before .if1 .left) (at-if2 .if2 .left) in
-    label-goes _ _ _ _ (p .0 .engine) (p .0 .answer) (p .1) l _ _ (at-push .push-leaf2 .ensures)))
+    let w = edge-interface (p .0) (p .1) (at-get .get-at .ensures .0) (at-get2 .get-at2 .ensures .0) (at-if2 .before .if1 .left)
+    (at-if2 .if2 .left) in
+    w .goes _ (at-push .push-leaf2 .ensures)))
     (λ t. expand-pair-lts.spec (get.Asked, get.Learnt, get-at.Asked, get-at.Learnt, explain-rec-below t, explain-rec.Post)
-    (expand-pair-at t)
-    expand-pair.Post
+    _ expand-pair.Post
     (λ c κs. let p = c .before .before .before .before .pre .1 in omega (arith, pair-few (p .0 .engine) (p .1)))
     (λ c κs. let p = c .before .before .before .before .before .before .pre .1 in omega (arith, pair-few (p .0 .engine) (p .1)))
     (λ c κs. let p = c .before .before .before .before .before .before .before .pre .1 in omega (arith, pair-few (p .0 .engine) (p .1)))
@@ -179,9 +162,7 @@ pub +expand-edge+expand-pair+expand-pairs+expand-way+explain-rec-spec : {M : Typ
     let start = at-right .before .before .before .before .before .before .before .before in
     let p = start .pre .1 in
     let w = pair-nodes (p .1) (at-right .before .get-at .ensures .0) (at-right .get-at2 .ensures .0) in
-    let o = w .as-old in
-    let m = start .pre .0 in
-    (omega arith, (p .0, w .nodes)))
+    (omega (arith, start .pre .0, w .as-old), (p .0, w .nodes)))
     (λ c. c .before .before .before .before .explain-rec .kept .1 .1 .1 .0)
     (λ c. c .before .before .before .before .explain-rec .kept .1 .1 .1 .1 .0)
     (λ c.
@@ -190,15 +171,13 @@ pub +expand-edge+expand-pair+expand-pairs+expand-way+explain-rec-spec : {M : Typ
     let at-if = at-right .before .before in
     let p = at-if .before .before .before .before .before .before .pre .1 in
     let w = pair-nodes (p .1) (at-right .before .get-at .ensures .0) (at-right .get-at2 .ensures .0) in
-    pair-new (p .1) w (at-if .before .get .ensures .0) (at-if .if1 .taken) (at-rec .explain-rec .ensures))
+    pair-new (p .1) (at-if .before .get .ensures .0) w (at-if .if1 .taken) (at-rec .explain-rec .ensures))
     (λ c. search needs)
-    (λ c. let p = c .before .before .before .before .before .before .pre .1 in pair-known (p .0) (p .1) (c .before .get .ensures .0) (c .if1 .left)))
-    (λ t. expand-pairs-lts.spec
-    (expand-pair-below t, expand-pair.Post)
-    (expand-pairs-at t)
-    expand-pairs.Post
-    Inv-pairs
-    μ-pairs
+    (λ c.
+    let p = c .before .before .before .before .before .before .pre .1 in
+    pair-known (p .1) (c .before .get .ensures .0) (p .0) (c .if1 .left)))
+    (λ t. expand-pairs-lts.spec (expand-pair-below t, expand-pair.Post)
+    _ expand-pairs.Post Inv-pairs μ-pairs
     (λ c. let p = c .before .before .before .pre .1 in pair-first (p .0) (p .1 .ordered))
     (λ c κs.
     let at-loop = c .before .before .before in
@@ -206,26 +185,17 @@ pub +expand-edge+expand-pair+expand-pairs+expand-way+explain-rec-spec : {M : Typ
     let p = start .pre .1 in
     let i = at-loop .loop .inv in
     let h = c .before .before .loop-test .taken in
-    let o = pair-older i h in
-    let m = start .pre .0 in
-    let l = p .0 .long in
-    let k = i .marks-long in
-    (omega arith, (record { engine = p .0 .engine; answer = i .goes .answer; long = omega arith }, p .1 .each _ (i .after) h)))
-    (λ c. search needs)
-    (λ c. search needs)
+    (omega (arith, start .pre .0, pair-older i h), (on-with (p .0) (i .goes .answer) (i .marks-long), p .1 .each _ (i .after) h)))
+    (λ c. search needs) (λ c. search needs)
     (λ c.
     let at-pair = c .before .before .before .before in
     let at-test = at-pair .before .before .before in
     let kept = at-pair .expand-pair .kept .1 .1 in
     pair-next (at-test .before .loop .inv) (at-test .loop-test .taken) (at-pair .expand-pair .ensures) (kept .0) (kept .1 .0))
-    (λ c. c .before .loop .inv .marks-long)
-    (λ c. c .before .loop .inv .out-long)
+    (λ c. c .before .loop .inv .marks-long) (λ c. c .before .loop .inv .out-long)
     (λ c. pair-done (c .before .loop .inv) (c .loop-test .left)))
     (λ t. expand-way-lts.spec (get-at.Asked, get-at.Learnt, expand-edge-below t, expand-edge.Post)
-    (expand-way-at t)
-    expand-way.Post
-    Inv-way
-    μ-way
+    _ expand-way.Post Inv-way μ-way
     (λ c. let p = c .before .before .before .pre .1 in walk-first (p .0) (p .1))
     (λ c κs. search needs)
     (λ c κs.
@@ -235,17 +205,13 @@ pub +expand-edge+expand-pair+expand-pairs+expand-way+explain-rec-spec : {M : Typ
     let i = at-test .before .loop .inv in
     let h = at-test .loop-test .taken in
     let e = c .before .before .get-at .ensures .0 in
-    let o = walk-older (p .0 .engine) i h e in
-    let m = start .pre .0 in
-    let l = p .0 .long in
-    let k = i .marks-long in
-    (omega arith, (record { engine = p .0 .engine; answer = i .goes .answer; long = omega arith }, walk-edge (p .0 .engine) i h e)))
+    let z = p .0 .engine in
+    (omega (arith, start .pre .0, walk-older z i h e), (on-with (p .0) (i .goes .answer) (i .marks-long), walk-edge z i h e)))
     (λ c κs. search needs)
     (λ c.
     let at-test = c .before .before .before .before .before .before .before .before .before in
     let z = at-test .before .before .before .before .before .pre .1 .0 .engine in
-    let l = walk-rises z (at-test .before .loop .inv) (at-test .loop-test .taken) (c .get-at2 .ensures .0) .longer in
-    omega arith)
+    omega (arith, walk-rises z (at-test .before .loop .inv) (at-test .loop-test .taken) (c .get-at2 .ensures .0) .longer))
     (λ c.
     let at-edge = c .before .before .before .before .before in
     let at-get = at-edge .before .before .before in
@@ -254,12 +220,11 @@ pub +expand-edge+expand-pair+expand-pairs+expand-way+explain-rec-spec : {M : Typ
     let kept = at-edge .expand-edge .kept .1 .1 in
     walk-next z (at-test .before .loop .inv) (at-test .loop-test .taken) (at-get .get-at .ensures .0) (c .get-at2 .ensures .0)
     (at-edge .expand-edge .ensures) (kept .0) (kept .1 .0))
-    (λ c. c .before .loop .inv .marks-long)
-    (λ c. c .before .loop .inv .out-long)
-    (λ c. walk-done (c .before .loop .inv) (c .loop-test .left)))
-    λ t. explain-rec-lts.spec (mark-pairs.Asked, mark-pairs.Learnt, forest-nca.Asked, forest-nca.Learnt, expand-way-below t, expand-way.Post)
-    (explain-rec-at t)
-    explain-rec.Post
+    (λ c. c .before .loop .inv .marks-long) (λ c. c .before .loop .inv .out-long)
+    (λ c. walk-done (c .before .before .before .before .before .pre .1 .0 .engine) (c .before .loop .inv) (c .loop-test .left)))
+    λ t. explain-rec-lts.spec
+    (mark-pairs.Asked, mark-pairs.Learnt, forest-nca.Asked, forest-nca.Learnt, expand-way-below t, expand-way.Post)
+    _ explain-rec.Post
     (λ c. goes-one (c .before .before .before .before .pre .1 .0) (c .if1 .taken))
     (λ c κs. let p = c .before .before .before .before .before .pre .1 in (p .0 .engine, p .0 .long))
     (λ c κs.
@@ -272,11 +237,8 @@ pub +expand-edge+expand-pair+expand-pairs+expand-way+explain-rec-spec : {M : Typ
     let start = at-mark .before .before .before .before .before .before in
     let p = start .pre .1 in
     let w = met (p .0 .engine) (p .1) (at-nca .forest-nca .ensures) in
-    let m = start .pre .0 in
-    let l = p .0 .long in
     let k = at-mark .mark-pairs .kept .1 .1 .1 .0 in
-    let o = w .left-older in
-    (omega arith, (record { engine = p .0 .engine; answer = p .0 .answer; long = omega arith }, w .left-up)))
+    (omega (arith, start .pre .0, w .left-older), (on-with (p .0) (p .0 .answer) k, w .left-up)))
     (λ c κs.
     let at-way = c .before .before .before .before .before .before in
     let at-nca = at-way .before .before .before in
@@ -284,12 +246,8 @@ pub +expand-edge+expand-pair+expand-pairs+expand-way+explain-rec-spec : {M : Typ
     let start = at-mark .before .before .before .before .before .before in
     let p = start .pre .1 in
     let w = met (p .0 .engine) (p .1) (at-nca .forest-nca .ensures) in
-    let m = start .pre .0 in
-    let l = p .0 .long in
-    let k = at-mark .mark-pairs .kept .1 .1 .1 .0 in
-    let r = at-way .expand-way .kept .1 .1 .1 .0 in
-    let o = w .right-older in
-    (omega arith, (record { engine = p .0 .engine; answer = at-way .expand-way .ensures .answer; long = omega arith }, w .right-up)))
+    let k = at-way .expand-way .kept .1 .1 .1 .0 ∙ at-mark .mark-pairs .kept .1 .1 .1 .0 in
+    (omega (arith, start .pre .0, w .right-older), (on-with (p .0) (at-way .expand-way .ensures .answer) k, w .right-up)))
     (λ c.
     let at-way2 = c .before .before .before .before in
     let at-way = at-way2 .before .before .before .before .before .before .before in
@@ -306,5 +264,5 @@ pub +expand-edge+expand-pair+expand-pairs+expand-way+explain-rec-spec : {M : Typ
     let at-mark = at-nca .before .before .before in
     let at-if = at-mark .before .before in
     let p = at-if .before .before .before .before .pre .1 in
-    goes-two (p .0 .engine) (p .1) (at-if .if1 .left) (at-mark .mark-pairs .ensures) (at-nca .forest-nca .ensures) (at-way .expand-way .ensures)
-    (at-way2 .expand-way2 .ensures))
+    goes-two (p .0 .engine) (p .1) (at-if .if1 .left) (at-mark .mark-pairs .ensures) (at-nca .forest-nca .ensures)
+    (at-way .expand-way .ensures) (at-way2 .expand-way2 .ensures))

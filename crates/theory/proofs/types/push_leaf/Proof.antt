@@ -23,12 +23,14 @@ push-words-requires-2 c κs =
 returns : tie.Need-returns
 returns c =
     let at-push = c .before .before in
-    subst (Pushed _ _) (sym (asserted-is _ _ (at-push .before .before .before .before .l .given .1))) (at-push .push-words .ensures)
+    let at-l = at-push .before .before .before .before in
+    subst (Pushed _ _) (sym (asserted-is _ _ (at-l .l .given .1))) (at-push .push-words .ensures)
 
 returns-2 : tie.Need-returns-2
 returns-2 c =
     let at-push = c .before .before in
-    subst (Pushed _ _) (sym (interface-is _ _ (at-push .before .before .before .before .before .l2 .given .1))) (at-push .push-words2 .ensures)
+    let at-l = at-push .before .before .before .before .before in
+    subst (Pushed _ _) (sym (interface-is _ _ (at-l .l2 .given .1))) (at-push .push-words2 .ensures)
 
 pub push-leaf-spec : {M : Type 1} → statement M
 push-leaf-spec =

@@ -22,8 +22,8 @@ returns-2 c =
     let at-put = at-put2 .before .before .before .before in
     let at-get = at-put .before .before in
     let at-if = at-get .before .before in
-    pushed-new (at-if .before .before .before .before .pre) (at-if .before .has-leaf .ensures) (at-if .if1 .left) (at-get .get-at .ensures .0)
-    (at-put .put-at .ensures) (at-put2 .put-at2 .ensures) (at-put3 .put-at3 .ensures)
+    pushed-new (at-if .before .before .before .before .pre) (at-if .before .has-leaf .ensures) (at-if .if1 .left)
+    (at-get .get-at .ensures .0) (at-put .put-at .ensures) (at-put2 .put-at2 .ensures) (at-put3 .put-at3 .ensures)
 
 pub push-words-spec : {M : Type 1} → statement M
 push-words-spec =
