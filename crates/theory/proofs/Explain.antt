@@ -12,7 +12,7 @@ use Rattle.core.specs.Lists.{any}
 use Rattle.core.proofs.Lists.{In, any-in, T-and, T-both}
 use Rattle.theory.specs.Types.{EqJust, Asserted, Congruence, Interface, EqLeaf, AssertedLeaf, InterfaceLeaf, same-leaf}
 use Rattle.theory.specs.EqEngine.{Merge, Step, find, are-equal, merge, pop-merges, pairs-of, path, Explained, same-pair, visit, cite, expand-edge, explain-rec, explain, firsts-after, firsts}
-pub use Rattle.theory.specs.Memory.Table.{Justified}
+pub use Rattle.theory.specs.Memory.Replay.{Justified}
 pub use Rattle.theory.specs.Memory.Answer.{Labels, Cites}
 use Rattle.theory.proofs.Members.{T-or, T-left, in-left, in-right, in-either, in-any}
 use Rattle.theory.proofs.Classes.{Same, same?, same-alone, same-kept, same-suffix, equal-same, Suffix, suffix-self, suffix-tail, in-suffix, pop-suffix}

@@ -1,18 +1,19 @@
 -- The engine's table. EngineStores: the laws of stores at its regions; Log: merges and argument pairs; Walks: up the classes and up the
--- forest.
+-- forest; SoundTables: when another table is sound; Clearing: an empty table; Turning: a way turned; Merging: the steps of one merge;
+-- Joining: labels; Undoing: merges taken back.
 pub mod EngineStores
 pub mod Log
 pub mod Walks
-pub mod Clearing
 pub mod SoundTables
+pub mod Clearing
 pub mod Turning
 pub mod Merging
 pub mod Joining
 pub mod Undoing
--- Explanations. Marks: argument pairs that are expanded; Leaves: the answer table; Explaining: the steps of an explanation.
-pub mod Marks
+-- Explanations. Leaves: the answer table; Marks: pairs expanded; Explaining: the steps of an explanation.
 pub mod Leaves
+pub mod Marks
 pub mod Explaining
--- The registry. Registering: what its words say; Registers: one more registration, an empty registry.
+-- The registry.
 pub mod Registering
 pub mod Registers

@@ -21,7 +21,8 @@ ghost use Rattle.theory.specs.Types.{Congruence};
 ghost use Rattle.theory.specs.EqEngine.{child, root, find, are-equal, merge, pairs-in-force, before, common, way, same-pair};
 ghost use Rattle.core.specs.Limits.{max-terms, max-pairs, max-levels};
 ghost use Rattle.core.specs.Memory.Words.{put};
-ghost use Rattle.theory.specs.Memory.Table.{engine-size, PARENT, SIZE, FPARENT, IsNode, merges#, size-word, parent-word, pair-at, label, just-at, merges, end, just-meaning, level, EngineSound, Engine, TwoNodes, Merges, Congruent, Pops};
+ghost use Rattle.theory.specs.Memory.Replay.{IsNode, end};
+ghost use Rattle.theory.specs.Memory.Table.{engine-size, PARENT, SIZE, FPARENT, merges#, size-word, parent-word, pair-at, label, just-at, merges, just-meaning, level, EngineSound, Engine, TwoNodes, Merges, Congruent, Pops};
 ghost use Rattle.theory.specs.Memory.Steps.{Upward, Rerooted, Spliced, TwoClasses, united, Entry, logged, Joinable, HoldsLabel, PairRoom, Copied, Separable, separated, Undoes, newest-above, Drops};
 ghost use Rattle.theory.specs.Memory.Explaining.{NewPair, Way, Label, Pairs, up-to, pairs-from, is-pair, Explaining, Goes, EqualNodes, EqualPair, PairsEqual, MarksPair, Markable, Explainable, Explains};
 

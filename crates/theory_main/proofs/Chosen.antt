@@ -10,7 +10,7 @@ use lib.ListN.{length, take}
 use lib.Seq.{length-take-le}
 use Rattle.core.specs.Lists.{In, zip}
 use Rattle.theory.specs.EqEngine.{Merge, classes, are-equal}
-use Rattle.theory.specs.Memory.Table.{EqualPairs}
+use Rattle.theory.specs.Memory.Replay.{EqualPairs}
 
 -- two nodes that are equal now
 abbrev pub EqualNow : List Merge → ℕ → ℕ → Type 0

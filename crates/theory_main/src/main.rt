@@ -22,7 +22,8 @@ ghost use lib.ListN.{length};
 ghost use Rattle.core.specs.Lists.{zip};
 ghost use Rattle.theory.specs.Memory.Answer.{AnswerSound};
 ghost use Rattle.theory.specs.EqEngine.{are-equal};
-ghost use Rattle.theory.specs.Memory.Table.{merges, EqualPairs, EngineSound};
+ghost use Rattle.theory.specs.Memory.Replay.{EqualPairs};
+ghost use Rattle.theory.specs.Memory.Table.{merges, EngineSound};
 
 // ---- the generator: word 0 is the last number drawn, word 1 the checksum
 

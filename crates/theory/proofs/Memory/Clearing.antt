@@ -12,7 +12,8 @@ use Rattle.core.specs.Limits.{max-terms}
 use Rattle.core.specs.Lists.{In}
 use Rattle.core.specs.Memory.Words.{put}
 use Rattle.theory.specs.EqEngine.{Merge, singletons, classes, way}
-use Rattle.theory.specs.Memory.Table.{engine-size, COUNTS, MERGES, LEVEL, PARENT, SIZE, FPARENT, IsNode, merges#, level-word, parent-word, size-word, fparent-word, merges-below, merges, parent, FirstEdge, Justified, EngineSound, Engine}
+use Rattle.theory.specs.Memory.Replay.{IsNode, parent, Justified}
+use Rattle.theory.specs.Memory.Table.{engine-size, COUNTS, MERGES, LEVEL, PARENT, SIZE, FPARENT, merges#, level-word, parent-word, size-word, fparent-word, merges-below, merges, FirstEdge, EngineSound, Engine}
 use Rattle.theory.proofs.Memory.EngineStores.{stores}
 
 pub record Alone (t : List ℕ) (x : ℕ) : Type 0 where
@@ -72,15 +73,11 @@ clear-done {t₀} {t} c h =
         long = c .long;
         fewer = omega arith;
         justified = subst Justified (sym m) tt;
-        nodes = λ i g. absurd (omega arith);
+        entries = λ i g. absurd (omega arith);
         pair-nodes = λ k i p j. absurd (subst (λ (ms : List Merge). In k ms) m i);
-        child = λ i g. absurd (omega arith);
-        froot = λ i g. absurd (omega arith);
         levels-fit = omega arith;
         levels = λ i g. absurd (omega arith);
         levels-rise = λ i g. absurd (omega arith);
-        starts = λ i g. absurd (omega arith);
-        pairs-fit = λ i g. absurd (omega arith);
         parents = λ x g. c .alone x (omega arith) .parent ∙ sym (ap (λ (ms : List Merge). parent ms x) m);
         sizes = λ x g. c .alone x (omega arith) .size ∙ sym (ap (λ (ms : List Merge). classes ms .size x) m);
         forest = λ x g. subst (FirstEdge t x) (sym (ap (λ (ms : List Merge). way ms x) m)) (c .alone x (omega arith) .fparent);

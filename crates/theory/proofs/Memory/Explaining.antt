@@ -16,8 +16,9 @@ use Rattle.core.specs.Memory.Table.{word}
 use Rattle.core.proofs.Lists.{In, T-true, true-T, in-range}
 use Rattle.theory.specs.Types.{EqJust, Asserted, Congruence, Interface, EqLeaf, AssertedLeaf, InterfaceLeaf}
 use Rattle.theory.specs.EqEngine.{Merge, Step, Explained, are-equal, pairs-of, common, way, same-pair, visit, cite, path, expand-edge, explain-rec, explain, firsts-after}
-use Rattle.theory.specs.Memory.Table.{left-word, right-word, pair-at, merges#, label-word, value-word, after-word, fparent-word, fedge-word, label, begins, kind-of, theory-of, IsNode, just-at, merge-at, pairs-start, merges-below, merges, Justified, EngineSound}
+use Rattle.theory.specs.Memory.Table.{left-word, right-word, pair-at, merges#, label-word, value-word, after-word, fparent-word, fedge-word, label, begins, kind-of, theory-of, just-at, merge-at, pairs-start, merges-below, merges, EngineSound}
 use Rattle.theory.specs.declared.types.EqLeaf as Given
+use Rattle.theory.specs.Memory.Replay.{IsNode, Justified}
 use Rattle.theory.specs.Memory.Steps.{Upward}
 use Rattle.theory.specs.Memory.Answer.{leaves, leaf-meaning, HasRoom, Pushed, Labels, Cites, AnswerSound}
 use Rattle.theory.specs.Memory.Explaining.{age, pairs-age, Part, NewPair, Way, Label, Pairs, part-age, NotOlder, up-to, expand-way, expand-new, expand, pairs-from, marked, is-pair, Shows, Explaining, Goes, EqualNodes, EqualPair, PairsEqual, MarksPair, Explains}
@@ -436,7 +437,7 @@ module _ {t m o : List ℕ} {i k v : ℕ} (z : Explaining t m o) (h : i < merges
   pub edge-congruence : {a : ℕ} → a ≡ after-word t i → kind-of k ≡ 1 → LabelPairs t i v a
   unfolding merges merge-at label pairs-from pairs-start begins pairs-of expand expand-edge part-age
   edge-congruence {a} r w =
-      let f = z .engine .pairs-fit i h .0 in
+      let f = z .engine .entries i h .fit .0 in
       let s : pairs-start t i ≡ value-word t i = ap (λ (n : ℕ). begins n (value-word t i) (after-word t i)) (sym (ap kind-of e) ∙ w) in
       let l = after-within t i (z .engine) h in
       record {

@@ -12,7 +12,8 @@ use Rattle.core.specs.Lists.{In, total}
 use Rattle.core.proofs.Lists.{length-map-range, map-range-cong}
 use Rattle.theory.specs.Types.{Congruence}
 use Rattle.theory.specs.EqEngine.{Merge, pairs-of, pairs-in-force}
-use Rattle.theory.specs.Memory.Table.{IsNode, merges#, label-word, value-word, after-word, pair-at, kind-unit, label-code, level-of, kind-of, theory-of, label, begins, just-at, merge-at, pairs-start, merges-below, merges, EngineSound}
+use Rattle.theory.specs.Memory.Replay.{IsNode}
+use Rattle.theory.specs.Memory.Table.{merges#, label-word, value-word, after-word, pair-at, kind-unit, label-code, level-of, kind-of, theory-of, label, begins, just-at, merge-at, pairs-start, merges-below, merges, EngineSound}
 use Rattle.theory.specs.Memory.Steps.{SameEntry, SamePairs, SameLog}
 use Rattle.theory.proofs.Classes.{Suffix}
 use Rattle.theory.proofs.Forest.{Joins}
@@ -102,7 +103,7 @@ pub merges-within : (t : List ℕ) → EngineSound t → Within max-terms (merge
 unfolding merges merge-at
 merges-within t z m k =
     let (i, h, e) = in-below t (merges# t) m k in
-    subst (λ (x : Merge). IsNode (x .a) × IsNode (x .b)) (sym e) (z .nodes i h)
+    subst (λ (x : Merge). IsNode (x .a) × IsNode (x .b)) (sym e) (z .entries i h .nodes)
 
 -- each merge joined two classes
 pub sound-joins : (t : List ℕ) → EngineSound t → Joins (merges t)
@@ -128,9 +129,9 @@ label-length t (suc (suc k)) h v e l = omega arith
 after-is : (t : List ℕ) (i : ℕ) → EngineSound t → i < merges# t → after-word t i ≡ pairs-in-force (merges-below t (suc i))
 unfolding merges-below merge-at just-at pairs-start
 after-is t i z h =
-    let s = z .starts i h in
+    let s = z .entries i h .start in
     let w = label-word t i in
-    let e = label-length t (kind-of w) (theory-of w) (value-word t i) (after-word t i) (z .pairs-fit i h .0) in
+    let e = label-length t (kind-of w) (theory-of w) (value-word t i) (after-word t i) (z .entries i h .fit .0) in
     let p = pairs-more (merge-at t i) (merges-below t i) in
     omega arith
 
@@ -142,7 +143,7 @@ newest-pairs t i z e = after-is t i z (omega arith) ∙ ap (λ (k : ℕ). pairs-
 pub pairs-newest : {t : List ℕ} {n r : ℕ} → EngineSound t → n ≡ merges# t → (n ≡ 0 → ⊥) → r ≡ after-word t (n - 1) → (r ≡ pairs-in-force (merges t)) × (r ≤ max-pairs)
 pairs-newest {t} {n} z e h f =
     let p = newest-pairs t (n - 1) z (omega arith) in
-    let b = z .pairs-fit (n - 1) (omega arith) in
+    let b = z .entries (n - 1) (omega arith) .fit in
     (f ∙ p, omega arith)
 
 no-pairs : (t : List ℕ) → merges# t ≡ 0 → 0 ≡ pairs-in-force (merges t)
@@ -172,4 +173,4 @@ in-force-few t z = go (merges# t) refl
   where
     go : (n : ℕ) → merges# t ≡ n → pairs-in-force (merges t) ≤ max-pairs
     go zero e = let h = no-pairs t e in omega arith
-    go (suc i) e = let h = newest-pairs t i z e in let f = z .pairs-fit i (omega arith) in omega arith
+    go (suc i) e = let h = newest-pairs t i z e in let f = z .entries i (omega arith) .fit in omega arith

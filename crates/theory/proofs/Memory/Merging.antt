@@ -16,13 +16,14 @@ use Rattle.core.specs.Lists.{In}
 use Rattle.core.specs.Memory.Words.{put, Kept}
 use Rattle.core.proofs.Memory.Stores.{kept-more, kept-put}
 use Rattle.theory.specs.EqEngine.{Merge, child, root, classes, find, are-equal, Step, before, way}
-use Rattle.theory.specs.Memory.Table.{engine-size, COUNTS, MERGES, LEVEL, PARENT, SIZE, FPARENT, FEDGE, FROOT, engine-room, IsNode, merges#, level-word, parent-word, size-word, fparent-word, fedge-word, a-word, b-word, label-word, value-word, child-word, froot-word, after-word, left-word, right-word, label-code, level-of, kind-of, theory-of, label, begins, just-at, merge-at, pairs-start, merges, child-of, root-of, parent, end, BothSides, FirstEdge, EngineSound, Engine, TwoNodes}
-use Rattle.theory.specs.Memory.Steps.{SameEntry, SameLog, ups, On, Upward, SameNode, Turned, Rerooted, Spliced, TwoClasses, united, Entry, logged, Joinable}
+use Rattle.theory.specs.Memory.Replay.{IsNode, child-of, root-of, parent, end, BothSides}
+use Rattle.theory.specs.Memory.Table.{engine-size, COUNTS, MERGES, LEVEL, PARENT, SIZE, FPARENT, FEDGE, FROOT, engine-room, merges#, level-word, parent-word, size-word, fparent-word, fedge-word, a-word, b-word, label-word, value-word, child-word, froot-word, after-word, left-word, right-word, label-code, level-of, kind-of, theory-of, label, begins, just-at, merge-at, pairs-start, merges, FirstEdge, EngineSound, Engine, TwoNodes}
+use Rattle.theory.specs.Memory.Replay.{ups, On}
+use Rattle.theory.specs.Memory.Steps.{SameEntry, SameLog, Upward, SameNode, Turned, Rerooted, Spliced, TwoClasses, united, Entry, logged, Joinable}
 use Rattle.theory.proofs.Members.{in-right}
-use Rattle.theory.proofs.Classes.{turned-sides}
+use Rattle.theory.proofs.Classes.{turned-sides, size-more}
 use Rattle.theory.proofs.Forest.{Forest, Above, above?, Below, below, before-end, apart, end-on, split, back, first-side, turned-above, other-stays, other-root}
-use Rattle.theory.proofs.Sizes.{find-within, size-bound}
-use Rattle.theory.proofs.UnionFind.{size-more, child-within, root-within}
+use Rattle.theory.proofs.Sizes.{find-within, size-bound, child-within, root-within}
 use Rattle.theory.proofs.Memory.EngineStores.{stores}
 use Rattle.theory.proofs.Memory.Log.{level-is, kind-is, theory-is, label-same, merges-length, merges-within, sound-joins}
 use Rattle.theory.proofs.Memory.Walks.{sound-forest, way-within}
@@ -242,7 +243,7 @@ module _ {t t₁ : List ℕ} {a b kind h v e ra rb : ℕ} (J : Joinable t a b ki
           let o = c .older j g in
           search (n .a, n .b, n .label, n .value, n .child, n .froot, n .after, o, c .kept .rest, tt);
       pairs = λ i g j k.
-          let l : j < max-pairs = let f = J .sound .pairs-fit i g .1 in omega arith in
+          let l : j < max-pairs = let f = J .sound .entries i g .fit .1 in omega arith in
           let n = w .pairs j l in
           search (n .0, n .1, c .kept .rest, tt);
     }

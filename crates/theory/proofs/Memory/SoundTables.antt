@@ -13,8 +13,9 @@ use Rattle.core.specs.Limits.{max-terms, max-pairs, max-levels}
 use Rattle.core.specs.Lists.{In}
 use Rattle.core.specs.Memory.Words.{put}
 use Rattle.theory.specs.EqEngine.{Merge, classes, are-equal, pairs-of, pairs-in-force, Step, way}
-use Rattle.theory.specs.Memory.Table.{engine-size, COUNTS, LEVEL, IsNode, merges#, level-word, parent-word, size-word, fparent-word, fedge-word, a-word, b-word, label-word, child-word, froot-word, after-word, level-of, just-at, merge-at, pairs-start, merges-below, merges, child-of, parent, end, BothSides, FirstEdge, Justified, EqualPairs, EngineSound, Engine}
-use Rattle.theory.specs.Memory.Steps.{SameLog, SameNode}
+use Rattle.theory.specs.Memory.Replay.{IsNode, child-of, parent, end, BothSides, Justified, EqualPairs}
+use Rattle.theory.specs.Memory.Table.{engine-size, COUNTS, LEVEL, merges#, level-word, parent-word, size-word, fparent-word, fedge-word, a-word, b-word, label-word, child-word, froot-word, after-word, level-of, just-at, merge-at, pairs-start, merges-below, merges, FirstEdge, EntrySound, EngineSound, Engine}
+use Rattle.theory.specs.Memory.Steps.{SameEntry, SamePairs, SameLog, SameNode}
 use Rattle.theory.proofs.Classes.{Suffix, in-suffix}
 use Rattle.theory.proofs.Explain.{justified-joins, justified-suffix}
 use Rattle.theory.proofs.Sizes.{Within, merges-fewer}
@@ -41,6 +42,24 @@ edge-kept (s ∷ w) g c k (f, l, j, b) = edge-words s w g l (omega arith) (k .pa
 
 -- ---- the first merges
 
+-- an entry stays sound where it and those before it stay
+entry-same : {t u : List ℕ} {i : ℕ} → SameLog t u i → SameEntry t u i → SamePairs t u (after-word t i) → EntrySound t i → EntrySound u i
+entry-same {t} {u} {i} log s p z =
+    let older = sym (below-same t u i log) in
+    let a = s .a in
+    let b = s .b in
+    let start = start-same t u i s in
+    let after = s .after in
+    let nodes = z .nodes in
+    let fit = z .fit in
+    record {
+      nodes = (omega arith, omega arith);
+      child = s .child ∙ z .child ∙ ap₂ child-of older (sym (merge-same t u i s p));
+      froot = s .froot ∙ z .froot ∙ ap₂ (λ (ms : List Merge) (x : ℕ). end x (way ms x)) older (sym a);
+      start = start ∙ z .start ∙ ap pairs-in-force older;
+      fit = (omega arith, omega arith);
+    }
+
 -- what the first n merges of t ask of u
 pub record Shortened (t u : List ℕ) (n : ℕ) : Type 0 where
   pub long : engine-size ≤ length u
@@ -57,12 +76,6 @@ module _ {t u : List ℕ} {n : ℕ} (z : EngineSound t) (s : Shortened t u n) wh
   pub shorter-merges : merges u ≡ merges-below t n
   unfolding merges
   shorter-merges = ap (merges-below u) (s .count) ∙ below-same t u n (s .log)
-
-  older : (i : ℕ) → i < n → merges-below u i ≡ merges-below t i
-  older i h = below-same t u i (log-shorter t u n i (omega arith) (s .log))
-
-  same : (i : ℕ) → i < n → merge-at u i ≡ merge-at t i
-  same i h = merge-same t u i (s .log .entries i h) (s .log .pairs i h)
 
   there : (i : ℕ) → i < merges# u → i < n
   there i h = subst (λ (k : ℕ). i < k) (s .count) h
@@ -82,21 +95,9 @@ module _ {t u : List ℕ} {n : ℕ} (z : EngineSound t) (s : Shortened t u n) wh
     long = s .long;
     fewer = let f = s .fewer in let c = s .count in let g = z .fewer in omega arith;
     justified = subst Justified (sym shorter-merges) (justified-suffix (merges-below t n) (merges t) suffix (z .justified));
-    nodes = λ i h.
-        let e = s .log .entries i (there i h) in
-        let g = z .nodes i (inside i (there i h)) in
-        let a = e .a in
-        let b = e .b in
-        (omega arith, omega arith);
     pair-nodes = λ m i p j.
         z .pair-nodes m (in-suffix (merges-below t n) (merges t) m suffix (subst (λ (ms : List Merge). In m ms) shorter-merges i)) p j;
-    child = λ i h.
-        let k = there i h in
-        s .log .entries i k .child ∙ z .child i (inside i k) ∙ ap₂ child-of (sym (older i k)) (sym (same i k));
-    froot = λ i h.
-        let k = there i h in
-        s .log .entries i k .froot ∙ z .froot i (inside i k)
-        ∙ ap₂ (λ (ms : List Merge) (a : ℕ). end a (way ms a)) (sym (older i k)) (sym (s .log .entries i k .a));
+    entries = λ i h. let k = there i h in entry-same (log-shorter t u n i (omega arith) (s .log)) (s .log .entries i k) (s .log .pairs i k) (z .entries i (inside i k));
     levels-fit = s .levels-fit;
     levels = λ i h. let k = there i h in let e = level-same i k in let f = s .levels i k in omega arith;
     levels-rise = λ i h.
@@ -105,15 +106,6 @@ module _ {t u : List ℕ} {n : ℕ} (z : EngineSound t) (s : Shortened t u n) wh
         let g = level-same (suc i) k in
         let f = z .levels-rise i (inside (suc i) k) in
         omega arith;
-    starts = λ i h.
-        let k = there i h in
-        start-same t u i (s .log .entries i k) ∙ z .starts i (inside i k) ∙ ap pairs-in-force (sym (older i k));
-    pairs-fit = λ i h.
-        let k = there i h in
-        let f = z .pairs-fit i (inside i k) in
-        let a = start-same t u i (s .log .entries i k) in
-        let b = s .log .entries i k .after in
-        (omega arith, omega arith);
     parents = λ x h. s .parents x h ∙ sym (ap (λ (ms : List Merge). parent ms x) shorter-merges);
     sizes = λ x h. s .sizes x h ∙ sym (ap (λ (ms : List Merge). classes ms .size x) shorter-merges);
     forest = λ x h. subst (FirstEdge u x) (sym (ap (λ (ms : List Merge). way ms x) shorter-merges)) (s .forest x h);
@@ -129,7 +121,7 @@ module _ {t u : List ℕ} {v : ℕ} (z : EngineSound t) (e : u ≡ put t COUNTS 
   same-log : SameLog t u (merges# t)
   same-log = record {
     entries = λ i h. let w : i < max-terms = let k = z .fewer in omega arith in search (e, stores);
-    pairs = λ i h j k. let w : j < max-pairs = let l = z .pairs-fit i h .1 in omega arith in search (e, stores);
+    pairs = λ i h j k. let w : j < max-pairs = let l = z .entries i h .fit .1 in omega arith in search (e, stores);
   }
 
   levelled : Shortened t u (merges# t)
@@ -189,12 +181,6 @@ pub record Grown (t u : List ℕ) (m : Merge) : Type 0 where
   pub forest : (x : ℕ) → IsNode x → FirstEdge u x (way (m ∷ merges t) x)
 
 module _ {t u : List ℕ} {m : Merge} (z : EngineSound t) (g : Grown t u m) where
-  was : (i : ℕ) → i < merges# t → merges-below u i ≡ merges-below t i
-  was i h = below-same t u i (log-shorter t u (merges# t) i (omega arith) (g .log))
-
-  kept : (i : ℕ) → i < merges# t → merge-at u i ≡ merge-at t i
-  kept i h = merge-same t u i (g .log .entries i h) (g .log .pairs i h)
-
   -- all merges but the new one
   rest : merges-below u (merges# t) ≡ merges t
   unfolding merges
@@ -246,7 +232,6 @@ module _ {t u : List ℕ} {m : Merge} (z : EngineSound t) (g : Grown t u m) wher
 
   pub grown-sound : EngineSound u
   grown-sound =
-      let ways : List Merge → ℕ → ℕ = λ ms a. end a (way ms a) in
       record {
         long = g .long;
         fewer =
@@ -255,31 +240,21 @@ module _ {t u : List ℕ} {m : Merge} (z : EngineSound t) (g : Grown t u m) wher
             let f = merges-fewer max-terms (m ∷ merges t) (omega arith) (justified-joins (m ∷ merges t) justified-now) within-now in
             omega arith;
         justified = subst Justified (sym grown-merges) justified-now;
-        nodes = every-merge (λ i. IsNode (a-word u i) × IsNode (b-word u i))
-            (λ i h. let e = g .log .entries i h in let f = z .nodes i h in let a = e .a in let b = e .b in (omega arith, omega arith))
-            (let f = g .nodes in let a = side-a in let b = side-b in (omega arith, omega arith));
         pair-nodes = λ k i p j. pair-nodes-now k (subst (λ (ms : List Merge). In k ms) grown-merges i) p j;
-        child = every-merge (λ i. child-word u i ≡ child-of (merges-below u i) (merge-at u i))
-            (λ i h. g .log .entries i h .child ∙ z .child i h ∙ ap₂ child-of (sym (was i h)) (sym (kept i h)))
-            (g .child ∙ ap₂ child-of (sym rest) (sym (g .new)));
-        froot = every-merge (λ i. froot-word u i ≡ end (a-word u i) (way (merges-below u i) (a-word u i)))
-            (λ i h. g .log .entries i h .froot ∙ z .froot i h ∙ ap₂ ways (sym (was i h)) (sym (g .log .entries i h .a)))
-            (g .froot ∙ ap₂ ways (sym rest) (sym side-a));
+        entries = every-merge (EntrySound u)
+            (λ i h. entry-same (log-shorter t u (merges# t) i (omega arith) (g .log)) (g .log .entries i h) (g .log .pairs i h) (z .entries i h))
+            (record {
+              nodes = let f = g .nodes in let a = side-a in let b = side-b in (omega arith, omega arith);
+              child = g .child ∙ ap₂ child-of (sym rest) (sym (g .new));
+              froot = g .froot ∙ ap₂ (λ (ms : List Merge) (a : ℕ). end a (way ms a)) (sym rest) (sym side-a);
+              start = g .start ∙ ap pairs-in-force (sym rest);
+              fit = g .fit;
+            });
         levels-fit = let l = g .level in let f = z .levels-fit in omega arith;
         levels = every-merge (λ i. level-of (label-word u i) ≤ level-word u)
             (λ i h. let e = level-kept i h in let f = z .levels i h in let l = g .level in omega arith)
             (let e = new-level in let l = g .level in omega arith);
         levels-rise = λ i h. rises i (suc i) h refl;
-        starts = every-merge (λ i. pairs-start u i ≡ pairs-in-force (merges-below u i))
-            (λ i h. start-same t u i (g .log .entries i h) ∙ z .starts i h ∙ ap pairs-in-force (sym (was i h)))
-            (g .start ∙ ap pairs-in-force (sym rest));
-        pairs-fit = every-merge (λ i. (pairs-start u i ≤ after-word u i) × (after-word u i ≤ max-pairs))
-            (λ i h.
-            let f = z .pairs-fit i h in
-            let a = start-same t u i (g .log .entries i h) in
-            let b = g .log .entries i h .after in
-            (omega arith, omega arith))
-            (g .fit);
         parents = λ x h. g .parents x h ∙ sym (ap (λ (ms : List Merge). parent ms x) grown-merges);
         sizes = λ x h. g .sizes x h ∙ sym (ap (λ (ms : List Merge). classes ms .size x) grown-merges);
         forest = λ x h. subst (FirstEdge u x) (sym (ap (λ (ms : List Merge). way ms x) grown-merges)) (g .forest x h);

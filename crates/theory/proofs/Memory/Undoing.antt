@@ -14,13 +14,15 @@ use Rattle.core.specs.Limits.{max-terms, max-pairs}
 use Rattle.core.specs.Lists.{In}
 use Rattle.core.specs.Memory.Words.{put}
 use Rattle.theory.specs.EqEngine.{Merge, classes, find, pop-merges, Step, before, turned, way}
-use Rattle.theory.specs.Memory.Table.{engine-size, COUNTS, MERGES, LEVEL, PARENT, SIZE, IsNode, merges#, level-word, parent-word, size-word, fparent-word, fedge-word, a-word, label-word, child-word, froot-word, level-of, merge-at, merges-below, merges, child-of, root-of, parent, end, BothSides, FirstEdge, EngineSound, Engine, Pops}
-use Rattle.theory.specs.Memory.Steps.{SameLog, ups, On, Upward, SameNode, Rerooted, Separable, separated, Undoes, newest-above, Drops}
+use Rattle.theory.specs.Memory.Replay.{IsNode, child-of, root-of, parent, end, BothSides}
+use Rattle.theory.specs.Memory.Table.{engine-size, COUNTS, MERGES, LEVEL, PARENT, SIZE, merges#, level-word, parent-word, size-word, fparent-word, fedge-word, a-word, label-word, child-word, froot-word, level-of, merge-at, merges-below, merges, FirstEdge, EngineSound, Engine, Pops}
+use Rattle.theory.specs.Memory.Replay.{ups, On}
+use Rattle.theory.specs.Memory.Steps.{SameLog, Upward, SameNode, Rerooted, Separable, separated, Undoes, newest-above, Drops}
 use Rattle.theory.proofs.Members.{in-right}
-use Rattle.theory.proofs.Classes.{Same, unequal, turned-sides}
+use Rattle.theory.proofs.Classes.{Same, unequal, turned-sides, size-more, roots-apart}
 use Rattle.theory.proofs.Forest.{Joins, Forest, Above, way-over, above?, split, apart, back, new-step, end-on, end-above, step-above, way-forest, step-same, before-skip, before-stop, turned-in, in-turned, turned-above, other-stays, other-root, from-old-root}
-use Rattle.theory.proofs.Sizes.{Within}
-use Rattle.theory.proofs.UnionFind.{size-more, child-within, root-within, roots-apart, child-parent, parent-child, parent-kept}
+use Rattle.theory.proofs.Sizes.{Within, child-within, root-within}
+use Rattle.theory.proofs.UnionFind.{child-parent, parent-child, parent-kept}
 use Rattle.theory.proofs.Memory.EngineStores.{stores}
 use Rattle.theory.proofs.Memory.Log.{merges-within, sound-joins, newest-first}
 use Rattle.theory.proofs.Memory.Walks.{sides-within}
@@ -54,14 +56,14 @@ module _ (t : List ℕ) (i : ℕ) (z : EngineSound t) (N : merges# t ≡ suc i) 
 
   old-root : froot-word t i ≡ end (m .a) (way ms (m .a))
   unfolding merge-at
-  old-root = z .froot i in-log
+  old-root = z .entries i in-log .froot
 
   child-noted : child-word t i ≡ child-of ms m
-  child-noted = z .child i in-log
+  child-noted = z .entries i in-log .child
 
   nodes : IsNode (m .a) × IsNode (m .b)
   unfolding merge-at
-  nodes = z .nodes i in-log
+  nodes = z .entries i in-log .nodes
 
   -- an edge between terms that were equal before is of an older merge
   older : (e x y : ℕ) → e < merges# t → BothSides (merge-at t e) x y → Same ms x y → e < i
@@ -190,7 +192,7 @@ module _ (t : List ℕ) (i : ℕ) (z : EngineSound t) (N : merges# t ≡ suc i) 
           level = search (e′, kept, stores);
           log = record {
             entries = λ j h. let w : j < max-terms = omega arith in search (e′, kept, stores);
-            pairs = λ j h p g. let w : p < max-pairs = let b = z .pairs-fit j (omega arith) .1 in omega arith in search (e′, kept, stores);
+            pairs = λ j h p g. let w : p < max-pairs = let b = z .entries j (omega arith) .fit .1 in omega arith in search (e′, kept, stores);
           };
           parents = λ x h. search (e′, kept, stores);
           sizes = λ x h. search (e′, kept, stores);

@@ -11,7 +11,8 @@ use Rattle.core.specs.Limits.{max-terms}
 use Rattle.core.specs.Lists.{In, range}
 use Rattle.core.proofs.Lists.{in-range, true-T}
 use Rattle.theory.specs.EqEngine.{Merge, Step, find, are-equal, nodes, common, way}
-use Rattle.theory.specs.Memory.Table.{IsNode, merges#, parent-word, fparent-word, fedge-word, just-at, merge-at, merges, parent, end, BothSides, FirstEdge, EngineSound, TwoNodes}
+use Rattle.theory.specs.Memory.Replay.{IsNode, parent, end, BothSides}
+use Rattle.theory.specs.Memory.Table.{merges#, parent-word, fparent-word, fedge-word, just-at, merge-at, merges, FirstEdge, EngineSound, TwoNodes}
 use Rattle.theory.proofs.Members.{apart-length}
 use Rattle.theory.proofs.Classes.{equal-same}
 use Rattle.theory.proofs.Forest.{On, Forest, way-over, Above, Meet, at-root, lower, longer, meet-up, way-forest, way-apart, way-meets}
@@ -88,7 +89,7 @@ sides-within m x y h (inr (p, q)) = omega arith
 module _ (t : List ℕ) (z : EngineSound t) where
   side-within : (i x y : ℕ) → i < merges# t → BothSides (merge-at t i) x y → IsNode y
   unfolding merge-at
-  side-within i x y h b = sides-within (merge-at t i) x y (z .nodes i h) b .1
+  side-within i x y h b = sides-within (merge-at t i) x y (z .entries i h .nodes) b .1
 
   rises-by : (x p : ℕ) (s : Step) (w : List Step) → p ≡ fparent-word t x → way (merges t) x ≡ s ∷ w → FirstEdge t x (s ∷ w) → Rises t x p
   rises-by x p s w e q (a, b, c, d) =

@@ -11,7 +11,8 @@ use Rattle.core.specs.Lists.{any, range}
 use Rattle.core.specs.Memory.Table.{word}
 use Rattle.theory.specs.Types.{EqJust, EqLeaf}
 use Rattle.theory.specs.EqEngine.{Merge, Step, Explained, are-equal, pairs-of, pairs-in-force, before, way, path, same-pair, visit, expand-edge, explain-rec, explain, firsts-after}
-use Rattle.theory.specs.Memory.Table.{engine-size, IsNode, pair-at, merges, EngineSound}
+use Rattle.theory.specs.Memory.Replay.{IsNode}
+use Rattle.theory.specs.Memory.Table.{engine-size, pair-at, merges, EngineSound}
 use Rattle.theory.specs.Memory.Answer.{leaves, AnswerSound}
 
 -- ---- ages

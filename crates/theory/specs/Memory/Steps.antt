@@ -11,7 +11,8 @@ use Rattle.core.specs.Memory.Words.{at, put, Kept}
 use Rattle.theory.specs.declared.types.EqJust as Given
 use Rattle.theory.specs.declared.eq_engine.LabelWords as LabelWords
 use Rattle.theory.specs.EqEngine.{Merge, are-equal, pop-merges, pairs-of, pairs-in-force, Step, way}
-use Rattle.theory.specs.Memory.Table.{engine-size, PARENT, SIZE, FPARENT, FEDGE, SIDE-A, SIDE-B, LABEL, VALUE, CHILD, FROOT, AFTER, LEFT, RIGHT, engine-room, IsNode, merges#, parent-word, size-word, fparent-word, fedge-word, a-word, b-word, label-word, value-word, child-word, froot-word, after-word, left-word, right-word, kind-unit, label, begins, merges-below, merges, end, level, EqualPairs, EngineSound, Engine}
+use Rattle.theory.specs.Memory.Replay.{IsNode, end, On, EqualPairs}
+use Rattle.theory.specs.Memory.Table.{engine-size, PARENT, SIZE, FPARENT, FEDGE, SIDE-A, SIDE-B, LABEL, VALUE, CHILD, FROOT, AFTER, LEFT, RIGHT, engine-room, merges#, parent-word, size-word, fparent-word, fedge-word, a-word, b-word, label-word, value-word, child-word, froot-word, after-word, left-word, right-word, kind-unit, label, begins, merges-below, merges, level, EngineSound, Engine}
 
 -- ---- the log
 
@@ -35,14 +36,6 @@ pub record SameLog (t u : List ℕ) (n : ℕ) : Type 0 where
   pub pairs : (i : ℕ) → i < n → SamePairs t u (after-word t i)
 
 -- ---- the forest
-
--- the nodes that steps reach
-abbrev pub ups : List Step → List ℕ
-ups w = map (λ (s : Step). s .up) w
-
--- n is a node of the steps w from x
-abbrev pub On : ℕ → ℕ → List Step → Type 0
-On n x w = In n (x ∷ ups w)
 
 -- a node and what stands above it on its way
 pub record Upward (t : List ℕ) (node top : ℕ) : Type 0 where

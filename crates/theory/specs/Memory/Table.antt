@@ -12,6 +12,7 @@ use Rattle.core.specs.Lists.{In, range, zip}
 use Rattle.core.specs.Memory.Words.{at, room-in}
 use Rattle.theory.specs.Types.{EqJust, Asserted, Congruence, Interface}
 use Rattle.theory.specs.declared.types.EqJust as Given
+use Rattle.theory.specs.Memory.Replay.{IsNode, child-of, parent, end, BothSides, Justified, EqualPairs}
 use Rattle.theory.specs.EqEngine.{Merge, child, root, classes, find, are-equal, merge, pop-merges, pairs-of, pairs-in-force, Step, way}
 
 -- ---- the layout
@@ -78,9 +79,6 @@ engine-room = room-in
     ((COUNTS, 64) ∷ (PARENT, max-terms) ∷ (SIZE, max-terms) ∷ (FPARENT, max-terms) ∷ (FEDGE, max-terms)
     ∷ (SIDE-A, max-terms) ∷ (SIDE-B, max-terms) ∷ (LABEL, max-terms) ∷ (VALUE, max-terms) ∷ (CHILD, max-terms)
     ∷ (FROOT, max-terms) ∷ (AFTER, max-terms) ∷ (LEFT, max-pairs) ∷ (RIGHT, max-pairs) ∷ [])
-
-abbrev pub IsNode : ℕ → Type 0
-IsNode x = x < max-terms
 
 abbrev pub merges# : List ℕ → ℕ
 merges# t = at t COUNTS MERGES
@@ -181,30 +179,7 @@ merges-below t (suc i) = merge-at t i ∷ merges-below t i
 unfoldable pub merges : List ℕ → List Merge
 merges t = merges-below t (merges# t)
 
--- ---- the union-find
-
--- the root that a merge put under the other, and the other
-unfoldable pub child-of : List Merge → Merge → ℕ
-child-of ms m = let c = classes ms in child (c .size) (c .find (m .a)) (c .find (m .b))
-
-unfoldable pub root-of : List Merge → Merge → ℕ
-root-of ms m = let c = classes ms in root (c .size) (c .find (m .a)) (c .find (m .b))
-
--- the parent of a node: a root is its own
-unfoldable pub parent : List Merge → ℕ → ℕ
-parent [] x = x
-parent (m ∷ ms) x = cond (eqb x (child-of ms m)) (root-of ms m) (parent ms x)
-
--- ---- the forest
-
--- the node that a way ends in
-abbrev pub end : ℕ → List Step → ℕ
-end x [] = x
-end x (s ∷ w) = end (s .up) w
-
--- two terms are the sides of a merge, in one order or the other
-abbrev pub BothSides : Merge → ℕ → ℕ → Type 0
-BothSides m x y = ((x ≡ m .a) × (y ≡ m .b)) ⊎ ((x ≡ m .b) × (y ≡ m .a))
+-- ---- when a table is sound
 
 -- the words of a node are the first edge of its way: where it leads, and the merge that made it; a root is its own parent
 abbrev pub FirstEdge : List ℕ → ℕ → List Step → Type 0
@@ -215,19 +190,14 @@ FirstEdge t x (s ∷ w) =
     × (just-at t (fedge-word t x) ≡ s .just)
     × BothSides (merge-at t (fedge-word t x)) x (s .up)
 
--- ---- when a table is sound
-
--- each merge joined two classes, and the pairs of its label were equal then
-abbrev pub Justified : List Merge → Type 0
-Justified [] = Unit {0}
-Justified (m ∷ ms) =
-    (are-equal ms (m .a) (m .b) ≡ false)
-    × ((p : ℕ × ℕ) → In p (pairs-of (m .just)) → T (are-equal ms (p .0) (p .1)))
-    × Justified ms
-
--- pairs of nodes that are equal in a list of merges
-abbrev pub EqualPairs : List Merge → List (ℕ × ℕ) → Type 0
-EqualPairs ms ps = (p : ℕ × ℕ) → In p ps → T (are-equal ms (p .0) (p .1)) × IsNode (p .0) × IsNode (p .1)
+-- the words of merge i are those of the merges before it
+pub record EntrySound (t : List ℕ) (i : ℕ) : Type 0 where
+  pub nodes : IsNode (a-word t i) × IsNode (b-word t i)
+  pub child : child-word t i ≡ child-of (merges-below t i) (merge-at t i)
+  pub froot : froot-word t i ≡ end (a-word t i) (way (merges-below t i) (a-word t i))
+  -- its pairs follow those of the merges before it
+  pub start : pairs-start t i ≡ pairs-in-force (merges-below t i)
+  pub fit : (pairs-start t i ≤ after-word t i) × (after-word t i ≤ max-pairs)
 
 -- Each region is what the log of merges says.
 pub record EngineSound (t : List ℕ) : Type 0 where
@@ -235,17 +205,12 @@ pub record EngineSound (t : List ℕ) : Type 0 where
   -- the log
   pub fewer : merges# t < max-terms
   pub justified : Justified (merges t)
-  pub nodes : (i : ℕ) → i < merges# t → IsNode (a-word t i) × IsNode (b-word t i)
   pub pair-nodes : (m : Merge) → In m (merges t) → (p : ℕ × ℕ) → In p (pairs-of (m .just)) → IsNode (p .0) × IsNode (p .1)
-  pub child : (i : ℕ) → i < merges# t → child-word t i ≡ child-of (merges-below t i) (merge-at t i)
-  pub froot : (i : ℕ) → i < merges# t → froot-word t i ≡ end (a-word t i) (way (merges-below t i) (a-word t i))
+  pub entries : (i : ℕ) → i < merges# t → EntrySound t i
   -- levels rise along the log, up to the present level
   pub levels-fit : level-word t ≤ max-levels
   pub levels : (i : ℕ) → i < merges# t → level-of (label-word t i) ≤ level-word t
   pub levels-rise : (i : ℕ) → suc i < merges# t → level-of (label-word t i) ≤ level-of (label-word t (suc i))
-  -- the pairs of a merge follow those of the merges before it
-  pub starts : (i : ℕ) → i < merges# t → pairs-start t i ≡ pairs-in-force (merges-below t i)
-  pub pairs-fit : (i : ℕ) → i < merges# t → (pairs-start t i ≤ after-word t i) × (after-word t i ≤ max-pairs)
   -- classes and forest
   pub parents : (x : ℕ) → IsNode x → parent-word t x ≡ parent (merges t) x
   pub sizes : (x : ℕ) → IsNode x → size-word t x ≡ classes (merges t) .size x
