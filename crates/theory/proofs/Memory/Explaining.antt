@@ -16,20 +16,20 @@ use Rattle.core.specs.Memory.Table.{word}
 use Rattle.core.proofs.Lists.{In, T-true, true-T, in-range}
 use Rattle.theory.specs.Types.{EqJust, Asserted, Congruence, Interface, EqLeaf, AssertedLeaf, InterfaceLeaf}
 use Rattle.theory.specs.EqEngine.{Merge, Step, Explained, are-equal, pairs-of, common, way, same-pair, visit, cite, path, expand-edge, explain-rec, explain, firsts-after}
-use Rattle.theory.specs.Memory.Replay.{IsNode, Justified}
 use Rattle.theory.specs.Memory.Table.{left-word, right-word, pair-at, merges#, label-word, value-word, after-word, fparent-word, fedge-word, label, begins, kind-of, theory-of, just-at, merge-at, pairs-start, merges-below, merges, EngineSound}
 use Rattle.theory.specs.declared.types.EqLeaf as Given
+use Rattle.theory.specs.Memory.Replay.{IsNode, Justified}
 use Rattle.theory.specs.Memory.Steps.{Upward}
 use Rattle.theory.specs.Memory.Answer.{leaves, leaf-meaning, HasRoom, Pushed, Labels, Cites, AnswerSound}
 use Rattle.theory.specs.Memory.Explaining.{age, pairs-age, Part, NewPair, Way, Label, Pairs, part-age, NotOlder, up-to, expand-way, expand-new, expand, pairs-from, marked, is-pair, Shows, Explaining, Goes, EqualNodes, EqualPair, PairsEqual, MarksPair, Explains}
 use Rattle.theory.proofs.Members.{in-left, in-right}
 use Rattle.theory.proofs.Classes.{Same, same-kept, same-equal, equal-same}
 use Rattle.theory.proofs.Forest.{Forest, Above, at-root, at-step, before-self, before-step, way-meets}
-use Rattle.theory.proofs.Explain.{pairs-before}
+use Rattle.theory.proofs.Explain.{pairs-before, pushed-firsts}
 use Rattle.theory.proofs.Ages.{pairs-age-in, pairs-age-among, steps-age-in, steps-age-among, age-bound, ways-older}
 use Rattle.theory.proofs.Memory.Log.{merges-length, sound-joins, after-within, in-force-few}
 use Rattle.theory.proofs.Memory.Walks.{sound-forest, Rises, first-edge}
-use Rattle.theory.proofs.Memory.Leaves.{push-room, push-sound, pushed-firsts}
+use Rattle.theory.proofs.Memory.Leaves.{push-room, push-sound}
 
 -- the nearest common ancestor of two equal nodes
 abbrev nca : List ℕ → ℕ → ℕ → ℕ
@@ -370,23 +370,23 @@ label-expands ms (Interface n g) l q d e = ap (λ (x : EqLeaf). cite x e) q
 -- merge i is labelled by a leaf, or by the congruence of the pairs from v up to a
 pub record LabelLeaf (t m o : List ℕ) (i : ℕ) (l : EqLeaf) : Type 0 where
   pub room : HasRoom o l
-  pub goes : (u : List ℕ) → Pushed o u l → Goes t m o m u (Label (just-at t i))
+  pub goes : {u : List ℕ} → Pushed o u l → Goes t m o m u (Label (just-at t i))
 
 pub record LabelPairs (t : List ℕ) (i v a : ℕ) : Type 0 where
   pub ready : PairsEqual t v a
   pub as-old : part-age (merges t) (Pairs (pairs-from t v a)) ≡ part-age (merges t) (Label (just-at t i))
-  pub goes : (m o m₁ o₁ : List ℕ) → Goes t m o m₁ o₁ (Pairs (pairs-from t v a)) → Goes t m o m₁ o₁ (Label (just-at t i))
+  pub goes : {m o m₁ o₁ : List ℕ} → Goes t m o m₁ o₁ (Pairs (pairs-from t v a)) → Goes t m o m₁ o₁ (Label (just-at t i))
 
-label-leaf : {t m o : List ℕ} {i : ℕ} (l : EqLeaf) → Explaining t m o → i < merges# t → Labels (just-at t i) l → LabelLeaf t m o i l
+leaf-goes : {t m o : List ℕ} {i : ℕ} (l : EqLeaf) → Explaining t m o → i < merges# t → Labels (just-at t i) l → LabelLeaf t m o i l
 unfolding merges merge-at cite
-label-leaf {t} {m} {o} {i} l z h k =
+leaf-goes {t} {m} {o} {i} l z h k =
     let f = z .engine .fewer in
     let n = merges-length t in
     let y = z .answer in
     let cites : Cites (merges t) l = (merge-at t i, in-merges t i (merges# t) h, k) in
     record {
       room = push-room (merges t) o l y (omega arith) cites;
-      goes = λ u p. record {
+      goes = λ {u} p. record {
         answer = push-sound (merges t) o u l (y .other) (y .apart) (y .cited) (inr cites) p;
         shows = λ d seen e b s.
             subst (Shows t m u seen) (label-expands (merges t) (just-at t i) l k d e)
@@ -419,12 +419,12 @@ module _ {t m o : List ℕ} {i k v : ℕ} (z : Explaining t m o) (h : i < merges
 
   pub edge-literal : kind-of k ≡ 0 → LabelLeaf t m o i (leaf-meaning (Given.the-variants.Asserted (record { 0 = v })))
   unfolding label leaf-meaning
-  edge-literal w = label-leaf (AssertedLeaf v) z h (subst (λ (j : EqJust). Labels j (AssertedLeaf v)) (sym (of-kind w)) refl)
+  edge-literal w = leaf-goes (AssertedLeaf v) z h (subst (λ (j : EqJust). Labels j (AssertedLeaf v)) (sym (of-kind w)) refl)
 
   pub edge-interface : (kind-of k ≡ 0 → ⊥) → (kind-of k ≡ 1 → ⊥) →
       LabelLeaf t m o i (leaf-meaning (Given.the-variants.Interface (record { theory = theory-of k; tag = v })))
   unfolding label leaf-meaning
-  edge-interface a b = label-leaf l z h (subst (λ (j : EqJust). Labels j l) (sym label-is) (go (kind-of k) a b))
+  edge-interface a b = leaf-goes l z h (subst (λ (j : EqJust). Labels j l) (sym label-is) (go (kind-of k) a b))
     where
       l : EqLeaf
       l = InterfaceLeaf (theory-of k) v
@@ -443,7 +443,7 @@ module _ {t m o : List ℕ} {i k v : ℕ} (z : Explaining t m o) (h : i < merges
       record {
         ready = record { ordered = omega arith; each = λ j b c. record { in-force = omega arith; nodes = nodes j b c } };
         as-old = sym (ap (λ (j : EqJust). pairs-age (merges t) (pairs-of j)) is);
-        goes = λ m o m₁ o₁ g. subst (λ (j : EqJust). Goes t m o m₁ o₁ (Label j)) (sym is) (record { answer = g .answer; shows = g .shows });
+        goes = λ {m} {o} {m₁} {o₁} g. subst (λ (j : EqJust). Goes t m o m₁ o₁ (Label j)) (sym is) (record { answer = g .answer; shows = g .shows });
       }
     where
       is : just-at t i ≡ Congruence (pairs-from t v a)

@@ -3,7 +3,7 @@ use Prim.Native.Nat.{ℕ, zero, suc, _+_, _-_, _≤_, _<_}
 use mathlib.Core.Path.{_≡_, refl, sym, subst, ap, ap₂, _∙_}
 use mathlib.Core.Logic.{_⊎_, inl, inr}
 use mathlib.Core.Bool.{Bool, true, false, cond, _&&_, true≢false}
-use mathlib.Core.List.{List, [], _∷_, _++_, map, append-assoc, append-nil}
+use mathlib.Core.List.{List, [], _∷_, _++_}
 use native.Mathlib.Decide.{ℕ-discrete}
 use native.Mathlib.Numerals.{add-one}
 use native.Mathlib.Omega.{arith}
@@ -11,20 +11,20 @@ use borrow.Author.Tests.{eq-eqb, ne-eqb}
 use lib.Dec.{T, eqb, leb, lit<}
 use lib.ListN.{length, getD}
 use Rattle.core.specs.Limits.{max-terms}
-use Rattle.core.specs.Lists.{any, range}
+use Rattle.core.specs.Lists.{range}
 use Rattle.core.specs.Memory.Words.{at, put, apart, counted}
 use Rattle.core.proofs.Lists.{In}
 use Rattle.core.proofs.Memory.Counted.{counted-length, counted-at, counted-grown}
 use Rattle.core.proofs.Memory.Searching.{NoneFrom, any-found, any-missing}
 use Rattle.core.proofs.Memory.Stores as Stores
 use Rattle.theory.specs.Types.{EqLeaf, AssertedLeaf, InterfaceLeaf, same-leaf}
-use Rattle.theory.specs.EqEngine.{Merge, firsts-after}
+use Rattle.theory.specs.EqEngine.{Merge}
 use Rattle.theory.specs.declared.types.EqLeaf as Given
 use Rattle.theory.specs.declared.types.TheoryJust as TheoryJust
 use Rattle.core.specs.declared.ids.Lit as Lit
-use Rattle.theory.specs.Memory.Answer.{COUNTS, LEAVES, LEAF-KIND, LEAF-VALUE, answer-room, answer-size, leaves#, leaf-of, leaf-at, leaves, leaf-meaning, has-leaf, with-leaf, LeavesSound, HasRoom, Pushed, Pushable, Cites, Cited, AnswerSound, Cleared}
-use Rattle.theory.proofs.Members.{Apart, apart-length, apart-last, in-either}
-use Rattle.theory.proofs.Explain.{in-seen, label-leaf, cites-in, map-length}
+use Rattle.theory.specs.Memory.Answer.{COUNTS, LEAVES, LEAF-KIND, LEAF-VALUE, answer-room, answer-size, leaves#, leaf-of, leaf-at, leaves, leaf-meaning, has-leaf, LeavesSound, HasRoom, Pushed, Pushable, Cites, Cited, AnswerSound, Cleared}
+use Rattle.theory.proofs.Members.{Apart, apart-last, in-either}
+use Rattle.theory.proofs.Explain.{in-seen, few-leaves}
 
 -- ---- stores
 
@@ -181,63 +181,7 @@ interface-is l j e =
     let n : suc (j .theory) ≡ 1 + j .theory = omega arith in
     ap leaf-meaning e ∙ ap (λ (k : ℕ). leaf-of k (j .tag)) n
 
--- ---- first occurrences
-
-cond-swap : (a b r : Bool) → cond a true (cond b true r) ≡ cond b true (cond a true r)
-cond-swap true true r = refl
-cond-swap true false r = refl
-cond-swap false true r = refl
-cond-swap false false r = refl
-
-any-move : (p : EqLeaf → Bool) (xs : List EqLeaf) (k : EqLeaf) (ys : List EqLeaf) → any p (xs ++ (k ∷ ys)) ≡ any p ((k ∷ xs) ++ ys)
-unfolding any
-any-move p [] k ys = refl
-any-move p (x ∷ xs) k ys = ap (cond (p x) true) (any-move p xs k ys) ∙ cond-swap (p x) (p k) (any p (xs ++ ys))
-
-cons-cond : (k : EqLeaf) (b : Bool) (xs ys : List EqLeaf) → k ∷ cond b xs ys ≡ cond b (k ∷ xs) (k ∷ ys)
-cons-cond k true xs ys = refl
-cons-cond k false xs ys = refl
-
-append-cond : (us : List EqLeaf) (b : Bool) (xs : List EqLeaf) (l : EqLeaf) →
-    cond b (us ++ xs) ((us ++ xs) ++ (l ∷ [])) ≡ us ++ cond b xs (xs ++ (l ∷ []))
-append-cond us true xs l = refl
-append-cond us false xs l = append-assoc us xs (l ∷ [])
-
--- one leaf more is kept where it stands neither among the first occurrences nor among those seen before
-firsts-more : (ls seen : List EqLeaf) (l : EqLeaf) → let us = firsts-after seen ls in
-    firsts-after seen (ls ++ (l ∷ [])) ≡ cond (has-leaf l (seen ++ us)) us (us ++ (l ∷ []))
-unfolding firsts-after
-firsts-more [] seen l = ap (λ (us : List EqLeaf). cond (has-leaf l us) [] (l ∷ [])) (sym (append-nil seen))
-firsts-more (k ∷ ls) seen l =
-    go (has-leaf k seen) (firsts-after seen ls) (firsts-after (k ∷ seen) ls) (firsts-more ls seen l) (firsts-more ls (k ∷ seen) l)
-  where
-    go : (b : Bool) (us vs : List EqLeaf) {xs ys : List EqLeaf} → xs ≡ cond (has-leaf l (seen ++ us)) us (us ++ (l ∷ [])) →
-        ys ≡ cond (has-leaf l ((k ∷ seen) ++ vs)) vs (vs ++ (l ∷ [])) →
-        let ws = cond b us (k ∷ vs) in cond b xs (k ∷ ys) ≡ cond (has-leaf l (seen ++ ws)) ws (ws ++ (l ∷ []))
-    go true us vs e f = e
-    go false us vs e f =
-        ap (λ (ws : List EqLeaf). k ∷ ws) f
-        ∙ cons-cond k (has-leaf l ((k ∷ seen) ++ vs)) vs (vs ++ (l ∷ []))
-        ∙ ap (λ (b : Bool). cond b (k ∷ vs) (k ∷ vs ++ (l ∷ []))) (sym (any-move (same-leaf l) seen k vs))
-
-pub pushed-firsts : {us vs : List EqLeaf} (seen ls : List EqLeaf) (l : EqLeaf) → us ≡ seen ++ firsts-after seen ls → vs ≡ with-leaf l us →
-    vs ≡ seen ++ firsts-after seen (ls ++ (l ∷ []))
-pushed-firsts seen ls l e q =
-    q ∙ ap (with-leaf l) e
-    ∙ append-cond seen (has-leaf l (seen ++ firsts-after seen ls)) (firsts-after seen ls) l
-    ∙ ap (λ (ws : List EqLeaf). seen ++ ws) (sym (firsts-more ls seen l))
-
 -- ---- there is room, and the table stays sound
-
--- different leaves that are one other or label merges
-few : (ms : List Merge) (other : EqLeaf) (ls : List EqLeaf) → Apart ls → Cited ms other ls → length ls ≤ suc (length ms)
-few ms other ls a f =
-    let h = apart-length ls (other ∷ map (λ (m : Merge). label-leaf (m .just)) ms) a (λ l i. go l (f l i)) in
-    omega (arith, map-length ms)
-  where
-    go : (l : EqLeaf) → (l ≡ other) ⊎ Cites ms l → In l (other ∷ map (λ (m : Merge). label-leaf (m .just)) ms)
-    go l (inl e) = inl e
-    go l (inr c) = inr (cites-in ms l c)
 
 pub push-room : (ms : List Merge) (o : List ℕ) (l : EqLeaf) → AnswerSound ms o → length ms < max-terms → Cites ms l → HasRoom o l
 push-room ms o l z h c = go (has-leaf l (leaves o)) refl
@@ -249,7 +193,7 @@ push-room ms o l z h c = go (has-leaf l (leaves o)) refl
     go : (b : Bool) → has-leaf l (leaves o) ≡ b → HasRoom o l
     go true e = inl e
     go false e =
-        let g = few ms (z .other) (l ∷ leaves o) (λ i. subst T e (in-seen l (leaves o) i), z .apart) more in
+        let g = few-leaves ms (z .other) (l ∷ leaves o) (λ i. subst T e (in-seen l (leaves o) i), z .apart) more in
         inr (omega arith)
 
 -- a leaf pushed that labels a merge, or is the other one

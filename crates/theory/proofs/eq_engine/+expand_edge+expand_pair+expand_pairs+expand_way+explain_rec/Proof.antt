@@ -128,7 +128,7 @@ pub +expand-edge+expand-pair+expand-pairs+expand-way+explain-rec-spec : {M : Typ
     let at-get = at-get2 .before in
     let p = at-get .before .before .before .before .pre .1 in
     let w = edge-literal (p .0) (p .1) (at-get .get-at .ensures .0) (at-get2 .get-at2 .ensures .0) (at-push .before .before .if1 .taken) in
-    w .goes _ (at-push .push-leaf .ensures))
+    w .goes (at-push .push-leaf .ensures))
     (λ c. c .before .before .before .before .expand-pairs .kept .1 .1 .1 .0)
     (λ c. c .before .before .before .before .expand-pairs .kept .1 .1 .1 .1 .0)
     (λ c.
@@ -140,7 +140,7 @@ pub +expand-edge+expand-pair+expand-pairs+expand-way+explain-rec-spec : {M : Typ
     let p = at-get .before .before .before .before .pre .1 in
     let w = edge-congruence (p .0) (p .1) (at-get .get-at .ensures .0) (at-get2 .get-at2 .ensures .0) (at-get3 .get-at3 .ensures .0)
     (at-if2 .if2 .taken) in
-    w .goes _ _ _ _ (at-pairs .expand-pairs .ensures))
+    w .goes (at-pairs .expand-pairs .ensures))
     (λ c. c .before .before .push-leaf2 .kept .0)
     (λ c.
     let at-push = c .before .before in
@@ -150,7 +150,7 @@ pub +expand-edge+expand-pair+expand-pairs+expand-way+explain-rec-spec : {M : Typ
     let p = at-get .before .before .before .before .pre .1 in
     let w = edge-interface (p .0) (p .1) (at-get .get-at .ensures .0) (at-get2 .get-at2 .ensures .0) (at-if2 .before .if1 .left)
     (at-if2 .if2 .left) in
-    w .goes _ (at-push .push-leaf2 .ensures)))
+    w .goes (at-push .push-leaf2 .ensures)))
     (λ t. expand-pair-lts.spec (get.Asked, get.Learnt, get-at.Asked, get-at.Learnt, explain-rec-below t, explain-rec.Post)
     _ expand-pair.Post
     (λ c κs. let p = c .before .before .before .before .pre .1 in omega (arith, pair-few (p .0 .engine) (p .1)))
