@@ -7,6 +7,7 @@ use mathlib.Core.List.{List, [], _∷_, _++_, map}
 use mathlib.Core.Option.{Option, none, some}
 use lib.Dec.{eqb, leb}
 use lib.ListN.{length, getD, take}
+use Rattle.core.specs.Limits.{max-sorts, max-symbols, max-terms, max-places}
 use Rattle.core.specs.Lists.{keep, every, any, place-from, range, total}
 use Rattle.core.specs.Sort.{SortNode, BoolSort, Datatype, Uninterpreted, is-datatype}
 use Rattle.core.specs.Term as Term
@@ -136,13 +137,13 @@ mk-eq cx a b = mk-app cx Eq (a ∷ b ∷ [])
 unfoldable pub places : Context → ℕ
 places cx = total (map (λ (t : Term). length (t .args)) (cx .terms))
 
--- Question 11 for terms: 1,024 terms, 4,096 argument places of terms
+-- Question 11 for terms
 unfoldable pub terms-fit : Context → Bool
-terms-fit cx = leb (length (cx .terms)) 1024 && leb (places cx) 4096
+terms-fit cx = leb (length (cx .terms)) max-terms && leb (places cx) max-places
 
--- Question 11 for declarations: 64 sorts with Bool, 512 symbols
+-- Question 11 for declarations
 unfoldable pub declarations-fit : Context → Bool
-declarations-fit cx = leb (length (cx .sorts)) 64 && leb (length (cx .symbols)) 512
+declarations-fit cx = leb (length (cx .sorts)) max-sorts && leb (length (cx .symbols)) max-symbols
 
 -- the first n terms: a refused line gives back the terms that it made
 unfoldable pub cut-terms : ℕ → Context → Context

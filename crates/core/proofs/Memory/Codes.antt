@@ -1,11 +1,12 @@
--- Laws of the numbers that stand for operations and roles.
-use Prim.Native.Nat.{ℕ, zero, suc, _+_, _-_, _≤_, _<_}
-use mathlib.Core.Path.{_≡_, refl, sym, ap, _∙_, subst}
-use mathlib.Core.List.{List}
+-- Laws of the numbers that stand for operations and roles, and of sorts packed four to a word.
+use Prim.Native.Nat.{ℕ, zero, suc, _+_, _-_, _*_, _/_, _%_, _≤_, _<_}
+use mathlib.Core.Path.{_≡_, refl, sym, ap, ap₂, _∙_, subst}
+use mathlib.Core.List.{List, [], _∷_}
 use native.Mathlib.Omega.{arith}
-use lib.ListN.{length}
+use lib.ListN.{length, getD}
 use Rattle.core.specs.Term.{Role, Constructor, Tester, Selector, Function, Eq, Uninterpreted}
-use Rattle.core.specs.Memory.Table.{op-of, role-of, member-role, context}
+use Rattle.core.specs.Limits.{max-sorts, max-params}
+use Rattle.core.specs.Memory.Table.{digit, packed, packed-words, op-of, role-of, member-role, context, AllBelow}
 use Rattle.core.specs.Context.{symbol, sort-of, result-of}
 use Rattle.core.specs.declared.ids.SymbolId.{SymbolId}
 use Rattle.core.specs.Memory.Codes.{op-meaning, OpBelow, RoleBelow, OpAt}
@@ -52,6 +53,20 @@ unfolding role-of
 role-of-selector s zero n l a b = absurd (n refl)
 role-of-selector s (suc c) n l a b = selector-at s c (suc c - 1) (omega arith) l a b
 
+-- the symbols of a constructor c: itself, its tester, its selectors
+pub ctor-role : (c : ℕ) → role-of c (c + 1) ≡ Constructor
+ctor-role c = sym (role-of-ctor c (c + 1) (omega arith) (omega arith))
+
+pub tester-role : (c : ℕ) → role-of (c + 1) (c + 1) ≡ Tester c
+tester-role c =
+    let p : c + 1 - 1 ≡ c = omega arith in sym (role-of-tester (c + 1) (c + 1) (omega arith) (omega arith)) ∙ ap Tester p
+
+pub selector-role : (c i : ℕ) → role-of (c + 2 + i) (c + 1) ≡ Selector c i
+selector-role c i =
+    let p : c + 1 - 1 ≡ c = omega arith in
+    let q : c + 2 + i - (c + 1 - 1) - 2 ≡ i = omega arith in
+    sym (role-of-selector (c + 2 + i) (c + 1) (omega arith) (omega arith) (omega arith) (omega arith)) ∙ ap₂ Selector p q
+
 -- a declared symbol stays below a larger bound
 pub op-below : (m n : ℕ) (r : Op.Op) → m ≤ n → OpBelow m r → OpBelow n r
 unfolding OpBelow
@@ -78,3 +93,43 @@ eq-sort t x r o e = ap (result-of (context t)) (sym (ap op-meaning e) ∙ o .is)
 pub symbol-sort : (t : List ℕ) (x : ℕ) (r : Op.Op) (f : SymbolId) (q : ℕ) → OpAt t x r → r ≡ Op.the-variants.Uninterpreted f → q ≡ symbol (context t) (f .0) .result → q ≡ sort-of (context t) x
 unfolding sort-of result-of op-meaning
 symbol-sort t x r f q o e p = p ∙ ap (result-of (context t)) (sym (ap op-meaning e) ∙ o .is)
+
+-- ---- four sorts in a word
+
+-- past its end a list gives 0
+pub each-below : (xs : List ℕ) (n : ℕ) → 0 < n → AllBelow n xs → (i : ℕ) → getD xs i 0 < n
+each-below [] n p a i = p
+each-below (x ∷ xs) n p a zero = a 0 (omega arith)
+each-below (x ∷ xs) n p a (suc i) = each-below xs n p (λ j l. a (suc j) (omega arith)) i
+
+module _ (xs : List ℕ) (a : AllBelow max-sorts xs) where
+  digit-of : (q d : ℕ) → d < 4 → digit (packed xs q) d ≡ getD xs (4 * q + d) 0
+  unfolding digit packed
+  digit-of q d h =
+      let e = each-below xs max-sorts (omega arith) a in
+      let p₀ = e (4 * q) in
+      let p₁ = e (4 * q + 1) in
+      let p₂ = e (4 * q + 2) in
+      let p₃ = e (4 * q + 3) in
+      go d h p₀ p₁ p₂ p₃
+    where
+      go : (d : ℕ) → d < 4 → getD xs (4 * q) 0 < 64 → getD xs (4 * q + 1) 0 < 64 → getD xs (4 * q + 2) 0 < 64 → getD xs (4 * q + 3) 0 < 64 → digit (packed xs q) d ≡ getD xs (4 * q + d) 0
+      go zero h p₀ p₁ p₂ p₃ = let z : 4 * q + 0 ≡ 4 * q = omega arith in rw z (omega arith)
+      go (suc zero) h p₀ p₁ p₂ p₃ = omega arith
+      go (suc (suc zero)) h p₀ p₁ p₂ p₃ = omega arith
+      go (suc (suc (suc zero))) h p₀ p₁ p₂ p₃ = omega arith
+      go (suc (suc (suc (suc d)))) h p₀ p₁ p₂ p₃ = absurd (omega arith)
+
+  word-of : (q : ℕ) → q < 4 → getD (packed-words xs) q 0 ≡ packed xs q
+  unfolding packed-words
+  word-of zero h = refl
+  word-of (suc zero) h = refl
+  word-of (suc (suc zero)) h = refl
+  word-of (suc (suc (suc zero))) h = refl
+  word-of (suc (suc (suc (suc q)))) h = absurd (omega arith)
+
+  -- number i of a list, out of the words that hold it
+  pub digit-packed : (i : ℕ) → i < max-params → digit (getD (packed-words xs) (i / 4) 0) (i % 4) ≡ getD xs i 0
+  digit-packed i h =
+      let e : 4 * (i / 4) + i % 4 ≡ i = omega arith in
+      ap (λ (w : ℕ). digit w (i % 4)) (word-of (i / 4) (omega arith)) ∙ digit-of (i / 4) (i % 4) (omega arith) ∙ ap (λ (j : ℕ). getD xs j 0) e

@@ -1,10 +1,14 @@
-use Rattle.core.proofs.Lists.{set-after}
+-- Straight.
 use borrow.Author.Needs.{needs}
 use Rattle.core.proofs.context.clear_counts.Statement.{statement}
 use Rattle.core.proofs.context.clear_counts.Tie as tie
 
 returns : tie.Need-returns
-returns c = set-after _ _ _ _ _ (c .before .before .put3 .ensures) (set-after _ _ _ _ _ (c .before .before .before .before .before .before .put2 .ensures) (c .before .before .before .before .before .before .before .before .before .before .put .ensures))
+returns c =
+    let third = c .before .before in
+    let second = third .before .before .before .before in
+    let first = second .before .before .before .before in
+    rw (third .put-at3 .ensures, second .put-at2 .ensures, first .put-at .ensures)
 
 pub clear-counts-spec : {M : Type 1} → statement M
 clear-counts-spec =
