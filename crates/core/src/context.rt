@@ -17,8 +17,8 @@ ghost use Prim.Native.Nat.{_+_, _<_, _≤_};
 ghost use lib.ListN.{length, getD};
 ghost use Rattle.core.specs.Limits.{max-sorts, max-symbols, max-terms, max-places, max-params};
 ghost use Rattle.core.specs.Context.{empty-context, cut-terms, declare-sort, declare-fun, selectors-from, dt-add-constructor, builds, dt-tester, has-plain-fields, grounded, all-grounded, places, is-datatype-sort, symbol, children, sort-of};
-ghost use Rattle.core.specs.Memory.Words.{put, put-all, stretch};
-ghost use Rattle.core.specs.Memory.Table.{table-words, COUNTS, SORTS, SYMBOLS, TERMS, POOL, sorts#, symbols#, terms#, digit, packed, param-at, node-of, op-of, term-at, context, AllBelow, ContextSound, HasParam, HasParamWord, FindsApp, MayIntern, MayApply, MayEquate, TermWords, sealed, Appendable, Appended, MayDeclare, SymbolWords, sealed-symbol, SymbolRoom, SymbolAdded, SelectorRoom, SymbolsAdded, NextConstructor};
+ghost use Rattle.core.specs.Memory.Words.{put-all, stretch};
+ghost use Rattle.core.specs.Memory.Table.{table-words, POOL, sorts#, symbols#, terms#, digit, packed, param-at, node-of, op-of, term-at, context, AllBelow, ContextSound, HasParam, HasParamWord, FindsApp, MayIntern, MayApply, MayEquate, Appendable, Appended, MayDeclare, SymbolRoom, SymbolAdded, SelectorRoom, SymbolsAdded, NextConstructor};
 ghost use Rattle.core.specs.Lists.{same-list};
 ghost use Rattle.core.specs.Term.{same-term};
 ghost use Rattle.core.specs.Memory.Codes.{OpAt, RoleAt, MkApp, Declares, declared-node};
@@ -69,22 +69,14 @@ const POOL: usize = 3840;
 
 // ---- an empty table
 
-// No symbol, no term, and of the sorts Bool.
-fn clear_counts(t: &mut [u32])
-    requires { ⌜ table-words ≤ length (now t) ⌝ }
-    ensures { λ _. ⌜ now (t .exit) ≡ put (put (put (now (t .entry)) COUNTS SORTS 1) COUNTS SYMBOLS 0) COUNTS TERMS 0 ⌝ }
-{
-    put_at(t, COUNTS, SORTS, 1);
-    put_at(t, COUNTS, SYMBOLS, 0);
-    put_at(t, COUNTS, TERMS, 0);
-}
-
 // Whatever the table held, it is now that of an empty session.
 pub fn clear(t: &mut [u32])
     requires { ⌜ table-words ≤ length (now t) ⌝ }
     ensures { λ _. ⌜ ContextSound (now (t .exit)) × (context (now (t .exit)) ≡ empty-context) ⌝ }
 {
-    clear_counts(t);
+    put_at(t, COUNTS, SORTS, 1);
+    put_at(t, COUNTS, SYMBOLS, 0);
+    put_at(t, COUNTS, TERMS, 0);
     put_at(t, SORT, 0, 0);
     put_at(t, OFFSET, 0, 0);
 }
@@ -273,23 +265,15 @@ fn copy_words(t: &mut [u32], base: usize, at: usize, words: &[u32])
     }
 }
 
-// The rest of a term: its operation, where the next arguments begin, the count.
-fn seal_term(t: &mut [u32], n: usize, code: usize, end: usize)
-    requires { ⌜ TermWords (now t) n code end ⌝ }
-    ensures { λ _. ⌜ now (t .exit) ≡ sealed (now (t .entry)) n code end ⌝ }
-{
-    put_at(t, OP, n, code);
-    put_at(t, OFFSET, n + 1, end);
-    put_at(t, COUNTS, TERMS, n + 1);
-}
-
 // One more term, the n-th, whose arguments go to a place of the pool.
 fn append_term(t: &mut [u32], n: usize, start: usize, code: usize, args: &[u32])
     requires { ⌜ Appendable (now t) n start code (now args) ⌝ }
     ensures { λ _. ⌜ Appended (now (t .entry)) code (now (args .entry)) (now (t .exit)) ⌝ }
 {
     copy_words(t, POOL, start, args);
-    seal_term(t, n, code, start + args.len());
+    put_at(t, OP, n, code);
+    put_at(t, OFFSET, n + 1, start + args.len());
+    put_at(t, COUNTS, TERMS, n + 1);
 }
 
 // The term of a code over the given arguments: the old one, or a new one if there is room.
@@ -374,18 +358,10 @@ fn pack(sorts: &[u32], q: usize) -> u32
     ensures { λ r. ⌜ r ≡ packed (now (sorts .entry)) q ⌝ }
 {
     let i = 4 * q;
-    sort_or_0(sorts, i) + 64 * sort_or_0(sorts, i + 1) + 4096 * sort_or_0(sorts, i + 2) + 262144 * sort_or_0(sorts, i + 3)
-}
-
-// The owner, the result and the arity of symbol n, and the count.
-fn seal_symbol(t: &mut [u32], n: usize, owner: usize, result: usize, arity: usize)
-    requires { ⌜ SymbolWords (now t) n owner result arity ⌝ }
-    ensures { λ _. ⌜ now (t .exit) ≡ sealed-symbol (now (t .entry)) n owner result arity ⌝ }
-{
-    put_at(t, OWNER, n, owner);
-    put_at(t, RESULT, n, result);
-    put_at(t, ARITY, n, arity);
-    put_at(t, COUNTS, SYMBOLS, n + 1);
+    sort_or_0(sorts, i)
+        + 64 * sort_or_0(sorts, i + 1)
+        + 4096 * sort_or_0(sorts, i + 2)
+        + 262144 * sort_or_0(sorts, i + 3)
 }
 
 // One more symbol, the n-th.
@@ -393,9 +369,17 @@ fn add_symbol(t: &mut [u32], n: usize, owner: usize, result: usize, params: &[u3
     requires { ⌜ SymbolRoom (now t) n owner result (now params) ⌝ }
     ensures { λ _. ⌜ SymbolAdded (now (t .entry)) n owner result (now (params .entry)) (now (t .exit)) ⌝ }
 {
-    let words = [pack(params, 0), pack(params, 1), pack(params, 2), pack(params, 3)];
+    let words = [
+        pack(params, 0),
+        pack(params, 1),
+        pack(params, 2),
+        pack(params, 3),
+    ];
     copy_words(t, PARAMS, 4 * n, &words);
-    seal_symbol(t, n, owner, result, params.len());
+    put_at(t, OWNER, n, owner);
+    put_at(t, RESULT, n, result);
+    put_at(t, ARITY, n, params.len());
+    put_at(t, COUNTS, SYMBOLS, n + 1);
 }
 
 pub fn declare_fun(t: &mut [u32], result: SortId, params: &[u32]) -> Declared

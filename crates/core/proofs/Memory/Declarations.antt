@@ -14,7 +14,7 @@ use Rattle.core.specs.Sort.{SortNode, BoolSort}
 use Rattle.core.specs.Term.{Role, Constructor, Tester, Selector, Function, Symbol, Term}
 use Rattle.core.specs.Context.{Context, empty-context, with-symbols, declare-sort, declare-fun, selectors-from, constructor-symbols, dt-add-constructor, cut-terms, declarations-fit}
 use Rattle.core.specs.Memory.Words.{at, put, put-all, Kept, counted}
-use Rattle.core.specs.Memory.Table.{table-words, COUNTS, SORTS, SYMBOLS, TERMS, SORT, OWNER, RESULT, ARITY, PARAMS, OFFSET, core-room, sorts#, symbols#, terms#, digit, packed, packed-words, node-of, role-of, sort-at, param-at, symbol-at, term-at, context, AllBelow, SymbolSound, ContextSound, MayDeclare, sealed-symbol, SymbolRoom, SymbolAdded, SelectorRoom, SymbolsAdded}
+use Rattle.core.specs.Memory.Table.{table-words, COUNTS, SORTS, SYMBOLS, TERMS, SORT, OWNER, RESULT, ARITY, PARAMS, OFFSET, core-room, sorts#, symbols#, terms#, digit, packed, packed-words, node-of, role-of, sort-at, param-at, symbol-at, term-at, context, AllBelow, SymbolSound, ContextSound, MayDeclare, SymbolRoom, SymbolAdded, SelectorRoom, SymbolsAdded}
 use Rattle.core.specs.Memory.Codes.{Declares}
 use Rattle.core.specs.declared.context.Declared as Declared
 use Rattle.core.proofs.Lists.{and-no}
@@ -23,7 +23,7 @@ use Rattle.core.proofs.Memory.Counted.{counted-same, counted-cut, count
 use Rattle.core.proofs.Memory.Regions.{stores}
 use Rattle.core.proofs.Memory.Codes.{digit-packed, ctor-role, tester-role, selector-role}
 use Rattle.core.proofs.Memory.Views.{sorts-length, symbols-length, terms-length, offset-mono}
-use Rattle.core.proofs.Memory.Keeping.{SortsKept, SymbolsKept, TermsKept, Continues, continued, symbol-kept, term-kept, sorts-view, symbols-view, terms-view, sorts-apart, symbols-apart, terms-apart}
+use Rattle.core.proofs.Memory.Keeping.{SymbolsKept, Grows, continued, continued-old, symbol-kept, term-kept, sorts-view, symbols-view, terms-view, sorts-apart, symbols-apart, terms-apart}
 
 -- ---- an empty table
 
@@ -34,9 +34,6 @@ record Cleared (u : List ℕ) : Type 0 where
   terms : terms# u ≡ 0
   bool : at u SORT 0 ≡ 0
   start : at u OFFSET 0 ≡ 0
-
-cleared-words : (t t₁ t₂ u : List ℕ) → table-words ≤ length t → t₁ ≡ put (put (put t COUNTS SORTS 1) COUNTS SYMBOLS 0) COUNTS TERMS 0 → t₂ ≡ put t₁ SORT 0 0 → u ≡ put t₂ OFFSET 0 0 → Cleared u
-cleared-words t t₁ t₂ u l e₁ e₂ e₃ = search (e₃, e₂, e₁, stores) depth 9
 
 cleared-sound : (u : List ℕ) → Cleared u → ContextSound u
 cleared-sound u c = record {
@@ -63,8 +60,9 @@ cleared-view u c =
     let terms : counted (term-at u) (terms# u) ≡ [] = ap (counted (term-at u)) (c .terms) in
     λ i. record { sorts = sorts i; symbols = symbols i; terms = terms i }
 
-pub cleared : (t t₁ t₂ u : List ℕ) → table-words ≤ length t → t₁ ≡ put (put (put t COUNTS SORTS 1) COUNTS SYMBOLS 0) COUNTS TERMS 0 → t₂ ≡ put t₁ SORT 0 0 → u ≡ put t₂ OFFSET 0 0 → ContextSound u × (context u ≡ empty-context)
-cleared t t₁ t₂ u l e₁ e₂ e₃ = let c = cleared-words t t₁ t₂ u l e₁ e₂ e₃ in (cleared-sound u c, cleared-view u c)
+pub cleared : (t : List ℕ) {t₁ t₂ t₃ t₄ u : List ℕ} → table-words ≤ length t → t₁ ≡ put t COUNTS SORTS 1 → t₂ ≡ put t₁ COUNTS SYMBOLS 0 →
+    t₃ ≡ put t₂ COUNTS TERMS 0 → t₄ ≡ put t₃ SORT 0 0 → u ≡ put t₄ OFFSET 0 0 → ContextSound u × (context u ≡ empty-context)
+cleared t {u} l e₁ e₂ e₃ e₄ e₅ = let c : Cleared u = search (e₅, e₄, e₃, e₂, e₁, stores) depth 9 in (cleared-sound u c, cleared-view u c)
 
 -- ---- fewer terms
 
@@ -73,6 +71,7 @@ unfolding cut-terms context
 truncated t n u z h e =
     let l : table-words ≤ length t = z .long in
     let k : Kept core-room (COUNTS ∷ []) t u = rw e (search stores) in
+    let long : table-words ≤ length u = search (e, stores) in
     let s : sorts# u ≡ sorts# t = search (e, stores) in
     let y : symbols# u ≡ symbols# t = search (e, stores) in
     let c : terms# u ≡ n = search (e, stores) in
@@ -80,27 +79,13 @@ truncated t n u z h e =
     let ys = symbols-apart t u z (COUNTS ∷ []) k tt tt tt tt in
     let top = offset-mono t z n (terms# t) h (omega arith) in
     let b = ts .offset n (omega arith) in
-    let g : Continues t u n = record {
-      long = search (e, stores);
-      more-sorts = omega arith;
-      sorts-fit = omega arith;
-      more-symbols = omega arith;
-      symbols-fit = omega arith;
-      symbols = ys;
-      new-symbols = λ i m f. absurd (omega arith);
-      within = h;
-      terms-fit = omega arith;
-      places-fit = rw c (omega arith);
-      terms = ts;
-      new-terms = λ i m f. absurd (omega arith);
-    } in
     let sorts = sorts-view t u z s (sorts-apart t u z (COUNTS ∷ []) k tt) in
     let symbols = symbols-view t u z y ys in
     let terms : counted (term-at u) (terms# u) ≡ take n (counted (term-at t) (terms# t)) =
     ap (counted (term-at u)) c
     ∙ counted-same (term-at u) (term-at t) n (λ i f. term-kept t u z n i h ts f)
     ∙ sym (counted-cut (term-at t) (terms# t) n h) in
-    (continued t u z n g, λ i. record { sorts = sorts i; symbols = symbols i; terms = terms i })
+    (continued-old t u z n n (omega arith) ys ts y refl, λ i. record { sorts = sorts i; symbols = symbols i; terms = terms i })
 
 -- ---- whether declarations fit
 
@@ -151,6 +136,7 @@ sort-declared t n v node t₁ u z e q p e₁ e₂ =
     let f = z .sorts-fit in
     let r : n < max-sorts = omega arith in
     let k : Kept core-room (COUNTS ∷ SORT ∷ []) t u = rw (e₂, e₁) (search stores depth 9) in
+    let long : table-words ≤ length u = search (e₂, e₁, stores) in
     let s : sorts# u ≡ n + 1 = search (e₂, e₁, stores) in
     let y : symbols# u ≡ symbols# t = search (e₂, e₁, stores) in
     let m : terms# u ≡ terms# t = search (e₂, e₁, stores) in
@@ -158,27 +144,13 @@ sort-declared t n v node t₁ u z e q p e₁ e₂ =
     let ts = terms-apart t u z (COUNTS ∷ SORT ∷ []) k (terms# t) (omega arith) tt tt tt in
     let ys = symbols-apart t u z (COUNTS ∷ SORT ∷ []) k tt tt tt tt in
     let b = ts .offset (terms# t) (omega arith) in
-    let g : Continues t u (terms# t) = record {
-      long = search (e₂, e₁, stores);
-      more-sorts = omega arith;
-      sorts-fit = omega arith;
-      more-symbols = omega arith;
-      symbols-fit = omega arith;
-      symbols = ys;
-      new-symbols = λ i h j. absurd (omega arith);
-      within = omega arith;
-      terms-fit = omega arith;
-      places-fit = rw m (omega arith);
-      terms = ts;
-      new-terms = λ i h j. absurd (omega arith);
-    } in
     let sorts : counted (sort-at u) (sorts# u) ≡ counted (sort-at t) (sorts# t) ++ (node ∷ []) =
     counted-grown (sort-at t) (sort-at u) (sorts# t) (sorts# u) node (omega arith)
     (λ i h. let j : i < n = omega arith in let o : i < max-sorts = omega arith in ap node-of (search (e₂, e₁, stores)))
     (ap (λ (x : ℕ). node-of (at u SORT x)) (sym e) ∙ ap node-of w ∙ p) in
     let symbols = symbols-view t u z y ys in
     let terms = terms-view t u z m ts in
-    accepted t (declare-sort (context t) node) u (continued t u z (terms# t) g)
+    accepted t (declare-sort (context t) node) u (continued-old t u z (terms# t) (terms# t) (omega arith) ys ts y refl)
     (λ i. record { sorts = sorts i; symbols = symbols i; terms = terms i })
 
 -- ---- one more symbol
@@ -196,27 +168,29 @@ record SymbolWritten (t : List ℕ) (n owner result : ℕ) (params u : List ℕ)
   symbols : SymbolsKept t u n
   kept : Kept core-room (COUNTS ∷ OWNER ∷ RESULT ∷ ARITY ∷ PARAMS ∷ []) t u
 
-symbol-written : (t : List ℕ) (n owner result : ℕ) (params t₁ u : List ℕ) → table-words ≤ length t → n < max-symbols → t₁ ≡ put-all t PARAMS (4 * n) (packed-words params) → u ≡ sealed-symbol t₁ n owner result (length params) → SymbolWritten t n owner result params u
-unfolding packed-words
-symbol-written t n owner result params t₁ u l r e₁ e₂ =
-    let p : 4 * n + 4 ≤ 2048 = omega arith in
-    record {
-      long = search (e₂, e₁, stores) depth 9;
-      sorts = search (e₂, e₁, stores) depth 9;
-      count = search (e₂, e₁, stores) depth 9;
-      terms = search (e₂, e₁, stores) depth 9;
-      owned = search (e₂, e₁, stores) depth 9;
-      results = search (e₂, e₁, stores) depth 9;
-      arity = search (e₂, e₁, stores) depth 9;
-      packs = λ q h. let g : 4 * n + q < 2048 = omega arith in search (e₂, e₁, stores) depth 9;
-      symbols = record {
-        owner = λ s h. let g : s < max-symbols = omega arith in search (e₂, e₁, stores) depth 9;
-        result = λ s h. let g : s < max-symbols = omega arith in search (e₂, e₁, stores) depth 9;
-        arity = λ s h. let g : s < max-symbols = omega arith in search (e₂, e₁, stores) depth 9;
-        params = λ x h. let g : x < 2048 = omega arith in search (e₂, e₁, stores) depth 9;
-      };
-      kept = rw (e₂, e₁) (search stores depth 9);
-    }
+module _ (t : List ℕ) (n owner result : ℕ) (params t₁ t₂ t₃ t₄ u : List ℕ) (l : table-words ≤ length t) (r : n < max-symbols) where
+  symbol-written : t₁ ≡ put-all t PARAMS (4 * n) (packed-words params) → t₂ ≡ put t₁ OWNER n owner → t₃ ≡ put t₂ RESULT n result →
+      t₄ ≡ put t₃ ARITY n (length params) → u ≡ put t₄ COUNTS SYMBOLS (n + 1) → SymbolWritten t n owner result params u
+  unfolding packed-words
+  symbol-written e₁ e₂ e₃ e₄ e₅ =
+      let p : 4 * n + 4 ≤ 2048 = omega arith in
+      record {
+        long = search (e₅, e₄, e₃, e₂, e₁, stores) depth 9;
+        sorts = search (e₅, e₄, e₃, e₂, e₁, stores) depth 9;
+        count = search (e₅, e₄, e₃, e₂, e₁, stores) depth 9;
+        terms = search (e₅, e₄, e₃, e₂, e₁, stores) depth 9;
+        owned = search (e₅, e₄, e₃, e₂, e₁, stores) depth 9;
+        results = search (e₅, e₄, e₃, e₂, e₁, stores) depth 9;
+        arity = search (e₅, e₄, e₃, e₂, e₁, stores) depth 9;
+        packs = λ q h. let g : 4 * n + q < 2048 = omega arith in search (e₅, e₄, e₃, e₂, e₁, stores) depth 9;
+        symbols = record {
+          owner = λ s h. let g : s < max-symbols = omega arith in search (e₅, e₄, e₃, e₂, e₁, stores) depth 9;
+          result = λ s h. let g : s < max-symbols = omega arith in search (e₅, e₄, e₃, e₂, e₁, stores) depth 9;
+          arity = λ s h. let g : s < max-symbols = omega arith in search (e₅, e₄, e₃, e₂, e₁, stores) depth 9;
+          params = λ x h. let g : x < 2048 = omega arith in search (e₅, e₄, e₃, e₂, e₁, stores) depth 9;
+        };
+        kept = rw (e₅, e₄, e₃, e₂, e₁) (search stores depth 9);
+      }
 
 module _ (t : List ℕ) (n owner result : ℕ) (params u : List ℕ) (a : SymbolRoom t n owner result params) (w : SymbolWritten t n owner result params u) where
   written-param : (j : ℕ) → j < length params → param-at u n j ≡ getD params j 0
@@ -233,14 +207,10 @@ module _ (t : List ℕ) (n owner result : ℕ) (params u : List ℕ) (a : Symbol
 
   new-symbol-sound : SymbolSound u n
   new-symbol-sound =
-      let s = w .sorts in
-      let o = w .owned in
-      let r = w .results in
-      let m = w .arity in
       record {
-        owner = let h = a .owned in omega arith;
-        result = let h = a .declared in omega arith;
-        arity = let h = a .few in omega arith;
+        owner = omega arith;
+        result = omega arith;
+        arity = omega arith;
         param = λ j h. let p = written-param j (omega arith) in let q = a .sorts j (omega arith) in omega arith;
       }
 
@@ -248,42 +218,31 @@ module _ (t : List ℕ) (n owner result : ℕ) (params u : List ℕ) (a : Symbol
   unfolding context with-symbols
   symbol-added =
       let z = a .sound in
-      let f = a .next in
-      let s = w .sorts in
-      let c = w .count in
-      let m = w .terms in
-      let ws = COUNTS ∷ OWNER ∷ RESULT ∷ ARITY ∷ PARAMS ∷ [] in
-      let ts = terms-apart t u z ws (w .kept) (terms# t) (omega arith) tt tt tt in
-      let ys : SymbolsKept t u (symbols# t) = rw (← f) (w .symbols) in
+      let written = COUNTS ∷ OWNER ∷ RESULT ∷ ARITY ∷ PARAMS ∷ [] in
+      let ts = terms-apart t u z written (w .kept) (terms# t) (omega arith) tt tt tt in
+      let ys : SymbolsKept t u (symbols# t) = rw (← a .next) (w .symbols) in
       let b = ts .offset (terms# t) (omega arith) in
-      let g : Continues t u (terms# t) = record {
-        long = w .long;
-        more-sorts = omega arith;
-        sorts-fit = omega arith;
-        more-symbols = omega arith;
-        symbols-fit = let h = a .room in omega arith;
-        symbols = ys;
-        new-symbols = λ i h j. let e : i ≡ n = omega arith in rw e new-symbol-sound;
-        within = omega arith;
-        terms-fit = omega arith;
-        places-fit = rw m (omega arith);
-        terms = ts;
-        new-terms = λ i h j. absurd (omega arith);
-      } in
-      let sorts = sorts-view t u z s (sorts-apart t u z ws (w .kept) tt) in
-      let symbols : counted (symbol-at u) (symbols# u) ≡ counted (symbol-at t) (symbols# t) ++ (record { role = role-of n owner; params = params; result = result } ∷ []) =
-      counted-grown (symbol-at t) (symbol-at u) (symbols# t) (symbols# u) (record { role = role-of n owner; params = params; result = result }) (omega arith)
-      (λ i h. symbol-kept t u z (symbols# t) i (omega arith) ys h) (ap (symbol-at u) (sym f) ∙ new-symbol) in
-      let terms = terms-view t u z m ts in
-      record { sound = continued t u z (terms# t) g; view = λ i. record { sorts = sorts i; symbols = symbols i; terms = terms i } }
+      let new : Symbol = record { role = role-of n owner; params = params; result = result } in
+      let sorts = sorts-view t u z (w .sorts) (sorts-apart t u z written (w .kept) tt) in
+      let symbols : counted (symbol-at u) (symbols# u) ≡ counted (symbol-at t) (symbols# t) ++ (new ∷ []) =
+      counted-grown (symbol-at t) (symbol-at u) (symbols# t) (symbols# u) new (omega arith)
+      (λ i h. symbol-kept t u z (symbols# t) i (omega arith) ys h) (ap (symbol-at u) (sym (a .next)) ∙ new-symbol) in
+      let terms = terms-view t u z (w .terms) ts in
+      record {
+        sound =
+            continued t u z (terms# t) (terms# t) (omega arith) ys ts (λ i h j. let e : i ≡ n = omega arith in rw e new-symbol-sound)
+            (λ i h j. absurd (omega arith));
+        view = λ i. record { sorts = sorts i; symbols = symbols i; terms = terms i };
+      }
 
-pub add-symbol : {t : List ℕ} {n owner result : ℕ} {params : List ℕ} {w₀ w₁ w₂ w₃ : ℕ} {t₁ u : List ℕ} → SymbolRoom t n owner result params →
-    w₀ ≡ packed params 0 → w₁ ≡ packed params 1 → w₂ ≡ packed params 2 → w₃ ≡ packed params 3 →
-    t₁ ≡ put-all t PARAMS (4 * n) (w₀ ∷ w₁ ∷ w₂ ∷ w₃ ∷ []) → u ≡ sealed-symbol t₁ n owner result (length params) → SymbolAdded t n owner result params u
-unfolding packed-words
-add-symbol {t} {n} {owner} {result} {params} {w₀} {w₁} {w₂} {w₃} {t₁} {u} a p₀ p₁ p₂ p₃ e₁ e₂ =
-    let e : t₁ ≡ put-all t PARAMS (4 * n) (packed-words params) = e₁ ∙ rw (p₀, p₁, p₂, p₃) in
-    symbol-added t n owner result params u a (symbol-written t n owner result params t₁ u (a .sound .long) (a .room) e e₂)
+module _ {t : List ℕ} {n owner result : ℕ} {params : List ℕ} {w₀ w₁ w₂ w₃ : ℕ} {t₁ t₂ t₃ t₄ u : List ℕ} (a : SymbolRoom t n owner result params) where
+  pub add-symbol : w₀ ≡ packed params 0 → w₁ ≡ packed params 1 → w₂ ≡ packed params 2 → w₃ ≡ packed params 3 →
+      t₁ ≡ put-all t PARAMS (4 * n) (w₀ ∷ w₁ ∷ w₂ ∷ w₃ ∷ []) → t₂ ≡ put t₁ OWNER n owner → t₃ ≡ put t₂ RESULT n result →
+      t₄ ≡ put t₃ ARITY n (length params) → u ≡ put t₄ COUNTS SYMBOLS (n + 1) → SymbolAdded t n owner result params u
+  unfolding packed-words
+  add-symbol p₀ p₁ p₂ p₃ e₁ e₂ e₃ e₄ e₅ =
+      let e : t₁ ≡ put-all t PARAMS (4 * n) (packed-words params) = e₁ ∙ rw (p₀, p₁, p₂, p₃) in
+      symbol-added t n owner result params u a (symbol-written t n owner result params t₁ t₂ t₃ t₄ u (a .sound .long) (a .room) e e₂ e₃ e₄ e₅)
 
 -- ---- symbols at the end
 

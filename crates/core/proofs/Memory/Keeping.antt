@@ -28,20 +28,17 @@ pub record TermsKept (t u : List ℕ) (n : ℕ) : Type 0 where
   pub offset : (i : ℕ) → i ≤ n → at u OFFSET i ≡ at t OFFSET i
   pub pool : (j : ℕ) → j < at t OFFSET n → at u POOL j ≡ at t POOL j
 
--- u holds what a sound table t holds, but for the terms from n on, and more
-pub record Continues (t u : List ℕ) (n : ℕ) : Type 0 where
+-- by the counts u may hold what a sound table t holds, but for its terms from n on, and more; it has m terms
+pub record Grows (t u : List ℕ) (n m : ℕ) : Type 0 where
   pub long : table-words ≤ length u
   pub more-sorts : sorts# t ≤ sorts# u
   pub sorts-fit : sorts# u ≤ max-sorts
   pub more-symbols : symbols# t ≤ symbols# u
   pub symbols-fit : symbols# u ≤ max-symbols
-  pub symbols : SymbolsKept t u (symbols# t)
-  pub new-symbols : (s : ℕ) → symbols# t ≤ s → s < symbols# u → SymbolSound u s
   pub within : n ≤ terms# t
-  pub terms-fit : terms# u ≤ max-terms
-  pub places-fit : at u OFFSET (terms# u) ≤ max-places
-  pub terms : TermsKept t u n
-  pub new-terms : (i : ℕ) → n ≤ i → i < terms# u → TermSound u i
+  pub count : terms# u ≡ m
+  pub terms-fit : m ≤ max-terms
+  pub places-fit : at u OFFSET m ≤ max-places
 
 module _ (t u : List ℕ) (z : ContextSound t) where
   -- ---- symbols
@@ -101,29 +98,36 @@ module _ (t u : List ℕ) (z : ContextSound t) where
 
   -- ---- the table and its view
 
-  pub continued : (n : ℕ) → Continues t u n → ContextSound u
-  continued n c = record {
-    long = c .long;
-    sort-count = sorts-length u;
-    symbol-count = symbols-length u;
-    term-count = terms-length u;
-    bool = let a = z .bool in let b = c .more-sorts in omega arith;
-    sorts-fit = c .sorts-fit;
-    symbols-fit = c .symbols-fit;
-    terms-fit = c .terms-fit;
-    symbols = λ s h. each-symbol s h (decLe (symbols# t) s);
-    start = c .terms .offset 0 (omega arith) ∙ z .start;
-    terms = λ i h. each-term i h (decLe n i);
-    places-fit = c .places-fit;
-  }
-    where
-      each-symbol : (s : ℕ) → s < symbols# u → Dec (symbols# t ≤ s) → SymbolSound u s
-      each-symbol s h (yes l) = c .new-symbols s l h
-      each-symbol s h (no l) = symbol-sound (symbols# t) s (omega arith) (c .symbols) (omega arith) (c .more-sorts)
+  module _ (n m : ℕ) (g : Grows t u n m) (ys : SymbolsKept t u (symbols# t)) (ts : TermsKept t u n) where
+    pub continued : ((s : ℕ) → symbols# t ≤ s → s < symbols# u → SymbolSound u s) → ((i : ℕ) → n ≤ i → i < m → TermSound u i) → ContextSound u
+    continued new-symbols new-terms =
+        let c = g .count in
+        record {
+          long = g .long;
+          sort-count = sorts-length u;
+          symbol-count = symbols-length u;
+          term-count = terms-length u;
+          bool = omega arith;
+          sorts-fit = g .sorts-fit;
+          symbols-fit = g .symbols-fit;
+          terms-fit = omega arith;
+          symbols = λ s h. each-symbol s h (decLe (symbols# t) s);
+          start = ts .offset 0 (omega arith) ∙ z .start;
+          terms = λ i h. each-term i (omega arith) (decLe n i);
+          places-fit = rw c (g .places-fit);
+        }
+      where
+        each-symbol : (s : ℕ) → s < symbols# u → Dec (symbols# t ≤ s) → SymbolSound u s
+        each-symbol s h (yes l) = new-symbols s l h
+        each-symbol s h (no l) = symbol-sound (symbols# t) s (omega arith) ys (omega arith) (g .more-sorts)
 
-      each-term : (i : ℕ) → i < terms# u → Dec (n ≤ i) → TermSound u i
-      each-term i h (yes l) = c .new-terms i l h
-      each-term i h (no l) = term-sound n i (c .within) (c .terms) (omega arith) (c .more-symbols)
+        each-term : (i : ℕ) → i < m → Dec (n ≤ i) → TermSound u i
+        each-term i h (yes l) = new-terms i l h
+        each-term i h (no l) = term-sound n i (g .within) ts (omega arith) (g .more-symbols)
+
+    -- nothing new
+    pub continued-old : symbols# u ≡ symbols# t → m ≡ n → ContextSound u
+    continued-old e q = continued (λ s l h. absurd (omega arith)) (λ i l h. absurd (omega arith))
 
   pub sorts-view : sorts# u ≡ sorts# t → SortsKept t u (sorts# t) → context u .sorts ≡ context t .sorts
   unfolding context sort-at

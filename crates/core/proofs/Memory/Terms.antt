@@ -17,7 +17,7 @@ use Rattle.core.specs.Term.{Op, Eq, Uninterpreted, Term, same-op, same-t
 use Rattle.core.specs.Context as Context
 use Rattle.core.specs.Context.{Context, intern, mk-app, places, terms-fit}
 use Rattle.core.specs.Memory.Words.{at, put, put-all, Kept, counted, stretch}
-use Rattle.core.specs.Memory.Table.{table-words, COUNTS, SORTS, SYMBOLS, TERMS, OP, OFFSET, POOL, core-room, sorts#, symbols#, terms#, op-of, args-at, term-at, context, AllBelow, TermSound, ContextSound, FindsApp, MayIntern, MayApply, MayEquate, sealed, Appendable, Appended}
+use Rattle.core.specs.Memory.Table.{table-words, COUNTS, SORTS, SYMBOLS, TERMS, OP, OFFSET, POOL, core-room, sorts#, symbols#, terms#, op-of, args-at, term-at, context, AllBelow, TermSound, ContextSound, FindsApp, MayIntern, MayApply, MayEquate, Appendable, Appended}
 use Rattle.core.specs.Memory.Codes.{made-answer, made-context, MkApp}
 use Rattle.core.specs.declared.context.Made as Made
 use Rattle.core.proofs.Lists.{and-no, same-list-true, same-list-false, same-list-longer}
@@ -25,7 +25,7 @@ use Rattle.core.proofs.Memory.Counted.{counted-more, counted-grown, cou
 use Rattle.core.proofs.Memory.Searching.{NoneFrom, first-found, first-missing}
 use Rattle.core.proofs.Memory.Regions.{stores}
 use Rattle.core.proofs.Memory.Views.{terms-length}
-use Rattle.core.proofs.Memory.Keeping.{TermsKept, Continues, continued, term-kept, sorts-view, symbols-view, sorts-apart, symbols-apart}
+use Rattle.core.proofs.Memory.Keeping.{TermsKept, Grows, continued, term-kept, sorts-view, symbols-view, sorts-apart, symbols-apart}
 
 -- ---- one term
 
@@ -117,26 +117,32 @@ record TermWritten (t : List ℕ) (n start code : ℕ) (args u : List ℕ) : Typ
   terms : TermsKept t u n
   kept : Kept core-room (COUNTS ∷ OP ∷ OFFSET ∷ POOL ∷ []) t u
 
-term-written : (t : List ℕ) (n start code : ℕ) (args t₁ u : List ℕ) → Appendable t n start code args → t₁ ≡ put-all t POOL start args → u ≡ sealed t₁ n code (start + length args) → TermWritten t n start code args u
-term-written t n start code args t₁ u a e₁ e₂ =
+term-written : (t : List ℕ) (n start code : ℕ) (args t₁ t₂ t₃ u : List ℕ) → Appendable t n start code args → t₁ ≡ put-all t POOL start args →
+    t₂ ≡ put t₁ OP n code → t₃ ≡ put t₂ OFFSET (n + 1) (start + length args) → u ≡ put t₃ COUNTS TERMS (n + 1) → TermWritten t n start code args u
+term-written t n start code args t₁ t₂ t₃ u a e₁ e₂ e₃ e₄ =
     let l : table-words ≤ length t = a .sound .long in
     let r : n < max-terms = a .room in
     let r₁ : n + 1 < 1025 = omega arith in
     let p : start + length args ≤ max-places = a .places in
     record {
-      long = search (e₂, e₁, stores);
-      sorts = search (e₂, e₁, stores);
-      symbols = search (e₂, e₁, stores);
-      count = search (e₂, e₁, stores);
-      op = search (e₂, e₁, stores);
-      end = search (e₂, e₁, stores);
-      pool = λ j h. let q : start + j < max-places = omega arith in search (e₂, e₁, stores) depth 9;
+      long = search (e₄, e₃, e₂, e₁, stores);
+      sorts = search (e₄, e₃, e₂, e₁, stores);
+      symbols = search (e₄, e₃, e₂, e₁, stores);
+      count = search (e₄, e₃, e₂, e₁, stores);
+      op = search (e₄, e₃, e₂, e₁, stores);
+      end = search (e₄, e₃, e₂, e₁, stores);
+      pool = λ j h. let q : start + j < max-places = omega arith in search (e₄, e₃, e₂, e₁, stores) depth 9;
       terms = record {
-        op = λ i h. let q : i < max-terms = omega arith in search (e₂, e₁, stores);
-        offset = λ i h. let q : i < n + 1 = omega arith in let g : i < 1025 = omega arith in search (e₂, e₁, stores);
-        pool = λ j h. let b = a .begins in let q : j < start = omega arith in let g : j < max-places = omega arith in search (e₂, e₁, stores);
+        op = λ i h. let q : i < max-terms = omega arith in search (e₄, e₃, e₂, e₁, stores);
+        offset = λ i h. let q : i < n + 1 = omega arith in let g : i < 1025 = omega arith in search (e₄, e₃, e₂, e₁, stores);
+        pool =
+            λ j h.
+            let b = a .begins in
+            let q : j < start = omega arith in
+            let g : j < max-places = omega arith in
+            search (e₄, e₃, e₂, e₁, stores);
       };
-      kept = rw (e₂, e₁) (search stores depth 9);
+      kept = rw (e₄, e₃, e₂, e₁) (search stores depth 9);
     }
 
 module _ (t : List ℕ) (n start code : ℕ) (args u : List ℕ) (a : Appendable t n start code args) (w : TermWritten t n start code args u) where
@@ -157,10 +163,6 @@ module _ (t : List ℕ) (n start code : ℕ) (args u : List ℕ) (a : Appendable
   new-term-sound : TermSound u n
   new-term-sound =
       let o = starts in
-      let e = w .end in
-      let c = w .op in
-      let y = w .symbols in
-      let d = a .declared in
       record {
         op = omega arith;
         rise = omega arith;
@@ -172,44 +174,28 @@ module _ (t : List ℕ) (n start code : ℕ) (args u : List ℕ) (a : Appendable
             rw (← q) (omega arith);
       }
 
-  continues : Continues t u n
-  continues =
-      let z = a .sound in
-      let f = a .next in
-      let c = w .count in
-      let s = w .sorts in
-      let y = w .symbols in
-      record {
-        long = w .long;
-        more-sorts = omega arith;
-        sorts-fit = let h = z .sorts-fit in omega arith;
-        more-symbols = omega arith;
-        symbols-fit = let h = z .symbols-fit in omega arith;
-        symbols = symbols-apart t u z (COUNTS ∷ OP ∷ OFFSET ∷ POOL ∷ []) (w .kept) tt tt tt tt;
-        new-symbols = λ i l h. absurd (omega arith);
-        within = omega arith;
-        terms-fit = let h = a .room in omega arith;
-        places-fit = rw c (let e = w .end in let p = a .places in omega arith);
-        terms = w .terms;
-        new-terms = λ i l h. let e : i ≡ n = omega arith in rw e new-term-sound;
-      }
-
   appended : Appended t code args u
   unfolding context intern
   appended =
       let z = a .sound in
-      let k = continues in
-      let f = a .next in
-      let c = w .count in
-      let sorts = sorts-view t u z (w .sorts) (sorts-apart t u z (COUNTS ∷ OP ∷ OFFSET ∷ POOL ∷ []) (w .kept) tt) in
-      let symbols = symbols-view t u z (w .symbols) (k .symbols) in
+      let written = COUNTS ∷ OP ∷ OFFSET ∷ POOL ∷ [] in
+      let ys = symbols-apart t u z written (w .kept) tt tt tt tt in
+      let sorts = sorts-view t u z (w .sorts) (sorts-apart t u z written (w .kept) tt) in
+      let symbols = symbols-view t u z (w .symbols) ys in
       let terms : counted (term-at u) (terms# u) ≡ counted (term-at t) (terms# t) ++ (record { op = op-of code; args = args } ∷ []) =
       counted-grown (term-at t) (term-at u) (terms# t) (terms# u) (record { op = op-of code; args = args }) (omega arith)
-      (λ i h. term-kept t u z n i (omega arith) (w .terms) (omega arith)) (ap (term-at u) (sym f) ∙ new-term) in
-      record { sound = continued t u z n k; view = λ i. record { sorts = sorts i; symbols = symbols i; terms = terms i } }
+      (λ i h. term-kept t u z n i (omega arith) (w .terms) (omega arith)) (ap (term-at u) (sym (a .next)) ∙ new-term) in
+      record {
+        sound =
+            continued t u z n (n + 1) (omega arith) ys (w .terms) (λ s l h. absurd (omega arith))
+            (λ i l h. let e : i ≡ n = omega arith in rw e new-term-sound);
+        view = λ i. record { sorts = sorts i; symbols = symbols i; terms = terms i };
+      }
 
-pub append : (t : List ℕ) (n start code : ℕ) (args t₁ u : List ℕ) → Appendable t n start code args → t₁ ≡ put-all t POOL start args → u ≡ sealed t₁ n code (start + length args) → Appended t code args u
-append t n start code args t₁ u a e₁ e₂ = appended t n start code args u a (term-written t n start code args t₁ u a e₁ e₂)
+pub append : {t : List ℕ} {n start code : ℕ} {args t₁ t₂ t₃ u : List ℕ} → Appendable t n start code args → t₁ ≡ put-all t POOL start args →
+    t₂ ≡ put t₁ OP n code → t₃ ≡ put t₂ OFFSET (n + 1) (start + length args) → u ≡ put t₃ COUNTS TERMS (n + 1) → Appended t code args u
+append {t} {n} {start} {code} {args} {t₁} {t₂} {t₃} {u} a e₁ e₂ e₃ e₄ =
+    appended t n start code args u a (term-written t n start code args t₁ t₂ t₃ u a e₁ e₂ e₃ e₄)
 
 -- ---- argument places
 

@@ -11,7 +11,7 @@ use Rattle.core.specs.Sort.{SortNode, BoolSort, Datatype, Uninterpreted}
 use Rattle.core.specs.Term as Term
 use Rattle.core.specs.Term.{Role, Constructor, Tester, Selector, Function, Symbol, Op, Eq, Term, same-term}
 use Rattle.core.specs.Context.{Context, with-symbols, intern, builds, symbol}
-use Rattle.core.specs.Memory.Words.{at, put, room-in, counted, stretch}
+use Rattle.core.specs.Memory.Words.{at, room-in, counted, stretch}
 
 -- a word of a table by its address, as the layer above still reads it
 abbrev pub word : List ℕ → ℕ → ℕ
@@ -227,17 +227,6 @@ pub record MayEquate (t : List ℕ) (a b : ℕ) : Type 0 where
   pub left : a < length (context t .terms)
   pub right : b < length (context t .terms)
 
--- the words of the n-th term fit their places
-pub record TermWords (t : List ℕ) (n code end : ℕ) : Type 0 where
-  pub long : table-words ≤ length t
-  pub number : n < max-terms
-  pub op : code ≤ max-symbols
-  pub offset : end ≤ max-places
-
--- the operation of term n, where the next arguments begin, and the count
-abbrev pub sealed : List ℕ → ℕ → ℕ → ℕ → List ℕ
-sealed t n code end = put (put (put t OP n code) OFFSET (n + 1) end) COUNTS TERMS (n + 1)
-
 -- there is room for one more term, the n-th, with arguments from start on; its operation is declared and its arguments are terms
 pub record Appendable (t : List ℕ) (n start code : ℕ) (args : List ℕ) : Type 0 where
   pub sound : ContextSound t
@@ -259,18 +248,6 @@ pub record MayDeclare (t : List ℕ) (sort : ℕ) (others : List ℕ) : Type 0 w
   pub declared : sort < length (context t .sorts)
   pub few : length others ≤ max-params
   pub sorts : AllBelow (length (context t .sorts)) others
-
--- the words of the n-th symbol fit their places
-pub record SymbolWords (t : List ℕ) (n owner result arity : ℕ) : Type 0 where
-  pub long : table-words ≤ length t
-  pub number : n < max-symbols
-  pub owned : owner ≤ max-symbols
-  pub sort : result < max-sorts
-  pub few : arity ≤ max-params
-
--- the owner, the result and the arity of symbol n, and the count
-abbrev pub sealed-symbol : List ℕ → ℕ → ℕ → ℕ → ℕ → List ℕ
-sealed-symbol t n owner result arity = put (put (put (put t OWNER n owner) RESULT n result) ARITY n arity) COUNTS SYMBOLS (n + 1)
 
 -- there is room for one more symbol, the n-th; it belongs to a constructor before it or to none, and its sorts are declared
 pub record SymbolRoom (t : List ℕ) (n owner result : ℕ) (params : List ℕ) : Type 0 where

@@ -38,21 +38,7 @@ loop-again c =
 
 pub add-selectors-spec : {M : Type 1} → statement M
 add-selectors-spec =
-    tie.close
-    (tie.spec
-    Inv-loop
-    μ-loop
-    (λ c. select-first _ _ _ _ (c .before .before .pre))
-    add-add-symbol
-    add-add-symbol-2
-    add-add-symbol-3
-    (λ c. search needs)
-    (λ c. search needs)
-    cast-add-symbol
-    (λ c. search needs)
-    add-symbol-requires
-    (λ c. search needs)
-    (λ c. search needs)
-    loop-again
-    (λ c. c .before .loop .inv .long)
+    tie.close (tie.spec Inv-loop μ-loop (λ c. select-first _ _ _ _ (c .before .before .pre)) add-add-symbol add-add-symbol-2
+    add-add-symbol-3 (λ c. search needs) (λ c. search needs) cast-add-symbol (λ c. search needs) add-symbol-requires (λ c. search needs)
+    (λ c. search needs) loop-again (λ c. c .before .loop .inv .long)
     (λ c. select-done _ _ _ _ _ _ (c .before .loop .inv) (c .loop-test .left)))

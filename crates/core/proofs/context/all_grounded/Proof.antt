@@ -40,16 +40,5 @@ returns-2 c = each-grounded _ _ (c .before .before .get-at .ensures .0) _ (c .lo
 
 pub all-grounded-spec : {M : Type 1} → statement M
 all-grounded-spec =
-    tie.close
-    (tie.spec
-    Inv-loop
-    μ-loop
-    (λ c κs. search needs)
-    (λ c. none-yet _ 0)
-    get-at-requires-2
-    (λ c κs. search needs)
-    returns
-    (λ c. search needs)
-    (λ c. search needs)
-    loop-again
-    returns-2)
+    tie.close (tie.spec Inv-loop μ-loop (λ c κs. search needs) (λ c. none-yet _ 0) get-at-requires-2 (λ c κs. search needs) returns
+    (λ c. search needs) (λ c. search needs) loop-again returns-2)

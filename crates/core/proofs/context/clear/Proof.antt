@@ -6,7 +6,16 @@ use Rattle.core.proofs.context.clear.Tie as tie
 
 returns : tie.Need-returns
 returns c =
-    cleared (c .before .before .before .before .before .before .before .before .before .before .before .before .before .args .t .now) _ _ _ (c .before .before .before .before .before .before .before .before .before .before .before .before .before .pre) (c .before .before .before .before .before .before .before .before .before .before .clear-counts .ensures) (c .before .before .before .before .before .before .put-at .ensures) (c .before .before .put-at2 .ensures)
+    let fifth = c .before .before in
+    let fourth = fifth .before .before .before .before in
+    let third = fourth .before .before .before .before in
+    let second = third .before .before .before .before in
+    let first = second .before .before .before .before in
+    let entry = first .before .before .before in
+    cleared (entry .args .t .now) (entry .pre) (first .put-at .ensures) (second .put-at2 .ensures) (third .put-at3 .ensures)
+    (fourth .put-at4 .ensures) (fifth .put-at5 .ensures)
 
 pub clear-spec : {M : Type 1} → statement M
-clear-spec = tie.close (tie.spec (λ c κs. search needs) (λ c κs. search needs) (λ c κs. search needs) (λ c. search needs) returns)
+clear-spec =
+    tie.close (tie.spec (λ c κs. search needs) (λ c κs. search needs) (λ c κs. search needs) (λ c κs. search needs)
+    (λ c κs. search needs) (λ c. search needs) returns)

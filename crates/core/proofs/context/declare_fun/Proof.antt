@@ -18,12 +18,5 @@ add-symbol-requires c κs =
 
 pub declare-fun-spec : {M : Type 1} → statement M
 declare-fun-spec =
-    tie.close
-    (tie.spec
-    (λ c κs. search needs)
-    (λ c. search needs)
-    returns
-    (λ c. search needs)
-    add-symbol-requires
-    (λ c. search needs)
+    tie.close (tie.spec (λ c κs. search needs) (λ c. search needs) returns (λ c. search needs) add-symbol-requires (λ c. search needs)
     (λ c. function-added _ _ _ _ _ (c .before .before .add-symbol .ensures)))

@@ -13,11 +13,11 @@ add-symbol-requires c κs =
 
 add-symbol-requires-2 : tie.Need-add-symbol-requires-2
 add-symbol-requires-2 c κs =
-    let entry = c .before .before .before .before .before .before .before .before .before .before .before  in tester-room _ _ _ _ _ (c .before .before .before .before .before .before .before .get-at .ensures .0) (c .before .before .before .before .add-symbol .ensures) (entry .pre) (c .before .before .before .before .before .before .if1 .left)
+    let entry = c .before .before .before .before .before .before .before .before .before .before .before in tester-room _ _ _ _ _ (c .before .before .before .before .before .before .before .get-at .ensures .0) (c .before .before .before .before .add-symbol .ensures) (entry .pre) (c .before .before .before .before .before .before .if1 .left)
 
 add-selectors-requires : tie.Need-add-selectors-requires
 add-selectors-requires c κs =
-    let entry = c .before .before .before .before .before .before .before .before .before .before .before .before .before .before .before  in
+    let entry = c .before .before .before .before .before .before .before .before .before .before .before .before .before .before .before in
     let e = c .before .before .before .before .before .before .before .before .before .before .before .get-at .ensures .0 in
     selectors-room _ _ _ _ _ e (c .before .before .before .before .before .before .before .before .add-symbol .ensures) (entry .pre) (c .before .before .before .before .before .before .before .before .before .before .if1 .left) _ (c .before .before .before .add-symbol2 .ensures)
 
@@ -28,20 +28,6 @@ returns-2 c =
 
 pub dt-add-constructor-spec : {M : Type 1} → statement M
 dt-add-constructor-spec =
-    tie.close
-    (tie.spec
-    (λ c κs. search needs)
-    (λ c. search needs)
-    (λ c. search needs)
-    (λ c. search needs)
-    (λ c. search no-constructor)
-    (λ c. search needs)
-    (λ c. search needs)
-    add-symbol-requires
-    (λ c. search needs)
-    (λ c. search needs)
-    (λ c. search needs)
-    add-symbol-requires-2
-    add-selectors-requires
-    (λ c. search needs)
-    returns-2)
+    tie.close (tie.spec (λ c κs. search needs) (λ c. search needs) (λ c. search needs) (λ c. search needs) (λ c. search no-constructor)
+    (λ c. search needs) (λ c. search needs) add-symbol-requires (λ c. search needs) (λ c. search needs) (λ c. search needs)
+    add-symbol-requires-2 add-selectors-requires (λ c. search needs) returns-2)

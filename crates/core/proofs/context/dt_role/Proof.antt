@@ -18,7 +18,7 @@ role-from-requires c κs =
 
 returns : tie.Need-returns
 returns c =
-    let entry = c .before .before .before .before  in
+    let entry = c .before .before .before .before in
     let z = entry .pre in
     let e = c .before .get-at .ensures .0 in
     record {

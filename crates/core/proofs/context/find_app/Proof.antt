@@ -29,15 +29,6 @@ returns-2 c =
 
 pub find-app-spec : {M : Type 1} → statement M
 find-app-spec =
-    tie.close
-    (tie.spec
-    Inv-loop
-    μ-loop
-    (λ c κs. search needs)
-    (λ c. (search needs, none-yet _ 0))
-    (λ c κs. (c .before .before .before .before .before .pre, search needs))
-    returns
-    (λ c. search needs)
-    (λ c. search needs)
-    loop-again
+    tie.close (tie.spec Inv-loop μ-loop (λ c κs. search needs) (λ c. (search needs, none-yet _ 0))
+    (λ c κs. (c .before .before .before .before .before .pre, search needs)) returns (λ c. search needs) (λ c. search needs) loop-again
     returns-2)

@@ -38,16 +38,5 @@ returns-2 c = not-grounded _ _ _ (c .before .before .get-at .ensures .0) _ (c .l
 
 pub grounded-spec : {M : Type 1} → statement M
 grounded-spec =
-    tie.close
-    (tie.spec
-    Inv-loop
-    μ-loop
-    (λ c κs. search needs)
-    (λ c. none-yet _ 0)
-    builds-requires
-    has-plain-fields-requires
-    returns
-    (λ c. search needs)
-    (λ c. search needs)
-    loop-again
-    returns-2)
+    tie.close (tie.spec Inv-loop μ-loop (λ c κs. search needs) (λ c. none-yet _ 0) builds-requires has-plain-fields-requires returns
+    (λ c. search needs) (λ c. search needs) loop-again returns-2)

@@ -43,16 +43,5 @@ returns-2 c =
 
 pub has-plain-fields-spec : {M : Type 1} → statement M
 has-plain-fields-spec =
-    tie.close
-    (tie.spec
-    Inv-loop
-    μ-loop
-    (λ c κs. search needs)
-    (λ c. none-yet _ 0)
-    param-sort-requires
-    get-at-requires-2
-    returns
-    (λ c. search needs)
-    (λ c. search needs)
-    loop-again
-    returns-2)
+    tie.close (tie.spec Inv-loop μ-loop (λ c κs. search needs) (λ c. none-yet _ 0) param-sort-requires get-at-requires-2 returns
+    (λ c. search needs) (λ c. search needs) loop-again returns-2)

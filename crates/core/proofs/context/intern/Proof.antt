@@ -6,27 +6,13 @@ use Rattle.core.proofs.context.intern.Tie as tie
 
 returns-4 : tie.Need-returns-4
 returns-4 c =
-    let after = c .before .before .before .before .before  in
+    let after = c .before .before .before .before .before in
     let e = after .before .before .before .before .before .before .get-at .ensures .0 in
     let f = after .before .before .before .before .find-app .ensures in
     made-new _ _ _ (c .before .before .before .before .before .before .before .before .before .before .before .before .before .before .before .pre .sound) _ _ e f _ (after .get-at2 .ensures .0) _ (c .before .before .before .before .before .before .before .before .if1 .left) (c .before .before .before .before .before .before .before .if2 .left) (c .before .before .before .before .if3 .left) (c .before .before .append-term .ensures)
 
 pub intern-spec : {M : Type 1} → statement M
 intern-spec =
-    tie.close
-    (tie.spec
-    (λ c κs. search needs)
-    (λ c κs. search needs)
-    (λ c. search needs)
-    (λ c. search needs)
-    (λ c. search made-old)
-    (λ c. search needs)
-    (λ c. search no-more-terms)
-    (λ c κs. search needs)
-    (λ c. search start-fits)
-    (λ c. search needs)
-    (λ c. search no-more-places)
-    (λ c κs. search appendable)
-    (λ c. search needs)
-    (λ c. search needs)
-    returns-4)
+    tie.close (tie.spec (λ c κs. search needs) (λ c κs. search needs) (λ c. search needs) (λ c. search needs) (λ c. search made-old)
+    (λ c. search needs) (λ c. search no-more-terms) (λ c κs. search needs) (λ c. search start-fits) (λ c. search needs)
+    (λ c. search no-more-places) (λ c κs. search appendable) (λ c. search needs) (λ c. search needs) returns-4)

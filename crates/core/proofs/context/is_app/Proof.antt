@@ -34,14 +34,5 @@ returns-3 c =
 
 pub is-app-spec : {M : Type 1} → statement M
 is-app-spec =
-    tie.close
-    (tie.spec
-    (λ c κs. search needs)
-    returns
-    (λ c κs. search needs)
-    (λ c. search needs)
-    (λ c κs. search needs)
-    sub-if2
-    returns-2
-    same-args-requires
-    returns-3)
+    tie.close (tie.spec (λ c κs. search needs) returns (λ c κs. search needs) (λ c. search needs) (λ c κs. search needs) sub-if2
+    returns-2 same-args-requires returns-3)

@@ -6,10 +6,4 @@ use Rattle.core.proofs.context.mk_app.Tie as tie
 
 pub mk-app-spec : {M : Type 1} → statement M
 mk-app-spec =
-    tie.close
-    (tie.spec
-    (λ c. search needs)
-    (λ c. search needs)
-    (λ c κs. search may-apply)
-    (λ c. search needs)
-    (λ c. search symbol-code))
+    tie.close (tie.spec (λ c. search needs) (λ c. search needs) (λ c κs. search may-apply) (λ c. search needs) (λ c. search symbol-code))

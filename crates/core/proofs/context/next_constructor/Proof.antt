@@ -40,16 +40,5 @@ returns-2 c =
 
 pub next-constructor-spec : {M : Type 1} → statement M
 next-constructor-spec =
-    tie.close
-    (tie.spec
-    Inv-loop
-    μ-loop
-    (λ c κs. search needs)
-    (λ c. search needs)
-    loop-holds
-    builds-requires
-    returns
-    (λ c. search needs)
-    (λ c. search needs)
-    loop-again
-    returns-2)
+    tie.close (tie.spec Inv-loop μ-loop (λ c κs. search needs) (λ c. search needs) loop-holds builds-requires returns (λ c. search needs)
+    (λ c. search needs) loop-again returns-2)

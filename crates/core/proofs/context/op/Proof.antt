@@ -11,7 +11,7 @@ use Rattle.core.proofs.context.op.Tie as tie
 
 returns : tie.Need-returns
 returns c =
-    let entry = c .before .before .before .before  in
+    let entry = c .before .before .before .before in
     let z = entry .pre in
     let h = terms-below _ _ (z .1) in
     let e = c .before .get-at .ensures .0 in

@@ -28,18 +28,6 @@ loop-again c =
 
 pub same-args-spec : {M : Type 1} → statement M
 same-args-spec =
-    tie.close
-    (tie.spec
-    Inv-loop
-    μ-loop
-    (λ c. (search needs, none-yet _ 0))
-    (λ c. search needs)
-    (λ c κs. search needs)
-    (λ c. search needs)
-    (λ c. search needs)
-    cast-if1
-    returns
-    (λ c. search needs)
-    (λ c. search needs)
-    loop-again
+    tie.close (tie.spec Inv-loop μ-loop (λ c. (search needs, none-yet _ 0)) (λ c. search needs) (λ c κs. search needs)
+    (λ c. search needs) (λ c. search needs) cast-if1 returns (λ c. search needs) (λ c. search needs) loop-again
     (λ c. args-same _ _ _ _ (c .loop-test .left) (c .before .loop .inv .1)))

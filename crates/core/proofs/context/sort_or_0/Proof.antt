@@ -10,9 +10,5 @@ returns-2 c = (sym (List·getD-eq-default (c .before .args .sorts .now) 0 (c .if
 
 pub sort-or-0-spec : {M : Type 1} → statement M
 sort-or-0-spec =
-    tie.close
-    (tie.spec
-    (λ c. search needs)
-    (λ c. search needs)
-    (λ c. (refl, c .before .before .pre _ (c .before .if1 .taken)))
+    tie.close (tie.spec (λ c. search needs) (λ c. search needs) (λ c. (refl, c .before .before .pre _ (c .before .if1 .taken)))
     returns-2)
