@@ -7,7 +7,7 @@ use mathlib.Core.List.{List, [], _∷_, _++_, map}
 use native.Mathlib.Nat.{le-antisymm, add-zero, add-suc, suc-add}
 use native.Mathlib.Decide.{decLe}
 use native.Mathlib.Omega.{arith}
-use lib.Dec.{T, eqb}
+use lib.Dec.{T, eqb, eqb→eq}
 use borrow.Author.Tests.{eq-eqb, ne-eqb}
 use lib.ListN.{length, getD, take, drop, set, length-set, drop-of-length-le}
 use lib.Seq.{sets, getD-set-same, getD-set-other, drop-cons}
@@ -176,6 +176,14 @@ same-list-longer (x ∷ xs) [] n = refl
 same-list-longer (x ∷ xs) (y ∷ ys) n =
     ap (λ (b : Bool). cond (eqb x y) b false) (same-list-longer xs ys (λ e. n (ap suc e))) ∙ cond-same (eqb x y)
 
+pub same-list-eq : (xs ys : List ℕ) → T (same-list xs ys) → xs ≡ ys
+unfolding same-list
+same-list-eq [] [] t = refl
+same-list-eq [] (y ∷ ys) t = absurd t
+same-list-eq (x ∷ xs) [] t = absurd t
+same-list-eq (x ∷ xs) (y ∷ ys) t =
+    let (e, r) = cond-and (eqb x y) (same-list xs ys) t in ap₂ (λ (z : ℕ) (zs : List ℕ). z ∷ zs) (eqb→eq x y e) (same-list-eq xs ys r)
+
 -- ---- a loop that copies vs into t₀ from a place on
 
 -- i elements are copied, and copying the others into the table as it is now gives the whole copy
@@ -230,32 +238,8 @@ module _ {A : Type 0} where
   any-some p (y ∷ ys) x (inl q) e = ap (λ (b : Bool). cond b true (any p ys)) (ap p (sym q) ∙ e)
   any-some p (y ∷ ys) x (inr i) e = ap (λ (b : Bool). cond (p y) true b) (any-some p ys x i e) ∙ cond-both (p y)
 
-  pub every-all : (p : A → Bool) (xs : List A) → ((x : A) → In x xs → p x ≡ true) → every p xs ≡ true
-  unfolding every
-  every-all p [] h = refl
-  every-all p (x ∷ xs) h =
-      ap (λ (b : Bool). cond b (every p xs) false) (h x (inl refl)) ∙ every-all p xs (λ y i. h y (inr i))
-
-  pub every-not : (p : A → Bool) (xs : List A) (x : A) → In x xs → p x ≡ false → every p xs ≡ false
-  unfolding every
-  every-not p [] x i e = absurd i
-  every-not p (y ∷ ys) x (inl q) e = ap (λ (b : Bool). cond b (every p ys) false) (ap p (sym q) ∙ e)
-  every-not p (y ∷ ys) x (inr i) e = ap (λ (b : Bool). cond (p y) b false) (every-not p ys x i e) ∙ cond-same (p y)
-
 pub range-in : (k n x : ℕ) → In x (range k n) → (k ≤ x) × (x < k + n)
 unfolding range
 range-in k zero x i = absurd i
 range-in k (suc n) x (inl e) = (omega arith, omega arith)
 range-in k (suc n) x (inr i) = let r = range-in (suc k) n x i in (omega arith, omega arith)
-
--- ---- members by their places
-
-pub at-in : (xs : List ℕ) (i : ℕ) → i < length xs → In (getD xs i 0) xs
-at-in [] i h = absurd (omega arith)
-at-in (x ∷ xs) zero h = inl refl
-at-in (x ∷ xs) (suc i) h = inr (at-in xs i (omega arith))
-
-pub in-at : (xs : List ℕ) (x : ℕ) → In x xs → (j : ℕ) × (j < length xs) × (getD xs j 0 ≡ x)
-in-at [] x i = absurd i
-in-at (y ∷ ys) x (inl e) = (zero, omega arith, sym e)
-in-at (y ∷ ys) x (inr i) = let (j, h, e) = in-at ys x i in (suc j, omega arith, e)

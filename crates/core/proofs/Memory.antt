@@ -4,10 +4,12 @@ pub mod Stores
 pub mod Counted
 pub mod Searching
 -- Regions: the laws of stores at this layer's table; Codes: numbers for operations, roles and packed sorts; Views: what a table means,
--- by its words; Keeping: what stores leave of sorts, symbols and terms, and when the table stays sound.
+-- by its words; Index: the newest term of a bucket; Keeping: what stores leave of sorts, symbols and terms, and when the table stays
+-- sound.
 pub mod Regions
 pub mod Codes
 pub mod Views
+pub mod Index
 pub mod Keeping
 -- Terms: an application looked up, one more term, and making a term; Declarations: an empty table, terms given back, one more sort, one
 -- more symbol, a function, a constructor; Constructors: a datatype's constructors, and question 10.

@@ -18,7 +18,7 @@ ghost use lib.ListN.{length, getD};
 ghost use Rattle.core.specs.Limits.{max-sorts, max-symbols, max-terms, max-places, max-params};
 ghost use Rattle.core.specs.Context.{empty-context, cut-terms, declare-sort, declare-fun, selectors-from, dt-add-constructor, builds, dt-tester, has-plain-fields, grounded, all-grounded, places, is-datatype-sort, symbol, children, sort-of};
 ghost use Rattle.core.specs.Memory.Words.{put-all, stretch};
-ghost use Rattle.core.specs.Memory.Table.{table-words, POOL, sorts#, symbols#, terms#, digit, packed, param-at, node-of, op-of, term-at, context, AllBelow, ContextSound, HasParam, HasParamWord, FindsApp, MayIntern, MayApply, MayEquate, Appendable, Appended, MayDeclare, SymbolRoom, SymbolAdded, SelectorRoom, SymbolsAdded, NextConstructor};
+ghost use Rattle.core.specs.Memory.Table.{table-words, POOL, sorts#, symbols#, terms#, digit, packed, param-at, node-of, op-of, term-at, context, buckets, bucket, AllBelow, ContextSound, HasParam, HasParamWord, FindsApp, MayIntern, MayApply, MayEquate, Appendable, Appended, MayDeclare, SymbolRoom, SymbolAdded, SelectorRoom, SymbolsAdded, NoTerms, NextConstructor};
 ghost use Rattle.core.specs.Lists.{same-list};
 ghost use Rattle.core.specs.Term.{same-term};
 ghost use Rattle.core.specs.Memory.Codes.{OpAt, RoleAt, MkApp, Declares, declared-node};
@@ -67,13 +67,32 @@ const OFFSET: usize = 2688;
 
 const POOL: usize = 3840;
 
+// For each of 1,021 buckets: one more than the newest term in it, or 0; and for each term the same of the terms before it in its bucket.
+const BUCKET: usize = 10240;
+
+const LINK: usize = 11264;
+
+const BUCKETS: usize = 1021;
+
 // ---- an empty table
+
+fn clear_buckets(t: &mut [u32])
+    requires { ⌜ table-words ≤ length (now t) ⌝ }
+    ensures { λ _. ⌜ NoTerms (now (t .exit)) ⌝ }
+{
+    let mut h = 0;
+    while h < BUCKETS {
+        put_at(t, BUCKET, h, 0);
+        h += 1;
+    }
+}
 
 // Whatever the table held, it is now that of an empty session.
 pub fn clear(t: &mut [u32])
     requires { ⌜ table-words ≤ length (now t) ⌝ }
     ensures { λ _. ⌜ ContextSound (now (t .exit)) × (context (now (t .exit)) ≡ empty-context) ⌝ }
 {
+    clear_buckets(t);
     put_at(t, COUNTS, SORTS, 1);
     put_at(t, COUNTS, SYMBOLS, 0);
     put_at(t, COUNTS, TERMS, 0);
@@ -236,20 +255,35 @@ fn is_app(t: &[u32], i: usize, code: usize, args: &[u32]) -> bool
     same_args(t, start, args)
 }
 
-// The lowest term that is the operation of a code over the given arguments, or the number of terms if there is none.
-fn find_app(t: &[u32], code: usize, args: &[u32]) -> usize
-    requires { ⌜ ContextSound (now t) ⌝ }
-    ensures { λ r. ⌜ FindsApp (now (t .entry)) code (now (args .entry)) r ⌝ }
+// The bucket of a code over the given arguments.
+fn hash_app(code: usize, args: &[u32]) -> usize
+    requires { ⌜ code < buckets ⌝ }
+    ensures { λ r. ⌜ (r ≡ bucket code (now (args .entry))) × (r < buckets) ⌝ }
 {
-    let n = get_at(t, COUNTS, TERMS);
+    let mut h = code;
     let mut i = 0;
-    while i < n {
-        if is_app(t, i, code, args) {
-            return i;
-        }
+    while i < args.len() {
+        h = (31 * h + args[i] as usize) % BUCKETS;
         i += 1;
     }
-    i
+    h
+}
+
+// The term that is the operation of a code over the given arguments, or the number of terms if there is none: the terms of one bucket
+// are asked, the newest first.
+fn find_app(t: &[u32], code: usize, args: &[u32]) -> usize
+    requires { ⌜ ContextSound (now t) × (code ≤ symbols# (now t)) ⌝ }
+    ensures { λ r. ⌜ FindsApp (now (t .entry)) code (now (args .entry)) r ⌝ }
+{
+    let h = hash_app(code, args);
+    let mut k = get_at(t, BUCKET, h);
+    while k != 0 {
+        if is_app(t, k - 1, code, args) {
+            return k - 1;
+        }
+        k = get_at(t, LINK, k - 1);
+    }
+    get_at(t, COUNTS, TERMS)
 }
 
 // The words are copied to a region, from a place of it on.
@@ -270,6 +304,10 @@ fn append_term(t: &mut [u32], n: usize, start: usize, code: usize, args: &[u32])
     requires { ⌜ Appendable (now t) n start code (now args) ⌝ }
     ensures { λ _. ⌜ Appended (now (t .entry)) code (now (args .entry)) (now (t .exit)) ⌝ }
 {
+    let h = hash_app(code, args);
+    let older = get_at(t, BUCKET, h);
+    put_at(t, LINK, n, older);
+    put_at(t, BUCKET, h, n + 1);
     copy_words(t, POOL, start, args);
     put_at(t, OP, n, code);
     put_at(t, OFFSET, n + 1, start + args.len());
@@ -315,12 +353,28 @@ pub fn mk_eq(t: &mut [u32], a: TermId, b: TermId) -> Made
 
 // ---- undoing terms
 
+// The newest term, the i-th, is taken back.
+fn drop_term(t: &mut [u32], i: usize)
+    requires { ⌜ ContextSound (now t) × (terms# (now t) ≡ i + 1) ⌝ }
+    ensures { λ _. ⌜ ContextSound (now (t .exit)) × (context (now (t .exit)) ≡ cut-terms i (context (now (t .entry)))) ⌝ }
+{
+    let code = get_at(t, OP, i);
+    let h = hash_app(code, children(t, TermId(i as u32)));
+    let older = get_at(t, LINK, i);
+    put_at(t, BUCKET, h, older);
+    put_at(t, COUNTS, TERMS, i);
+}
+
 // Back to the first n terms: what a refused full check has made is given back.
 pub fn truncate(t: &mut [u32], n: usize)
     requires { ⌜ ContextSound (now t) × (n ≤ length (context (now t) .terms)) ⌝ }
     ensures { λ _. ⌜ ContextSound (now (t .exit)) × (context (now (t .exit)) ≡ cut-terms n (context (now (t .entry)))) ⌝ }
 {
-    put_at(t, COUNTS, TERMS, n);
+    let mut i = get_at(t, COUNTS, TERMS);
+    while n < i {
+        i -= 1;
+        drop_term(t, i);
+    }
 }
 
 // ---- declarations

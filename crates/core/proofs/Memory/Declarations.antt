@@ -3,27 +3,32 @@ use Prim.Native.Nat.{ℕ, zero, suc, _+_, _-_, _*_, _/_, _%_, _≤_, _<_}
 use mathlib.Core.Path.{_≡_, refl, sym, ap, ap₂, _∙_, subst}
 use mathlib.Core.Bool.{Bool, true, false, cond, _&&_, true≢false}
 use mathlib.Core.List.{List, [], _∷_, _++_, append-assoc, append-nil}
+use native.Mathlib.Decide.{ℕ-discrete}
+use native.Mathlib.Numerals.{add-one}
 use native.Mathlib.Omega.{arith}
+use borrow.Author.Count.{below-more}
 use borrow.Author.Tests.{le-leb, lt-leb}
 use lib.Dec.{leb}
 use lib.ListN.{length, getD, take, drop, length-append, drop-of-length-le}
-use lib.Seq.{drop-cons}
+use lib.Seq.{drop-cons, take-all, take-take, length-take-le}
 use Rattle.core.specs.Limits.{max-sorts, max-symbols, max-terms, max-places, max-params}
 use Rattle.core.specs.Lists.{range}
 use Rattle.core.specs.Sort.{SortNode, BoolSort}
 use Rattle.core.specs.Term.{Role, Constructor, Tester, Selector, Function, Symbol, Term}
 use Rattle.core.specs.Context.{Context, empty-context, with-symbols, declare-sort, declare-fun, selectors-from, constructor-symbols, dt-add-constructor, cut-terms, declarations-fit}
 use Rattle.core.specs.Memory.Words.{at, put, put-all, Kept, counted}
-use Rattle.core.specs.Memory.Table.{table-words, COUNTS, SORTS, SYMBOLS, TERMS, SORT, OWNER, RESULT, ARITY, PARAMS, OFFSET, core-room, sorts#, symbols#, terms#, digit, packed, packed-words, node-of, role-of, sort-at, param-at, symbol-at, term-at, context, AllBelow, SymbolSound, ContextSound, MayDeclare, SymbolRoom, SymbolAdded, SelectorRoom, SymbolsAdded}
+use Rattle.core.specs.Memory.Table.{table-words, COUNTS, SORTS, SYMBOLS, TERMS, SORT, OWNER, RESULT, ARITY, PARAMS, OFFSET, BUCKET, LINK, core-room, sorts#, symbols#, terms#, digit, packed, packed-words, node-of, role-of, sort-at, param-at, symbol-at, term-at, context, buckets, bucket-of, newest, AllBelow, SymbolSound, ContextSound, MayDeclare, SymbolRoom, SymbolAdded, SelectorRoom, SymbolsAdded, NoTerms}
 use Rattle.core.specs.Memory.Codes.{Declares}
 use Rattle.core.specs.declared.context.Declared as Declared
 use Rattle.core.proofs.Lists.{and-no}
 use Rattle.core.proofs.Symbols.{constructor-count}
 use Rattle.core.proofs.Memory.Counted.{counted-same, counted-cut, counted-grown, counted-list}
+use Rattle.core.proofs.Memory.Stores.{other-place}
 use Rattle.core.proofs.Memory.Regions.{stores}
+use Rattle.core.proofs.Memory.Index.{newest-not}
 use Rattle.core.proofs.Memory.Codes.{digit-packed, ctor-role, tester-role, selector-role}
 use Rattle.core.proofs.Memory.Views.{sorts-length, symbols-length, terms-length, offset-mono}
-use Rattle.core.proofs.Memory.Keeping.{SymbolsKept, Grows, continued, continued-old, symbol-kept, term-kept, sorts-view, symbols-view, terms-view, sorts-apart, symbols-apart, terms-apart}
+use Rattle.core.proofs.Memory.Keeping.{SymbolsKept, Grows, continued, continued-old, symbol-kept, term-kept, sorts-view, symbols-view, terms-view, sorts-apart, symbols-apart, terms-apart, index-kept, index-apart}
 
 -- ---- an empty table
 
@@ -34,8 +39,10 @@ record Cleared (u : List ℕ) : Type 0 where
   terms : terms# u ≡ 0
   bool : at u SORT 0 ≡ 0
   start : at u OFFSET 0 ≡ 0
+  heads : (h : ℕ) → h < buckets → at u BUCKET h ≡ 0
 
 cleared-sound : (u : List ℕ) → Cleared u → ContextSound u
+unfolding newest
 cleared-sound u c = record {
   long = c .long;
   sort-count = sorts-length u;
@@ -49,6 +56,7 @@ cleared-sound u c = record {
   start = c .start;
   terms = λ i h. absurd (omega arith);
   places-fit = rw (c .terms) (omega arith);
+  index = rw (c .terms) (record { heads = c .heads; links = λ i h. absurd (omega arith); once = λ i j h l e. absurd (omega arith) });
 }
 
 cleared-view : (u : List ℕ) → Cleared u → context u ≡ empty-context
@@ -60,32 +68,115 @@ cleared-view u c =
     let terms : counted (term-at u) (terms# u) ≡ [] = ap (counted (term-at u)) (c .terms) in
     λ i. record { sorts = sorts i; symbols = symbols i; terms = terms i }
 
-pub cleared : (t : List ℕ) {t₁ t₂ t₃ t₄ u : List ℕ} → table-words ≤ length t → t₁ ≡ put t COUNTS SORTS 1 → t₂ ≡ put t₁ COUNTS SYMBOLS 0 →
+pub cleared : {t t₁ t₂ t₃ t₄ u : List ℕ} → NoTerms t → t₁ ≡ put t COUNTS SORTS 1 → t₂ ≡ put t₁ COUNTS SYMBOLS 0 →
     t₃ ≡ put t₂ COUNTS TERMS 0 → t₄ ≡ put t₃ SORT 0 0 → u ≡ put t₄ OFFSET 0 0 → ContextSound u × (context u ≡ empty-context)
-cleared t {u} l e₁ e₂ e₃ e₄ e₅ = let c : Cleared u = search (e₅, e₄, e₃, e₂, e₁, stores) depth 9 in (cleared-sound u c, cleared-view u c)
+cleared {t} {u} a e₁ e₂ e₃ e₄ e₅ =
+    let l : table-words ≤ length t = a .long in
+    let c : Cleared u = record {
+      long = search (e₅, e₄, e₃, e₂, e₁, stores) depth 9;
+      sorts = search (e₅, e₄, e₃, e₂, e₁, stores) depth 9;
+      symbols = search (e₅, e₄, e₃, e₂, e₁, stores) depth 9;
+      terms = search (e₅, e₄, e₃, e₂, e₁, stores) depth 9;
+      bool = search (e₅, e₄, e₃, e₂, e₁, stores) depth 9;
+      start = search (e₅, e₄, e₃, e₂, e₁, stores) depth 9;
+      heads = λ h q. let r : h < 1024 = omega arith in search (e₅, e₄, e₃, e₂, e₁, stores, a .heads) depth 9;
+    } in
+    (cleared-sound u c, cleared-view u c)
 
--- ---- fewer terms
+-- the buckets below i are cleared
+pub record Clearing (t : List ℕ) (i : ℕ) : Type 0 where
+  pub within : i ≤ buckets
+  pub long : table-words ≤ length t
+  pub heads : (h : ℕ) → h < i → at t BUCKET h ≡ 0
 
-pub truncated : (t : List ℕ) (n : ℕ) (u : List ℕ) → ContextSound t → n ≤ terms# t → u ≡ put t COUNTS TERMS n → ContextSound u × (context u ≡ cut-terms n (context t))
+pub clear-next : {t u : List ℕ} {i : ℕ} → Clearing t i → i < buckets → u ≡ put t BUCKET i 0 → Clearing u (i + 1)
+clear-next {t} {u} {i} c h e =
+    let l : table-words ≤ length t = c .long in
+    let r : i < 1024 = omega arith in
+    record {
+      within = omega arith;
+      long = search (e, stores);
+      heads = below-more (λ (x : ℕ). at u BUCKET x ≡ 0) i (λ x g. search (e, stores, c .heads)) (search (e, stores));
+    }
+
+-- ---- terms taken back
+
+pub dropped : (i : ℕ) {t : List ℕ} {h o : ℕ} {t₁ u : List ℕ} → ContextSound t → terms# t ≡ i + 1 → h ≡ bucket-of t i → h < buckets → o ≡ at t LINK i →
+    t₁ ≡ put t BUCKET h o → u ≡ put t₁ COUNTS TERMS i → ContextSound u × (context u ≡ cut-terms i (context t))
 unfolding cut-terms context
-truncated t n u z h e =
+dropped i {t} {h} {o} {t₁} {u} z n b d q e₁ e₂ =
     let l : table-words ≤ length t = z .long in
-    let k : Kept core-room (COUNTS ∷ []) t u = rw e (search stores) in
-    let long : table-words ≤ length u = search (e, stores) in
-    let s : sorts# u ≡ sorts# t = search (e, stores) in
-    let y : symbols# u ≡ symbols# t = search (e, stores) in
-    let c : terms# u ≡ n = search (e, stores) in
-    let ts = terms-apart t u z (COUNTS ∷ []) k n h tt tt tt in
-    let ys = symbols-apart t u z (COUNTS ∷ []) k tt tt tt tt in
-    let top = offset-mono t z n (terms# t) h (omega arith) in
-    let b = ts .offset n (omega arith) in
-    let sorts = sorts-view t u z s (sorts-apart t u z (COUNTS ∷ []) k tt) in
+    let f : h < 1024 = omega arith in
+    let m : i ≤ terms# t = omega arith in
+    let written = COUNTS ∷ BUCKET ∷ [] in
+    let k : Kept core-room written t u = rw (e₂, e₁) (search stores depth 9) in
+    let long : table-words ≤ length u = search (e₂, e₁, stores) in
+    let s : sorts# u ≡ sorts# t = search (e₂, e₁, stores) in
+    let y : symbols# u ≡ symbols# t = search (e₂, e₁, stores) in
+    let c : terms# u ≡ i = search (e₂, e₁, stores) in
+    let head : at u BUCKET h ≡ o = search (e₂, e₁, stores) in
+    let heads : (x : ℕ) → x < 1024 → (x ≡ h → ⊥) → at u BUCKET x ≡ at t BUCKET x = λ x g p. search (e₂, e₁, stores, other-place) in
+    let ts = terms-apart t u z written k i m tt tt tt in
+    let ys = symbols-apart t u z written k tt tt tt tt in
+    let top = offset-mono t z i (terms# t) m (omega arith) in
+    let end = ts .offset i (omega arith) in
+    let index = index-kept t u z i m ts (λ x g. older x g head (heads x (omega arith)) (ℕ-discrete x h)) (λ j g. k .rest LINK j tt (omega arith)) in
+    let sorts = sorts-view t u z s (sorts-apart t u z written k tt) in
     let symbols = symbols-view t u z y ys in
-    let terms : counted (term-at u) (terms# u) ≡ take n (counted (term-at t) (terms# t)) =
+    let terms : counted (term-at u) (terms# u) ≡ take i (counted (term-at t) (terms# t)) =
     ap (counted (term-at u)) c
-    ∙ counted-same (term-at u) (term-at t) n (λ i f. term-kept t u z n i h ts f)
-    ∙ sym (counted-cut (term-at t) (terms# t) n h) in
-    (continued-old t u z n n (omega arith) ys ts y refl, λ i. record { sorts = sorts i; symbols = symbols i; terms = terms i })
+    ∙ counted-same (term-at u) (term-at t) i (λ j g. term-kept t u z i j m ts g)
+    ∙ sym (counted-cut (term-at t) (terms# t) i m) in
+    (continued-old t u z i i (omega arith) ys ts y refl index, λ j. record { sorts = sorts j; symbols = symbols j; terms = terms j })
+  where
+    older : (x : ℕ) → x < buckets → at u BUCKET h ≡ o → ((x ≡ h → ⊥) → at u BUCKET x ≡ at t BUCKET x) → Dec (x ≡ h) → at u BUCKET x ≡ newest (bucket-of t) x i
+    older x g head heads (yes p) =
+        ap (at u BUCKET) p ∙ head ∙ q ∙ z .index .links i (omega arith) ∙ ap (λ (y : ℕ). newest (bucket-of t) y i) (sym (p ∙ b))
+    older x g head heads (no p) =
+        heads p
+        ∙ z .index .heads x g
+        ∙ ap (newest (bucket-of t) x) (n ∙ add-one i)
+        ∙ newest-not (bucket-of t) x i (λ r. p (sym r ∙ sym b))
+
+-- the terms from i on are taken back
+pub record Dropping (t₀ : List ℕ) (n : ℕ) (t : List ℕ) (i : ℕ) : Type 0 where
+  pub sound : ContextSound t
+  pub above : n ≤ i
+  pub count : i ≡ terms# t
+  pub view : context t ≡ cut-terms i (context t₀)
+  pub long : length t ≡ length t₀
+
+pub drop-first : (t : List ℕ) (n i : ℕ) → ContextSound t → n ≤ length (context t .terms) → i ≡ terms# t → Dropping t n t i
+unfolding cut-terms
+drop-first t n i z h e = record {
+  sound = z;
+  above = omega arith;
+  count = e;
+  view = λ j. record { sorts = context t .sorts; symbols = context t .symbols; terms = sym (take-all i (context t .terms) (omega arith)) j };
+  long = refl;
+}
+
+pub drop-next : (t₀ : List ℕ) (n : ℕ) (t : List ℕ) (i j : ℕ) (u : List ℕ) → Dropping t₀ n t i → n < i → j ≡ i - 1 → length u ≡ length t → ContextSound u → context u ≡ cut-terms j (context t) → Dropping t₀ n u j
+unfolding cut-terms
+drop-next t₀ n t i j u d h e l z v =
+    let c = d .count in
+    let long = d .long in
+    let n₀ = ap (λ (x : Context). length (x .terms)) v in
+    let n₁ = length-take-le j (context t .terms) (let y = terms-length t in omega arith) in
+    let n₂ = terms-length u in
+    record {
+      sound = z;
+      above = omega arith;
+      count = omega arith;
+      view =
+          v
+          ∙ ap (cut-terms j) (d .view)
+          ∙ (λ k. record { sorts = context t₀ .sorts; symbols = context t₀ .symbols; terms = take-take j i (context t₀ .terms) (omega arith) k });
+      long = omega arith;
+    }
+
+pub drop-done : (t₀ : List ℕ) (n : ℕ) (t : List ℕ) (i : ℕ) → Dropping t₀ n t i → i ≤ n → ContextSound t × (context t ≡ cut-terms n (context t₀))
+drop-done t₀ n t i d h = let a = d .above in let e : n ≡ i = omega arith in (d .sound, rw e (d .view))
 
 -- ---- whether declarations fit
 
@@ -150,7 +241,7 @@ sort-declared t n v node t₁ u z e q p e₁ e₂ =
     (ap (λ (x : ℕ). node-of (at u SORT x)) (sym e) ∙ ap node-of w ∙ p) in
     let symbols = symbols-view t u z y ys in
     let terms = terms-view t u z m ts in
-    accepted t (declare-sort (context t) node) u (continued-old t u z (terms# t) (terms# t) (omega arith) ys ts y refl)
+    accepted t (declare-sort (context t) node) u (continued-old t u z (terms# t) (terms# t) (omega arith) ys ts y refl (index-apart t u z (COUNTS ∷ SORT ∷ []) k ts tt tt))
     (λ i. record { sorts = sorts i; symbols = symbols i; terms = terms i })
 
 -- ---- one more symbol
@@ -231,7 +322,7 @@ module _ (t : List ℕ) (n owner result : ℕ) (params u : List ℕ) (a : Symbol
       record {
         sound =
             continued t u z (terms# t) (terms# t) (omega arith) ys ts (λ i h j. let e : i ≡ n = omega arith in rw e new-symbol-sound)
-            (λ i h j. absurd (omega arith));
+            (λ i h j. absurd (omega arith)) (index-apart t u z written (w .kept) ts tt tt);
         view = λ i. record { sorts = sorts i; symbols = symbols i; terms = terms i };
       }
 

@@ -7,10 +7,12 @@ use native.Mathlib.Omega.{arith}
 use lib.Dec.{T}
 use lib.ListN.{length}
 use Rattle.core.specs.Limits.{max-sorts, max-symbols, max-terms, max-places, max-params}
+use Rattle.core.specs.Term.{Term}
 use Rattle.core.specs.Context.{Context}
 use Rattle.core.specs.Memory.Words.{at, counted, stretch, clear-of, Kept}
-use Rattle.core.specs.Memory.Table.{table-words, SORT, OWNER, RESULT, ARITY, PARAMS, OP, OFFSET, POOL, core-room, sorts#, symbols#, terms#, digit, node-of, role-of, op-of, sort-at, param-at, symbol-at, args-at, term-at, context, SymbolSound, TermSound, ContextSound}
+use Rattle.core.specs.Memory.Table.{table-words, SORT, OWNER, RESULT, ARITY, PARAMS, OP, OFFSET, POOL, BUCKET, LINK, core-room, sorts#, symbols#, terms#, digit, node-of, role-of, op-of, sort-at, param-at, symbol-at, args-at, term-at, context, buckets, bucket, bucket-of, newest, SymbolSound, TermSound, IndexSound, ContextSound}
 use Rattle.core.proofs.Memory.Counted.{counted-same, stretch-same}
+use Rattle.core.proofs.Memory.Index.{newest-same}
 use Rattle.core.proofs.Memory.Views.{sorts-length, symbols-length, terms-length, offset-mono}
 
 -- the words of the first n sorts, symbols, terms are in u what they are in t
@@ -96,11 +98,35 @@ module _ (t u : List ℕ) (z : ContextSound t) where
           lower = λ j l r. let p = k .pool j (omega arith) in let q = w .lower j (omega arith) (omega arith) in omega arith;
         }
 
+  -- ---- the index of the first n terms
+
+  module _ (n : ℕ) (m : n ≤ terms# t) (k : TermsKept t u n) where
+    pub bucket-kept : (i : ℕ) → i < n → bucket-of u i ≡ bucket-of t i
+    unfolding bucket-of term-at
+    bucket-kept i h = ap₂ bucket (k .op i h) (ap (λ (x : Term). x .args) (term-kept n i m k h))
+
+    pub newest-kept : (h i : ℕ) → i ≤ n → newest (bucket-of u) h i ≡ newest (bucket-of t) h i
+    newest-kept h i l = newest-same (bucket-of t) h (bucket-of u) i (λ j g. bucket-kept j (omega arith))
+
+    pub links-kept : ((i : ℕ) → i < n → at u LINK i ≡ at t LINK i) → (i : ℕ) → i < n → at u LINK i ≡ newest (bucket-of u) (bucket-of u i) i
+    links-kept same i h =
+        same i h
+        ∙ z .index .links i (omega arith)
+        ∙ sym (ap (λ (x : ℕ). newest (bucket-of u) x i) (bucket-kept i h) ∙ newest-kept (bucket-of t i) i (omega arith))
+
+    pub once-kept : (i j : ℕ) → i < n → j < n → term-at u i ≡ term-at u j → i ≡ j
+    once-kept i j h l e = z .index .once i j (omega arith) (omega arith) (sym (term-kept n i m k h) ∙ e ∙ term-kept n j m k l)
+
+    -- it is sound by its heads, if the links are as they were
+    pub index-kept : ((h : ℕ) → h < buckets → at u BUCKET h ≡ newest (bucket-of t) h n) → ((i : ℕ) → i < n → at u LINK i ≡ at t LINK i) → IndexSound u n
+    index-kept heads links =
+        record { heads = λ h l. heads h l ∙ sym (newest-kept h n (omega arith)); links = links-kept links; once = once-kept }
+
   -- ---- the table and its view
 
   module _ (n m : ℕ) (g : Grows t u n m) (ys : SymbolsKept t u (symbols# t)) (ts : TermsKept t u n) where
-    pub continued : ((s : ℕ) → symbols# t ≤ s → s < symbols# u → SymbolSound u s) → ((i : ℕ) → n ≤ i → i < m → TermSound u i) → ContextSound u
-    continued new-symbols new-terms =
+    pub continued : ((s : ℕ) → symbols# t ≤ s → s < symbols# u → SymbolSound u s) → ((i : ℕ) → n ≤ i → i < m → TermSound u i) → IndexSound u m → ContextSound u
+    continued new-symbols new-terms index =
         let c = g .count in
         record {
           long = g .long;
@@ -115,6 +141,7 @@ module _ (t u : List ℕ) (z : ContextSound t) where
           start = ts .offset 0 (omega arith) ∙ z .start;
           terms = λ i h. each-term i (omega arith) (decLe n i);
           places-fit = rw c (g .places-fit);
+          index = rw c index;
         }
       where
         each-symbol : (s : ℕ) → s < symbols# u → Dec (symbols# t ≤ s) → SymbolSound u s
@@ -126,8 +153,8 @@ module _ (t u : List ℕ) (z : ContextSound t) where
         each-term i h (no l) = term-sound n i (g .within) ts (omega arith) (g .more-symbols)
 
     -- nothing new
-    pub continued-old : symbols# u ≡ symbols# t → m ≡ n → ContextSound u
-    continued-old e q = continued (λ s l h. absurd (omega arith)) (λ i l h. absurd (omega arith))
+    pub continued-old : symbols# u ≡ symbols# t → m ≡ n → IndexSound u m → ContextSound u
+    continued-old e q index = continued (λ s l h. absurd (omega arith)) (λ i l h. absurd (omega arith)) index
 
   pub sorts-view : sorts# u ≡ sorts# t → SortsKept t u (sorts# t) → context u .sorts ≡ context t .sorts
   unfolding context sort-at
@@ -170,3 +197,9 @@ module _ (t u : List ℕ) (z : ContextSound t) where
           offset = λ i h. k .rest OFFSET i b (omega arith);
           pool = λ j h. k .rest POOL j c (omega arith);
         }
+
+    pub index-apart : TermsKept t u (terms# t) → T (clear-of core-room BUCKET ws) → T (clear-of core-room LINK ws) → IndexSound u (terms# t)
+    index-apart ts a b =
+        let f = z .terms-fit in
+        index-kept (terms# t) (omega arith) ts (λ h l. k .rest BUCKET h a (omega arith) ∙ z .index .heads h l)
+        (λ i h. k .rest LINK i b (omega arith))

@@ -22,10 +22,6 @@ pub length-put-all : (t : List ℕ) (b x : ℕ) (vs : List ℕ) → length (put-
 unfolding put-all
 length-put-all t b x vs = length-sets t (b + x) vs
 
--- one store after others
-pub put-after : (t t₁ u : List ℕ) (b x v : ℕ) → u ≡ put t₁ b x v → t₁ ≡ t → u ≡ put t b x v
-put-after t t₁ u b x v e p = e ∙ ap (λ (l : List ℕ). put l b x v) p
-
 pub other-place : (t : List ℕ) (b x y v : ℕ) → (y ≡ x → ⊥) → at (put t b x v) b y ≡ at t b y
 unfolding at put
 other-place t b x y v d = getD-set-other t (b + x) (b + y) v 0 (λ e. d (omega arith))

@@ -6,9 +6,10 @@ use mathlib.Core.List.{List, [], _∷_, _++_, map, map-append}
 use mathlib.Core.Option.{Option, none, some}
 use native.Mathlib.Nat.{zero-add, add-assoc, lt-trans}
 use native.Mathlib.Numerals.{add-one}
+use native.Mathlib.Decide.{decLe, ℕ-discrete}
 use native.Mathlib.Omega.{arith}
 use borrow.Author.Tests.{eq-eqb, ne-eqb, eqb-true, not-false, le-leb, lt-leb}
-use lib.Dec.{eqb, leb, eqb·suc-suc}
+use lib.Dec.{T, eqb, leb, eqb→eq, eqb·suc-suc}
 use lib.ListN.{length, getD, length-append}
 use lib.Seq.{ext-getD}
 use Rattle.core.specs.Limits.{max-terms, max-places}
@@ -17,15 +18,17 @@ use Rattle.core.specs.Term.{Op, Eq, Uninterpreted, Term, same-op, same-t
 use Rattle.core.specs.Context as Context
 use Rattle.core.specs.Context.{Context, intern, mk-app, places, terms-fit}
 use Rattle.core.specs.Memory.Words.{at, put, put-all, Kept, counted, stretch}
-use Rattle.core.specs.Memory.Table.{table-words, COUNTS, SORTS, SYMBOLS, TERMS, OP, OFFSET, POOL, core-room, sorts#, symbols#, terms#, op-of, args-at, term-at, context, AllBelow, TermSound, ContextSound, FindsApp, MayIntern, MayApply, MayEquate, Appendable, Appended}
+use Rattle.core.specs.Memory.Table.{table-words, COUNTS, SORTS, SYMBOLS, TERMS, OP, OFFSET, POOL, BUCKET, LINK, core-room, sorts#, symbols#, terms#, op-of, args-at, term-at, context, buckets, bucket, bucket-of, newest, AllBelow, TermSound, IndexSound, ContextSound, FindsApp, MayIntern, MayApply, MayEquate, Appendable, Appended}
 use Rattle.core.specs.Memory.Codes.{made-answer, made-context, MkApp}
 use Rattle.core.specs.declared.context.Made as Made
-use Rattle.core.proofs.Lists.{and-no, same-list-true, same-list-false, same-list-longer}
+use Rattle.core.proofs.Lists.{T-and, true-T, and-no, same-list-eq, same-list-true, same-list-false, same-list-longer}
 use Rattle.core.proofs.Memory.Counted.{counted-more, counted-grown, counted-list, stretch-length, stretch-at}
-use Rattle.core.proofs.Memory.Searching.{NoneFrom, first-found, first-missing}
+use Rattle.core.proofs.Memory.Searching.{NoneFrom, none-yet, first-found, first-missing}
+use Rattle.core.proofs.Memory.Stores.{other-place}
 use Rattle.core.proofs.Memory.Regions.{stores}
+use Rattle.core.proofs.Memory.Index.{newest-is, newest-not, newest-found, newest-in}
 use Rattle.core.proofs.Memory.Views.{terms-length}
-use Rattle.core.proofs.Memory.Keeping.{TermsKept, Grows, continued, term-kept, sorts-view, symbols-view, sorts-apart, symbols-apart}
+use Rattle.core.proofs.Memory.Keeping.{TermsKept, Grows, continued, term-kept, newest-kept, links-kept, once-kept, sorts-view, symbols-view, sorts-apart, symbols-apart}
 
 -- ---- one term
 
@@ -85,28 +88,111 @@ module _ (t : List ℕ) (code : ℕ) (args : List ℕ) where
           ∙ ap₂ (λ (x y : ℕ). same-list args (stretch t POOL x (y - x))) p q
           ∙ ap (λ (b : Bool). b && same-list args (args-at t i)) (sym (same-op-codes code (at t OP i) ∙ eq-eqb code (at t OP i) (sym c ∙ o)))
 
-  -- ---- among the terms
+  -- a term that fits is the application, and the other way round
+  pub fits-term : (i : ℕ) → Fits t code args i ≡ true → term-at t i ≡ record { op = op-of code; args = args }
+  unfolding same-term term-at
+  fits-term i e =
+      let (o, l) = T-and (same-op (op-of code) (op-of (at t OP i))) (same-list args (args-at t i)) (true-T (Fits t code args i) e) in
+      let same = eqb→eq code (at t OP i) (subst T (same-op-codes code (at t OP i)) o) in
+      λ j. record { op = op-of (sym same j); args = sym (same-list-eq args (args-at t i) l) j }
 
-  pub app-found : (i n : ℕ) → n ≡ terms# t → i < n → NoneFrom (Fits t code args) 0 i → true ≡ Fits t code args i → FindsApp t code args i
-  unfolding context
-  app-found i n e h w s = record {
-    within = omega arith;
-    found = λ l. first-found (same-term (op-of code) args) (term-at t) (terms# t) i l w (sym s);
-    missing = λ q. absurd (omega arith);
-  }
+  term-fits : (i : ℕ) → term-at t i ≡ record { op = op-of code; args = args } → Fits t code args i ≡ true
+  unfolding same-term
+  term-fits i e =
+      ap (same-term (op-of code) args) e
+      ∙ ap₂ (λ (a b : Bool). a && b) (same-op-codes code code ∙ eq-eqb code code refl) (same-list-true args args refl (λ k l. refl))
 
-  pub app-missing : (i n : ℕ) → n ≡ terms# t → i ≤ n → n ≤ i → NoneFrom (Fits t code args) 0 i → FindsApp t code args i
-  unfolding context
-  app-missing i n e h g w = record {
-    within = omega arith;
-    found = λ l. absurd (omega arith);
-    missing = λ q. first-missing (same-term (op-of code) args) (term-at t) (terms# t) (λ k a b. w k a (omega arith));
-  }
+  -- and stands in the bucket of the application
+  other-bucket : (i : ℕ) → (bucket-of t i ≡ bucket code args → ⊥) → Fits t code args i ≡ false
+  unfolding same-term term-at bucket-of
+  other-bucket i d = go (Fits t code args i) refl
+    where
+      go : (b : Bool) → Fits t code args i ≡ b → b ≡ false
+      go false e = refl
+      go true e =
+          let (o, l) = T-and (same-op (op-of code) (op-of (at t OP i))) (same-list args (args-at t i)) (true-T (Fits t code args i) e) in
+          let same = eqb→eq code (at t OP i) (subst T (same-op-codes code (at t OP i)) o) in
+          absurd (d (sym (ap₂ bucket same (same-list-eq args (args-at t i) l))))
+
+  -- ---- among the terms of a bucket
+
+  -- none from k on fits, and term k - 1 stands in bucket h, if k is not 0
+  pub record Walking (h k : ℕ) : Type 0 where
+    pub within : k ≤ terms# t
+    pub here : newest (bucket-of t) h k ≡ k
+    pub rest : NoneFrom (Fits t code args) k (terms# t)
+
+  module _ (z : ContextSound t) (h : ℕ) (e : h ≡ bucket code args) where
+    -- the walk goes on from the newest before term n
+    onwards : (n k : ℕ) → n ≤ terms# t → k ≡ newest (bucket-of t) h n → NoneFrom (Fits t code args) n (terms# t) → Walking h k
+    onwards n k m q w =
+        let f = newest-found (bucket-of t) h n in
+        let within = f .within in
+        record {
+          within = omega arith;
+          here = rw q (f .here);
+          rest = λ j l g. each j l g (decLe n j);
+        }
+      where
+        each : (j : ℕ) → k ≤ j → j < terms# t → Dec (n ≤ j) → Fits t code args j ≡ false
+        each j l g (yes o) = w j o g
+        each j l g (no o) = other-bucket j (λ b. newest-found (bucket-of t) h n .after j (omega arith) (omega arith) (b ∙ sym e))
+
+    pub walk-first : (k : ℕ) → h < buckets → k ≡ at t BUCKET h → Walking h k
+    walk-first k l q = onwards (terms# t) k (omega arith) (q ∙ z .index .heads h l) (none-yet (Fits t code args) (terms# t))
+
+    module _ (k : ℕ) (n : k ≡ 0 → ⊥) (w : Walking h k) where
+      in-bucket : bucket-of t (k - 1) ≡ h
+      in-bucket =
+          let p : k ≡ suc (k - 1) = omega arith in
+          newest-in (bucket-of t) h (k - 1) (subst (λ (x : ℕ). newest (bucket-of t) h x ≡ x) p (w .here))
+
+      pub walk-next : (r : ℕ) → r ≡ at t LINK (k - 1) → Fits t code args (k - 1) ≡ false → Walking h r × (r < k)
+      walk-next r q no-fit =
+          let within = w .within in
+          let i : r ≡ newest (bucket-of t) h (k - 1) =
+          q ∙ z .index .links (k - 1) (omega arith) ∙ ap (λ (x : ℕ). newest (bucket-of t) x (k - 1)) in-bucket in
+          let f = newest-found (bucket-of t) h (k - 1) .within in
+          (onwards (k - 1) r (omega arith) i (λ j l g. each j l g (decLe k j)), omega arith)
+        where
+          each : (j : ℕ) → k - 1 ≤ j → j < terms# t → Dec (k ≤ j) → Fits t code args j ≡ false
+          each j l g (yes o) = w .rest j o g
+          each j l g (no o) = let p : j ≡ k - 1 = omega arith in rw p no-fit
+
+      -- no term stands twice, so none below it fits
+      pub walk-found : true ≡ Fits t code args (k - 1) → FindsApp t code args (k - 1)
+      unfolding context
+      walk-found s =
+          let within = w .within in
+          record {
+            within = omega arith;
+            found = λ l. first-found (same-term (op-of code) args) (term-at t) (terms# t) (k - 1) l (λ j a b. lower j b (Fits t code args j) refl) (sym s);
+            missing = λ q. absurd (omega arith);
+            new = λ q. absurd (omega arith);
+          }
+        where
+          lower : (j : ℕ) → j < k - 1 → (b : Bool) → Fits t code args j ≡ b → b ≡ false
+          lower j l false q = refl
+          lower j l true q =
+              let within = w .within in
+              let i = z .index .once j (k - 1) (omega arith) (omega arith) (fits-term j q ∙ sym (fits-term (k - 1) (sym s))) in
+              absurd (omega arith)
+
+    pub walk-missing : (k n : ℕ) → k ≡ 0 → Walking h k → n ≡ terms# t → FindsApp t code args n
+    unfolding context
+    walk-missing k n q w p =
+        let rest : NoneFrom (Fits t code args) 0 (terms# t) = λ j l g. w .rest j (omega arith) g in
+        record {
+          within = omega arith;
+          found = λ l. absurd (omega arith);
+          missing = λ o. first-missing (same-term (op-of code) args) (term-at t) (terms# t) rest;
+          new = λ o i l. rest i (omega arith) (omega arith);
+        }
 
 -- ---- one more term
 
 -- what its stores leave
-record TermWritten (t : List ℕ) (n start code : ℕ) (args u : List ℕ) : Type 0 where
+record TermWritten (t : List ℕ) (n start code : ℕ) (args : List ℕ) (h : ℕ) (u : List ℕ) : Type 0 where
   long : table-words ≤ length u
   sorts : sorts# u ≡ sorts# t
   symbols : symbols# u ≡ symbols# t
@@ -115,50 +201,62 @@ record TermWritten (t : List ℕ) (n start code : ℕ) (args u : List ℕ) : Typ
   end : at u OFFSET (n + 1) ≡ start + length args
   pool : (j : ℕ) → j < length args → at u POOL (start + j) ≡ getD args j 0
   terms : TermsKept t u n
-  kept : Kept core-room (COUNTS ∷ OP ∷ OFFSET ∷ POOL ∷ []) t u
+  link : at u LINK n ≡ at t BUCKET h
+  links : (i : ℕ) → i < n → at u LINK i ≡ at t LINK i
+  head : at u BUCKET h ≡ n + 1
+  heads : (x : ℕ) → x < buckets → (x ≡ h → ⊥) → at u BUCKET x ≡ at t BUCKET x
+  kept : Kept core-room (COUNTS ∷ OP ∷ OFFSET ∷ POOL ∷ BUCKET ∷ LINK ∷ []) t u
 
-term-written : (t : List ℕ) (n start code : ℕ) (args t₁ t₂ t₃ u : List ℕ) → Appendable t n start code args → t₁ ≡ put-all t POOL start args →
-    t₂ ≡ put t₁ OP n code → t₃ ≡ put t₂ OFFSET (n + 1) (start + length args) → u ≡ put t₃ COUNTS TERMS (n + 1) → TermWritten t n start code args u
-term-written t n start code args t₁ t₂ t₃ u a e₁ e₂ e₃ e₄ =
-    let l : table-words ≤ length t = a .sound .long in
-    let r : n < max-terms = a .room in
-    let r₁ : n + 1 < 1025 = omega arith in
-    let p : start + length args ≤ max-places = a .places in
-    record {
-      long = search (e₄, e₃, e₂, e₁, stores);
-      sorts = search (e₄, e₃, e₂, e₁, stores);
-      symbols = search (e₄, e₃, e₂, e₁, stores);
-      count = search (e₄, e₃, e₂, e₁, stores);
-      op = search (e₄, e₃, e₂, e₁, stores);
-      end = search (e₄, e₃, e₂, e₁, stores);
-      pool = λ j h. let q : start + j < max-places = omega arith in search (e₄, e₃, e₂, e₁, stores) depth 9;
-      terms = record {
-        op = λ i h. let q : i < max-terms = omega arith in search (e₄, e₃, e₂, e₁, stores);
-        offset = λ i h. let q : i < n + 1 = omega arith in let g : i < 1025 = omega arith in search (e₄, e₃, e₂, e₁, stores);
-        pool =
-            λ j h.
-            let b = a .begins in
-            let q : j < start = omega arith in
-            let g : j < max-places = omega arith in
-            search (e₄, e₃, e₂, e₁, stores);
-      };
-      kept = rw (e₄, e₃, e₂, e₁) (search stores depth 9);
-    }
+module _ (t : List ℕ) (n start code : ℕ) (args : List ℕ) (h o : ℕ) (t₁ t₂ t₃ t₄ t₅ u : List ℕ) (a : Appendable t n start code args) where
+  term-written : h < buckets → o ≡ at t BUCKET h → t₁ ≡ put t LINK n o → t₂ ≡ put t₁ BUCKET h (n + 1) → t₃ ≡ put-all t₂ POOL start args →
+      t₄ ≡ put t₃ OP n code → t₅ ≡ put t₄ OFFSET (n + 1) (start + length args) → u ≡ put t₅ COUNTS TERMS (n + 1) → TermWritten t n start code args h u
+  term-written b e e₁ e₂ e₃ e₄ e₅ e₆ =
+      let l : table-words ≤ length t = a .sound .long in
+      let r : n < max-terms = a .room in
+      let r₁ : n + 1 < 1025 = omega arith in
+      let p : start + length args ≤ max-places = a .places in
+      let c : h < 1024 = omega arith in
+      record {
+        long = search (e₆, e₅, e₄, e₃, e₂, e₁, stores) depth 9;
+        sorts = search (e₆, e₅, e₄, e₃, e₂, e₁, stores) depth 9;
+        symbols = search (e₆, e₅, e₄, e₃, e₂, e₁, stores) depth 9;
+        count = search (e₆, e₅, e₄, e₃, e₂, e₁, stores) depth 9;
+        op = search (e₆, e₅, e₄, e₃, e₂, e₁, stores) depth 9;
+        end = search (e₆, e₅, e₄, e₃, e₂, e₁, stores) depth 9;
+        pool = λ j q. let d : start + j < max-places = omega arith in search (e₆, e₅, e₄, e₃, e₂, e₁, stores) depth 9;
+        terms = record {
+          op = λ i q. let d : i < max-terms = omega arith in search (e₆, e₅, e₄, e₃, e₂, e₁, stores) depth 9;
+          offset = λ i q. let d : i < n + 1 = omega arith in let g : i < 1025 = omega arith in search (e₆, e₅, e₄, e₃, e₂, e₁, stores) depth 9;
+          pool =
+              λ j q.
+              let i = a .begins in
+              let d : j < start = omega arith in
+              let g : j < max-places = omega arith in
+              search (e₆, e₅, e₄, e₃, e₂, e₁, stores) depth 9;
+        };
+        link = search (e₆, e₅, e₄, e₃, e₂, e₁, e, stores) depth 9;
+        links = λ i q. let d : i < max-terms = omega arith in search (e₆, e₅, e₄, e₃, e₂, e₁, stores) depth 9;
+        head = search (e₆, e₅, e₄, e₃, e₂, e₁, stores) depth 9;
+        heads = λ x q d. let g : x < 1024 = omega arith in search (e₆, e₅, e₄, e₃, e₂, e₁, stores, other-place) depth 9;
+        kept = rw (e₆, e₅, e₄, e₃, e₂, e₁) (search stores depth 9);
+      }
 
-module _ (t : List ℕ) (n start code : ℕ) (args u : List ℕ) (a : Appendable t n start code args) (w : TermWritten t n start code args u) where
+module _ (t : List ℕ) (n start code : ℕ) (args : List ℕ) (h : ℕ) (u : List ℕ) (a : Appendable t n start code args) (w : TermWritten t n start code args h u) where
   starts : at u OFFSET n ≡ start
   starts = w .terms .offset n (omega arith) ∙ sym (a .begins)
 
-  new-term : term-at u n ≡ record { op = op-of code; args = args }
-  unfolding term-at args-at stretch
-  new-term =
+  new-args : args-at u n ≡ args
+  unfolding args-at stretch
+  new-args =
       let o = starts in
       let e = w .end in
       let l : at u OFFSET (n + 1) - at u OFFSET n ≡ length args = omega arith in
-      let is : args-at u n ≡ args =
       ap (λ (x : ℕ). stretch u POOL x (at u OFFSET (n + 1) - at u OFFSET n)) o
-      ∙ counted-list (λ j. at u POOL (start + j)) (at u OFFSET (n + 1) - at u OFFSET n) args l (w .pool) in
-      λ i. record { op = op-of (w .op i); args = is i }
+      ∙ counted-list (λ j. at u POOL (start + j)) (at u OFFSET (n + 1) - at u OFFSET n) args l (w .pool)
+
+  new-term : term-at u n ≡ record { op = op-of code; args = args }
+  unfolding term-at
+  new-term = λ i. record { op = op-of (w .op i); args = new-args i }
 
   new-term-sound : TermSound u n
   new-term-sound =
@@ -167,35 +265,78 @@ module _ (t : List ℕ) (n start code : ℕ) (args u : List ℕ) (a : Appendable
         op = omega arith;
         rise = omega arith;
         lower =
-            λ j l h.
+            λ j l g.
             let q : start + (j - start) ≡ j = omega arith in
             let p = w .pool (j - start) (omega arith) in
             let m = a .terms (j - start) (omega arith) in
             rw (← q) (omega arith);
       }
 
-  appended : Appended t code args u
+  old-term : (i : ℕ) → i < n → term-at u i ≡ term-at t i
+  old-term i l = term-kept t u (a .sound) n i (omega arith) (w .terms) l
+
+  -- the term is the newest of its bucket
+  module _ (e : h ≡ bucket code args) where
+    new-bucket : bucket-of u n ≡ h
+    unfolding bucket-of
+    new-bucket = ap₂ bucket (w .op) new-args ∙ sym e
+
+    old-newest : (x : ℕ) → x < buckets → at t BUCKET x ≡ newest (bucket-of u) x n
+    old-newest x l =
+        a .sound .index .heads x l
+        ∙ ap (newest (bucket-of t) x) (sym (a .next))
+        ∙ sym (newest-kept t u (a .sound) n (omega arith) (w .terms) x n (omega arith))
+
+    new-heads : (x : ℕ) → x < buckets → Dec (x ≡ h) → at u BUCKET x ≡ newest (bucket-of u) x (suc n)
+    new-heads x l (yes q) =
+        let i = w .head in
+        ap (at u BUCKET) q ∙ i ∙ add-one n ∙ sym (newest-is (bucket-of u) x n (new-bucket ∙ sym q))
+    new-heads x l (no d) =
+        w .heads x l d ∙ old-newest x l ∙ sym (newest-not (bucket-of u) x n (λ q. d (sym q ∙ new-bucket)))
+
+    new-links : h < buckets → (i : ℕ) → i < n + 1 → Dec (i ≡ n) → at u LINK i ≡ newest (bucket-of u) (bucket-of u i) i
+    new-links b i l (yes q) = rw (q, new-bucket) (w .link ∙ old-newest h b)
+    new-links b i l (no d) = links-kept t u (a .sound) n (omega arith) (w .terms) (w .links) i (omega arith)
+
+    not-old : (i : ℕ) → i < n → term-at u i ≡ term-at u n → ⊥
+    not-old i l q = true≢false (sym (term-fits t code args i (sym (old-term i l) ∙ q ∙ new-term)) ∙ a .new i l)
+
+    new-once : (i j : ℕ) → i < n + 1 → j < n + 1 → Dec (i ≡ n) → Dec (j ≡ n) → term-at u i ≡ term-at u j → i ≡ j
+    new-once i j l m (yes p) (yes q) o = omega arith
+    new-once i j l m (yes p) (no d) o = absurd (not-old j (omega arith) (sym o ∙ ap (term-at u) p))
+    new-once i j l m (no d) (yes q) o = absurd (not-old i (omega arith) (o ∙ ap (term-at u) q))
+    new-once i j l m (no d) (no c) o = once-kept t u (a .sound) n (omega arith) (w .terms) i j (omega arith) (omega arith) o
+
+    new-index : h < buckets → IndexSound u (n + 1)
+    new-index b = record {
+      heads = λ x l. new-heads x l (ℕ-discrete x h) ∙ ap (newest (bucket-of u) x) (sym (add-one n));
+      links = λ i l. new-links b i l (ℕ-discrete i n);
+      once = λ i j l m. new-once i j l m (ℕ-discrete i n) (ℕ-discrete j n);
+    }
+
+  appended : h ≡ bucket code args → h < buckets → Appended t code args u
   unfolding context intern
-  appended =
+  appended e b =
       let z = a .sound in
-      let written = COUNTS ∷ OP ∷ OFFSET ∷ POOL ∷ [] in
+      let written = COUNTS ∷ OP ∷ OFFSET ∷ POOL ∷ BUCKET ∷ LINK ∷ [] in
       let ys = symbols-apart t u z written (w .kept) tt tt tt tt in
       let sorts = sorts-view t u z (w .sorts) (sorts-apart t u z written (w .kept) tt) in
       let symbols = symbols-view t u z (w .symbols) ys in
       let terms : counted (term-at u) (terms# u) ≡ counted (term-at t) (terms# t) ++ (record { op = op-of code; args = args } ∷ []) =
       counted-grown (term-at t) (term-at u) (terms# t) (terms# u) (record { op = op-of code; args = args }) (omega arith)
-      (λ i h. term-kept t u z n i (omega arith) (w .terms) (omega arith)) (ap (term-at u) (sym (a .next)) ∙ new-term) in
+      (λ i l. old-term i (omega arith)) (ap (term-at u) (sym (a .next)) ∙ new-term) in
       record {
         sound =
-            continued t u z n (n + 1) (omega arith) ys (w .terms) (λ s l h. absurd (omega arith))
-            (λ i l h. let e : i ≡ n = omega arith in rw e new-term-sound);
+            continued t u z n (n + 1) (omega arith) ys (w .terms) (λ s l g. absurd (omega arith))
+            (λ i l g. let q : i ≡ n = omega arith in rw q new-term-sound) (new-index e b);
         view = λ i. record { sorts = sorts i; symbols = symbols i; terms = terms i };
       }
 
-pub append : {t : List ℕ} {n start code : ℕ} {args t₁ t₂ t₃ u : List ℕ} → Appendable t n start code args → t₁ ≡ put-all t POOL start args →
-    t₂ ≡ put t₁ OP n code → t₃ ≡ put t₂ OFFSET (n + 1) (start + length args) → u ≡ put t₃ COUNTS TERMS (n + 1) → Appended t code args u
-append {t} {n} {start} {code} {args} {t₁} {t₂} {t₃} {u} a e₁ e₂ e₃ e₄ =
-    appended t n start code args u a (term-written t n start code args t₁ t₂ t₃ u a e₁ e₂ e₃ e₄)
+module _ {t : List ℕ} {n start code : ℕ} {args : List ℕ} {h o : ℕ} {t₁ t₂ t₃ t₄ t₅ u : List ℕ} (a : Appendable t n start code args) where
+  pub append : h ≡ bucket code args → h < buckets → o ≡ at t BUCKET h → t₁ ≡ put t LINK n o → t₂ ≡ put t₁ BUCKET h (n + 1) →
+      t₃ ≡ put-all t₂ POOL start args → t₄ ≡ put t₃ OP n code → t₅ ≡ put t₄ OFFSET (n + 1) (start + length args) → u ≡ put t₅ COUNTS TERMS (n + 1) → Appended t code args u
+  append e b q e₁ e₂ e₃ e₄ e₅ e₆ =
+      appended t n start code args h u a (term-written t n start code args h o t₁ t₂ t₃ t₄ t₅ u a b q e₁ e₂ e₃ e₄ e₅ e₆) e b
 
 -- ---- argument places
 
@@ -325,9 +466,11 @@ module _ (t : List ℕ) (code : ℕ) (args : List ℕ) (z : ContextSound t) (n k
         (ap (λ (x : Context.Made). terms-fit (x .context)) m ∙ fits (intern (context t) (op-of code) args none .context) (omega arith) (omega arith))
         (a .sound) (e ∙ sym (terms-length t) ∙ sym (ap (λ (x : Context.Made). x .id) m)) (a .view ∙ sym (ap (λ (x : Context.Made). x .context) m))
 
-pub appendable : (t : List ℕ) (n start code : ℕ) (args : List ℕ) → MayIntern t code args → n ≡ terms# t → (n ≡ max-terms → ⊥) → start ≡ at t OFFSET n → length args ≤ max-places - start → Appendable t n start code args
-appendable t n start code args m e r o h =
+pub appendable : {t : List ℕ} {n k start code : ℕ} {args : List ℕ} → MayIntern t code args → n ≡ terms# t → FindsApp t code args k → n ≤ k → (n ≡ max-terms → ⊥) →
+    start ≡ at t OFFSET n → length args ≤ max-places - start → Appendable t n start code args
+appendable {t} {n} {start = start} m e f g r o h =
     let z = m .sound in
+    let w = f .within in
     let p : start ≡ at t OFFSET (terms# t) = o ∙ ap (at t OFFSET) e in
     record {
       sound = z;
@@ -337,6 +480,7 @@ appendable t n start code args m e r o h =
       places = omega arith;
       declared = m .declared;
       terms = λ j l. let q = m .terms j l in omega arith;
+      new = λ i l. f .new (omega arith) i (omega arith);
     }
 
 -- ---- the two public ways to make a term

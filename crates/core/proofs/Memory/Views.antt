@@ -12,7 +12,7 @@ use Rattle.core.specs.Sort.{BoolSort, is-datatype}
 use Rattle.core.specs.Term.{Symbol, Term}
 use Rattle.core.specs.Context.{Context, sort-node, is-datatype-sort, no-symbol, symbol, no-term, term, children}
 use Rattle.core.specs.Memory.Words.{at, counted, stretch}
-use Rattle.core.specs.Memory.Table.{SORT, OWNER, RESULT, ARITY, OP, OFFSET, POOL, sorts#, symbols#, terms#, node-of, role-of, op-of, sort-at, param-at, symbol-at, args-at, term-at, context, ContextSound, HasParam, HasParamWord}
+use Rattle.core.specs.Memory.Table.{SORT, OWNER, RESULT, ARITY, OP, OFFSET, POOL, sorts#, symbols#, terms#, node-of, role-of, op-of, sort-at, param-at, symbol-at, args-at, term-at, context, bucket, bucket-of, ContextSound, HasParam, HasParamWord}
 use Rattle.core.proofs.Memory.Counted.{counted-length, counted-at, part-is-stretch}
 
 module _ (t : List ℕ) where
@@ -92,6 +92,10 @@ module _ (t : List ℕ) where
   pub op-is : (x : ℕ) → x < terms# t → op-of (at t OP x) ≡ term (context t) x .op
   unfolding term-at
   op-is x h = ap (λ (n : Term). n .op) (sym (term-is x h))
+
+  pub stored-bucket : (x code : ℕ) (args : List ℕ) (h : ℕ) → x < terms# t → code ≡ at t OP x → args ≡ children (context t) x → h ≡ bucket code args → h ≡ bucket-of t x
+  unfolding bucket-of children term-at
+  stored-bucket x code args h l o a e = e ∙ ap₂ bucket o (a ∙ ap (λ (y : Term). y .args) (term-is x l))
 
   -- offsets rise
   pub offset-le : ContextSound t → (i n : ℕ) → i + n ≤ terms# t → at t OFFSET i ≤ at t OFFSET (i + n)

@@ -2,8 +2,9 @@
 use Prim.Native.Nat.{ℕ, zero, suc, _+_, _-_, _*_, _/_, _%_, _≤_, _<_}
 use mathlib.Core.Path.{_≡_}
 use mathlib.Core.List.{List, [], _∷_}
-use mathlib.Core.Bool.{true, false}
+use mathlib.Core.Bool.{true, false, cond}
 use mathlib.Core.Option.{none, some}
+use lib.Dec.{eqb}
 use lib.ListN.{length, getD}
 use Rattle.core.specs.Limits.{max-sorts, max-symbols, max-terms, max-places, max-params}
 use Rattle.core.specs.Lists.{place-from}
@@ -64,7 +65,14 @@ OFFSET = 2688
 abbrev pub POOL : ℕ
 POOL = 3840
 
--- The words from 10,240 on are free.
+-- the index: for each bucket one more than the newest term in it, or 0; and for each term the same of the terms before it in its bucket
+abbrev pub BUCKET : ℕ
+BUCKET = 10240
+
+abbrev pub LINK : ℕ
+LINK = 11264
+
+-- The words from 12,288 on are free; at least 2,048 are to stay so.
 abbrev pub layout : List (ℕ × ℕ)
 layout =
     (COUNTS, 64)
@@ -76,6 +84,8 @@ layout =
     ∷ (OFFSET, 1025)
     ∷ (POOL, 4096)
     ∷ (PARAMS, 2048)
+    ∷ (BUCKET, 1024)
+    ∷ (LINK, 1024)
     ∷ []
 
 abbrev pub core-room : ℕ → ℕ
@@ -155,6 +165,25 @@ context t = record {
   terms = counted (term-at t) (terms# t);
 }
 
+-- ---- the index
+
+-- how many buckets there are
+abbrev pub buckets : ℕ
+buckets = 1021
+
+-- the bucket of a code over arguments
+unfoldable pub bucket : ℕ → List ℕ → ℕ
+bucket h [] = h
+bucket h (x ∷ xs) = bucket ((31 * h + x) % buckets) xs
+
+unfoldable pub bucket-of : List ℕ → ℕ → ℕ
+bucket-of t i = bucket (at t OP i) (args-at t i)
+
+-- one more than the newest of n terms in bucket h, or 0
+unfoldable pub newest : (ℕ → ℕ) → ℕ → ℕ → ℕ
+newest hash h zero = 0
+newest hash h (suc n) = let r = newest hash h n in cond (eqb (hash n) h) (suc n) r
+
 -- every number of a list is below n
 abbrev pub AllBelow : ℕ → List ℕ → Type 0
 AllBelow n xs = (j : ℕ) → j < length xs → getD xs j 0 < n
@@ -174,6 +203,12 @@ pub record TermSound (t : List ℕ) (i : ℕ) : Type 0 where
   pub rise : at t OFFSET i ≤ at t OFFSET (i + 1)
   pub lower : (j : ℕ) → at t OFFSET i ≤ j → j < at t OFFSET (i + 1) → at t POOL j < i
 
+-- the first n terms are found by the index, and none of them stands twice
+pub record IndexSound (t : List ℕ) (n : ℕ) : Type 0 where
+  pub heads : (h : ℕ) → h < buckets → at t BUCKET h ≡ newest (bucket-of t) h n
+  pub links : (i : ℕ) → i < n → at t LINK i ≡ newest (bucket-of t) (bucket-of t i) i
+  pub once : (i j : ℕ) → i < n → j < n → term-at t i ≡ term-at t j → i ≡ j
+
 pub record ContextSound (t : List ℕ) : Type 0 where
   pub long : table-words ≤ length t
   -- the counts are those of what the table means
@@ -190,6 +225,7 @@ pub record ContextSound (t : List ℕ) : Type 0 where
   pub start : at t OFFSET 0 ≡ 0
   pub terms : (i : ℕ) → i < terms# t → TermSound t i
   pub places-fit : at t OFFSET (terms# t) ≤ max-places
+  pub index : IndexSound t (terms# t)
 
 -- ---- what the functions on a table ask and promise
 
@@ -210,6 +246,7 @@ pub record FindsApp (t : List ℕ) (code : ℕ) (args : List ℕ) (r : ℕ) : Ty
   pub within : r ≤ terms# t
   pub found : r < terms# t → place-from 0 (same-term (op-of code) args) (context t .terms) ≡ some r
   pub missing : r ≡ terms# t → place-from 0 (same-term (op-of code) args) (context t .terms) ≡ none
+  pub new : r ≡ terms# t → (i : ℕ) → i < r → same-term (op-of code) args (term-at t i) ≡ false
 
 -- the operation of a code is declared, and the arguments are terms
 pub record MayIntern (t : List ℕ) (code : ℕ) (args : List ℕ) : Type 0 where
@@ -236,6 +273,7 @@ pub record Appendable (t : List ℕ) (n start code : ℕ) (args : List ℕ) : Ty
   pub places : start + length args ≤ max-places
   pub declared : code ≤ symbols# t
   pub terms : AllBelow n args
+  pub new : (i : ℕ) → i < n → same-term (op-of code) args (term-at t i) ≡ false
 
 -- the term stands at the end of the terms
 pub record Appended (t : List ℕ) (code : ℕ) (args : List ℕ) (u : List ℕ) : Type 0 where
@@ -277,6 +315,11 @@ pub record SelectorRoom (t : List ℕ) (c dt : ℕ) (fields : List ℕ) : Type 0
 pub record SymbolsAdded (t : List ℕ) (new : List Symbol) (u : List ℕ) : Type 0 where
   pub sound : ContextSound u
   pub view : context u ≡ with-symbols (context t) new
+
+-- no bucket has a term
+pub record NoTerms (t : List ℕ) : Type 0 where
+  pub long : table-words ≤ length t
+  pub heads : (h : ℕ) → h < buckets → at t BUCKET h ≡ 0
 
 -- r is the lowest constructor of dt from symbol `from` on, or the number of symbols if there is none
 pub record NextConstructor (t : List ℕ) (dt from r : ℕ) : Type 0 where

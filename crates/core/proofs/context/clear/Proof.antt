@@ -1,4 +1,4 @@
--- Of an empty table nothing but the counts, Bool and the first offset is read.
+-- Of an empty table nothing but the counts, Bool, the first offset and the buckets is read.
 use borrow.Author.Needs.{needs}
 use Rattle.core.proofs.Memory.Declarations.{cleared}
 use Rattle.core.proofs.context.clear.Statement.{statement}
@@ -11,11 +11,11 @@ returns c =
     let third = fourth .before .before .before .before in
     let second = third .before .before .before .before in
     let first = second .before .before .before .before in
-    let entry = first .before .before .before in
-    cleared (entry .args .t .now) (entry .pre) (first .put-at .ensures) (second .put-at2 .ensures) (third .put-at3 .ensures)
+    let buckets = first .before .before .before .before in
+    cleared (buckets .clear-buckets .ensures) (first .put-at .ensures) (second .put-at2 .ensures) (third .put-at3 .ensures)
     (fourth .put-at4 .ensures) (fifth .put-at5 .ensures)
 
 pub clear-spec : {M : Type 1} → statement M
 clear-spec =
     tie.close (tie.spec (λ c κs. search needs) (λ c κs. search needs) (λ c κs. search needs) (λ c κs. search needs)
-    (λ c κs. search needs) (λ c. search needs) returns)
+    (λ c κs. search needs) (λ c κs. search needs) (λ c. search needs) returns)

@@ -1,34 +1,56 @@
--- No term below i fits.
+-- The terms of the bucket from k on do not fit; each is found once, so the one that fits is the lowest.
 use borrow.Author.Needs.{needs}
-use Prim.Native.Nat.{_-_, _≤_}
 use mathlib.Core.Path.{sym, _∙_}
 use native.Mathlib.Omega.{arith}
-use Rattle.core.proofs.Memory.Searching.{NoneFrom, none-yet, none-more}
-use Rattle.core.proofs.Memory.Terms.{Fits, app-found, app-missing}
+use Rattle.core.proofs.Memory.Terms.{Walking, walk-first, walk-next, walk-found, walk-missing}
 use Rattle.core.proofs.context.find_app.Statement.{statement}
 use Rattle.core.proofs.context.find_app.Tie as tie
 
 abbrev Inv-loop : tie.InvT-loop
-Inv-loop t code args n i₀ i = (i ≤ n) × NoneFrom (Fits t code args) 0 i
+Inv-loop t code args h k₀ k = Walking t code args h k
 
 abbrev μ-loop : tie.MeasureT-loop
-μ-loop t code args n i₀ i = n - i
+μ-loop t code args h k₀ k = k
+
+get-at-requires : tie.Need-get-at-requires Inv-loop μ-loop
+get-at-requires c κs = let z = c .before .before .before .pre in let b = c .hash-app .ensures .1 in omega arith
+
+loop-holds : tie.Need-loop-holds Inv-loop μ-loop
+loop-holds c =
+    let b = c .before .hash-app .ensures in walk-first _ _ _ (c .before .before .before .before .pre .0) _ (b .0) _ (b .1) (c .get-at .ensures .0)
+
+is-app-requires : tie.Need-is-app-requires Inv-loop μ-loop
+is-app-requires c κs =
+    let w = c .before .loop .inv .within in let n = c .loop-test .taken in (c .before .before .before .before .before .before .pre .0, omega arith)
 
 returns : tie.Need-returns Inv-loop μ-loop
 returns c =
     let s = sym (c .if1 .taken) ∙ c .before .is-app .ensures in
-    app-found _ _ _ _ _ (c .before .before .before .before .get-at .ensures .0) (c .before .before .loop-test .taken) (c .before .before .before .loop .inv .1) s
+    walk-found _ _ _ (c .before .before .before .before .before .before .before .before .pre .0) _ (c .before .before .before .before .before .hash-app .ensures .0) _ (c .before .before .loop-test .taken) (c .before .before .before .loop .inv) s
+
+get-at-requires-2 : tie.Need-get-at-requires-2 Inv-loop μ-loop
+get-at-requires-2 c κs =
+    let w = c .before .before .before .loop .inv .within in let z = c .before .before .before .before .before .before .before .before .pre .0 in omega arith
+
+loop-less : tie.Need-loop-less Inv-loop μ-loop
+loop-less c =
+    let s = sym (c .before .before .is-app .ensures) ∙ c .before .if1 .left in
+    walk-next _ _ _ (c .before .before .before .before .before .before .before .before .before .pre .0) _ (c .before .before .before .before .before .before .hash-app .ensures .0) _ (c .before .before .before .loop-test .taken) (c .before .before .before .before .loop .inv) _ (c .get-at2 .ensures .0) s .1
 
 loop-again : tie.Need-loop-again Inv-loop μ-loop
 loop-again c =
-    (search needs, none-more _ 0 _ (c .before .before .before .loop .inv .1) (sym (c .before .is-app .ensures) ∙ c .if1 .left))
+    let s = sym (c .before .before .is-app .ensures) ∙ c .before .if1 .left in
+    walk-next _ _ _ (c .before .before .before .before .before .before .before .before .before .pre .0) _ (c .before .before .before .before .before .before .hash-app .ensures .0) _ (c .before .before .before .loop-test .taken) (c .before .before .before .before .loop .inv) _ (c .get-at2 .ensures .0) s .0
+
+get-at-requires-3 : tie.Need-get-at-requires-3 Inv-loop μ-loop
+get-at-requires-3 c κs = let z = c .before .before .before .before .before .before .pre .0 .long in omega arith
 
 returns-2 : tie.Need-returns-2 Inv-loop μ-loop
 returns-2 c =
-    let i = c .before .loop .inv in app-missing _ _ _ _ _ (c .before .before .get-at .ensures .0) (i .0) (c .loop-test .left) (i .1)
+    walk-missing _ _ _ (c .before .before .before .before .before .before .before .pre .0) _ (c .before .before .before .before .hash-app .ensures .0) _ _ (c .before .loop-test .left) (c .before .before .loop .inv) (c .get-at3 .ensures .0)
 
 pub find-app-spec : {M : Type 1} → statement M
 find-app-spec =
-    tie.close (tie.spec Inv-loop μ-loop (λ c κs. search needs) (λ c. (search needs, none-yet _ 0))
-    (λ c κs. (c .before .before .before .before .before .pre, search needs)) returns (λ c. search needs) (λ c. search needs) loop-again
-    returns-2)
+    tie.close (tie.spec Inv-loop μ-loop (λ c κs. let z = c .before .before .pre in omega arith) get-at-requires loop-holds
+    (λ c. search needs) is-app-requires (λ c. search needs) returns (λ c. search needs) get-at-requires-2 loop-less loop-again
+    get-at-requires-3 returns-2)

@@ -4,6 +4,13 @@ use Rattle.core.proofs.Memory.Terms.{made-old, no-more-terms, start-fit
 use Rattle.core.proofs.context.intern.Statement.{statement}
 use Rattle.core.proofs.context.intern.Tie as tie
 
+append-term-requires : tie.Need-append-term-requires
+append-term-requires c κs =
+    let after = c .before .before in
+    let e = after .before .before .before .before .before .before .get-at .ensures .0 in
+    let f = after .before .before .before .before .find-app .ensures in
+    appendable (c .before .before .before .before .before .before .before .before .before .before .before .before .pre) e f (c .before .before .before .before .before .if1 .left) (c .before .before .before .before .if2 .left) (after .get-at2 .ensures .0) (c .before .if3 .left)
+
 returns-4 : tie.Need-returns-4
 returns-4 c =
     let after = c .before .before .before .before .before in
@@ -15,4 +22,4 @@ pub intern-spec : {M : Type 1} → statement M
 intern-spec =
     tie.close (tie.spec (λ c κs. search needs) (λ c κs. search needs) (λ c. search needs) (λ c. search needs) (λ c. search made-old)
     (λ c. search needs) (λ c. search no-more-terms) (λ c κs. search needs) (λ c. search start-fits) (λ c. search needs)
-    (λ c. search no-more-places) (λ c κs. search appendable) (λ c. search needs) (λ c. search needs) returns-4)
+    (λ c. search no-more-places) append-term-requires (λ c. search needs) (λ c. search needs) returns-4)
