@@ -72,15 +72,8 @@ pub cleared : {t t₁ t₂ t₃ t₄ u : List ℕ} → NoTerms t → t₁ ≡ pu
     t₃ ≡ put t₂ COUNTS TERMS 0 → t₄ ≡ put t₃ SORT 0 0 → u ≡ put t₄ OFFSET 0 0 → ContextSound u × (context u ≡ empty-context)
 cleared {t} {u} a e₁ e₂ e₃ e₄ e₅ =
     let l : table-words ≤ length t = a .long in
-    let c : Cleared u = record {
-      long = search (e₅, e₄, e₃, e₂, e₁, stores) depth 9;
-      sorts = search (e₅, e₄, e₃, e₂, e₁, stores) depth 9;
-      symbols = search (e₅, e₄, e₃, e₂, e₁, stores) depth 9;
-      terms = search (e₅, e₄, e₃, e₂, e₁, stores) depth 9;
-      bool = search (e₅, e₄, e₃, e₂, e₁, stores) depth 9;
-      start = search (e₅, e₄, e₃, e₂, e₁, stores) depth 9;
-      heads = λ h q. let r : h < 1024 = omega arith in search (e₅, e₄, e₃, e₂, e₁, stores, a .heads) depth 9;
-    } in
+    let in-buckets : (h : ℕ) → h < buckets → h < 1024 = omega arith in
+    let c : Cleared u = search (e₅, e₄, e₃, e₂, e₁, stores, a .heads) depth 9 in
     (cleared-sound u c, cleared-view u c)
 
 -- the buckets below i are cleared
@@ -265,23 +258,10 @@ module _ (t : List ℕ) (n owner result : ℕ) (params t₁ t₂ t₃ t₄ u : L
   unfolding packed-words
   symbol-written e₁ e₂ e₃ e₄ e₅ =
       let p : 4 * n + 4 ≤ 2048 = omega arith in
-      record {
-        long = search (e₅, e₄, e₃, e₂, e₁, stores) depth 9;
-        sorts = search (e₅, e₄, e₃, e₂, e₁, stores) depth 9;
-        count = search (e₅, e₄, e₃, e₂, e₁, stores) depth 9;
-        terms = search (e₅, e₄, e₃, e₂, e₁, stores) depth 9;
-        owned = search (e₅, e₄, e₃, e₂, e₁, stores) depth 9;
-        results = search (e₅, e₄, e₃, e₂, e₁, stores) depth 9;
-        arity = search (e₅, e₄, e₃, e₂, e₁, stores) depth 9;
-        packs = λ q h. let g : 4 * n + q < 2048 = omega arith in search (e₅, e₄, e₃, e₂, e₁, stores) depth 9;
-        symbols = record {
-          owner = λ s h. let g : s < max-symbols = omega arith in search (e₅, e₄, e₃, e₂, e₁, stores) depth 9;
-          result = λ s h. let g : s < max-symbols = omega arith in search (e₅, e₄, e₃, e₂, e₁, stores) depth 9;
-          arity = λ s h. let g : s < max-symbols = omega arith in search (e₅, e₄, e₃, e₂, e₁, stores) depth 9;
-          params = λ x h. let g : x < 2048 = omega arith in search (e₅, e₄, e₃, e₂, e₁, stores) depth 9;
-        };
-        kept = rw (e₅, e₄, e₃, e₂, e₁) (search stores depth 9);
-      }
+      let in-symbols : (s : ℕ) → s < n → s < max-symbols = omega arith in
+      let in-params : (x : ℕ) → x < 4 * n → x < 2048 = omega arith in
+      let in-own : (q : ℕ) → q < 4 → 4 * n + q < 2048 = omega arith in
+      search (e₅, e₄, e₃, e₂, e₁, stores) depth 9
 
 module _ (t : List ℕ) (n owner result : ℕ) (params u : List ℕ) (a : SymbolRoom t n owner result params) (w : SymbolWritten t n owner result params u) where
   written-param : (j : ℕ) → j < length params → param-at u n j ≡ getD params j 0

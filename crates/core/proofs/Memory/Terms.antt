@@ -192,20 +192,26 @@ module _ (t : List ℕ) (code : ℕ) (args : List ℕ) where
 -- ---- one more term
 
 -- what its stores leave
-record TermWritten (t : List ℕ) (n start code : ℕ) (args : List ℕ) (h : ℕ) (u : List ℕ) : Type 0 where
+record TermWords (t : List ℕ) (n start code : ℕ) (args u : List ℕ) : Type 0 where
   long : table-words ≤ length u
   sorts : sorts# u ≡ sorts# t
   symbols : symbols# u ≡ symbols# t
   count : terms# u ≡ n + 1
   op : at u OP n ≡ code
   end : at u OFFSET (n + 1) ≡ start + length args
-  pool : (j : ℕ) → j < length args → at u POOL (start + j) ≡ getD args j 0
-  terms : TermsKept t u n
+  kept : Kept core-room (COUNTS ∷ OP ∷ OFFSET ∷ POOL ∷ BUCKET ∷ LINK ∷ []) t u
+
+record TermLinked (t : List ℕ) (n h : ℕ) (u : List ℕ) : Type 0 where
   link : at u LINK n ≡ at t BUCKET h
   links : (i : ℕ) → i < n → at u LINK i ≡ at t LINK i
   head : at u BUCKET h ≡ n + 1
   heads : (x : ℕ) → x < buckets → (x ≡ h → ⊥) → at u BUCKET x ≡ at t BUCKET x
-  kept : Kept core-room (COUNTS ∷ OP ∷ OFFSET ∷ POOL ∷ BUCKET ∷ LINK ∷ []) t u
+
+record TermWritten (t : List ℕ) (n start code : ℕ) (args : List ℕ) (h : ℕ) (u : List ℕ) : Type 0 where
+  words : TermWords t n start code args u
+  pool : (j : ℕ) → j < length args → at u POOL (start + j) ≡ getD args j 0
+  terms : TermsKept t u n
+  linked : TermLinked t n h u
 
 module _ (t : List ℕ) (n start code : ℕ) (args : List ℕ) (h o : ℕ) (t₁ t₂ t₃ t₄ t₅ u : List ℕ) (a : Appendable t n start code args) where
   term-written : h < buckets → o ≡ at t BUCKET h → t₁ ≡ put t LINK n o → t₂ ≡ put t₁ BUCKET h (n + 1) → t₃ ≡ put-all t₂ POOL start args →
@@ -216,29 +222,19 @@ module _ (t : List ℕ) (n start code : ℕ) (args : List ℕ) (h o : ℕ) (t₁
       let r₁ : n + 1 < 1025 = omega arith in
       let p : start + length args ≤ max-places = a .places in
       let c : h < 1024 = omega arith in
+      let begins = a .begins in
+      let in-ops : (i : ℕ) → i < n → i < max-terms = omega arith in
+      let in-offsets : (i : ℕ) → i ≤ n → i < 1025 = omega arith in
+      let old-offset : (i : ℕ) → i ≤ n → i < n + 1 = omega arith in
+      let old-pool : (j : ℕ) → j < at t OFFSET n → j < start = omega arith in
+      let in-old-pool : (j : ℕ) → j < at t OFFSET n → j < max-places = omega arith in
+      let in-pool : (j : ℕ) → j < length args → start + j < max-places = omega arith in
+      let in-buckets : (x : ℕ) → x < buckets → x < 1024 = omega arith in
       record {
-        long = search (e₆, e₅, e₄, e₃, e₂, e₁, stores) depth 9;
-        sorts = search (e₆, e₅, e₄, e₃, e₂, e₁, stores) depth 9;
-        symbols = search (e₆, e₅, e₄, e₃, e₂, e₁, stores) depth 9;
-        count = search (e₆, e₅, e₄, e₃, e₂, e₁, stores) depth 9;
-        op = search (e₆, e₅, e₄, e₃, e₂, e₁, stores) depth 9;
-        end = search (e₆, e₅, e₄, e₃, e₂, e₁, stores) depth 9;
-        pool = λ j q. let d : start + j < max-places = omega arith in search (e₆, e₅, e₄, e₃, e₂, e₁, stores) depth 9;
-        terms = record {
-          op = λ i q. let d : i < max-terms = omega arith in search (e₆, e₅, e₄, e₃, e₂, e₁, stores) depth 9;
-          offset = λ i q. let d : i < n + 1 = omega arith in let g : i < 1025 = omega arith in search (e₆, e₅, e₄, e₃, e₂, e₁, stores) depth 9;
-          pool =
-              λ j q.
-              let i = a .begins in
-              let d : j < start = omega arith in
-              let g : j < max-places = omega arith in
-              search (e₆, e₅, e₄, e₃, e₂, e₁, stores) depth 9;
-        };
-        link = search (e₆, e₅, e₄, e₃, e₂, e₁, e, stores) depth 9;
-        links = λ i q. let d : i < max-terms = omega arith in search (e₆, e₅, e₄, e₃, e₂, e₁, stores) depth 9;
-        head = search (e₆, e₅, e₄, e₃, e₂, e₁, stores) depth 9;
-        heads = λ x q d. let g : x < 1024 = omega arith in search (e₆, e₅, e₄, e₃, e₂, e₁, stores, other-place) depth 9;
-        kept = rw (e₆, e₅, e₄, e₃, e₂, e₁) (search stores depth 9);
+        words = search (e₆, e₅, e₄, e₃, e₂, e₁, stores) depth 9;
+        pool = search (e₆, e₅, e₄, e₃, e₂, e₁, stores) depth 9;
+        terms = search (e₆, e₅, e₄, e₃, e₂, e₁, stores) depth 9;
+        linked = search (e₆, e₅, e₄, e₃, e₂, e₁, e, stores, other-place) depth 9;
       }
 
 module _ (t : List ℕ) (n start code : ℕ) (args : List ℕ) (h : ℕ) (u : List ℕ) (a : Appendable t n start code args) (w : TermWritten t n start code args h u) where
@@ -249,14 +245,14 @@ module _ (t : List ℕ) (n start code : ℕ) (args : List ℕ) (h : ℕ) (u : Li
   unfolding args-at stretch
   new-args =
       let o = starts in
-      let e = w .end in
+      let e = w .words .end in
       let l : at u OFFSET (n + 1) - at u OFFSET n ≡ length args = omega arith in
       ap (λ (x : ℕ). stretch u POOL x (at u OFFSET (n + 1) - at u OFFSET n)) o
       ∙ counted-list (λ j. at u POOL (start + j)) (at u OFFSET (n + 1) - at u OFFSET n) args l (w .pool)
 
   new-term : term-at u n ≡ record { op = op-of code; args = args }
   unfolding term-at
-  new-term = λ i. record { op = op-of (w .op i); args = new-args i }
+  new-term = λ i. record { op = op-of (w .words .op i); args = new-args i }
 
   new-term-sound : TermSound u n
   new-term-sound =
@@ -279,7 +275,7 @@ module _ (t : List ℕ) (n start code : ℕ) (args : List ℕ) (h : ℕ) (u : Li
   module _ (e : h ≡ bucket code args) where
     new-bucket : bucket-of u n ≡ h
     unfolding bucket-of
-    new-bucket = ap₂ bucket (w .op) new-args ∙ sym e
+    new-bucket = ap₂ bucket (w .words .op) new-args ∙ sym e
 
     old-newest : (x : ℕ) → x < buckets → at t BUCKET x ≡ newest (bucket-of u) x n
     old-newest x l =
@@ -289,14 +285,14 @@ module _ (t : List ℕ) (n start code : ℕ) (args : List ℕ) (h : ℕ) (u : Li
 
     new-heads : (x : ℕ) → x < buckets → Dec (x ≡ h) → at u BUCKET x ≡ newest (bucket-of u) x (suc n)
     new-heads x l (yes q) =
-        let i = w .head in
+        let i = w .linked .head in
         ap (at u BUCKET) q ∙ i ∙ add-one n ∙ sym (newest-is (bucket-of u) x n (new-bucket ∙ sym q))
     new-heads x l (no d) =
-        w .heads x l d ∙ old-newest x l ∙ sym (newest-not (bucket-of u) x n (λ q. d (sym q ∙ new-bucket)))
+        w .linked .heads x l d ∙ old-newest x l ∙ sym (newest-not (bucket-of u) x n (λ q. d (sym q ∙ new-bucket)))
 
     new-links : h < buckets → (i : ℕ) → i < n + 1 → Dec (i ≡ n) → at u LINK i ≡ newest (bucket-of u) (bucket-of u i) i
-    new-links b i l (yes q) = rw (q, new-bucket) (w .link ∙ old-newest h b)
-    new-links b i l (no d) = links-kept t u (a .sound) n (omega arith) (w .terms) (w .links) i (omega arith)
+    new-links b i l (yes q) = rw (q, new-bucket) (w .linked .link ∙ old-newest h b)
+    new-links b i l (no d) = links-kept t u (a .sound) n (omega arith) (w .terms) (w .linked .links) i (omega arith)
 
     not-old : (i : ℕ) → i < n → term-at u i ≡ term-at u n → ⊥
     not-old i l q = true≢false (sym (term-fits t code args i (sym (old-term i l) ∙ q ∙ new-term)) ∙ a .new i l)
@@ -319,9 +315,9 @@ module _ (t : List ℕ) (n start code : ℕ) (args : List ℕ) (h : ℕ) (u : Li
   appended e b =
       let z = a .sound in
       let written = COUNTS ∷ OP ∷ OFFSET ∷ POOL ∷ BUCKET ∷ LINK ∷ [] in
-      let ys = symbols-apart t u z written (w .kept) tt tt tt tt in
-      let sorts = sorts-view t u z (w .sorts) (sorts-apart t u z written (w .kept) tt) in
-      let symbols = symbols-view t u z (w .symbols) ys in
+      let ys = symbols-apart t u z written (w .words .kept) tt tt tt tt in
+      let sorts = sorts-view t u z (w .words .sorts) (sorts-apart t u z written (w .words .kept) tt) in
+      let symbols = symbols-view t u z (w .words .symbols) ys in
       let terms : counted (term-at u) (terms# u) ≡ counted (term-at t) (terms# t) ++ (record { op = op-of code; args = args } ∷ []) =
       counted-grown (term-at t) (term-at u) (terms# t) (terms# u) (record { op = op-of code; args = args }) (omega arith)
       (λ i l. old-term i (omega arith)) (ap (term-at u) (sym (a .next)) ∙ new-term) in

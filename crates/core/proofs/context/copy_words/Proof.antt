@@ -16,9 +16,6 @@ Inv-loop t₀ base at words from i₀ t i = Copying t₀ from words t i
 abbrev μ-loop : tie.MeasureT-loop
 μ-loop t₀ base at words from i₀ t i = length words - i
 
-loop-again : tie.Need-loop-again Inv-loop μ-loop
-loop-again c = copy-next _ _ _ _ _ (c .before .before .loop .inv) (c .before .loop-test .taken)
-
 returns : tie.Need-returns Inv-loop μ-loop
 unfolding put-all
 returns c = copy-done _ _ _ _ _ (c .before .loop .inv) (c .loop-test .left)
@@ -26,5 +23,5 @@ returns c = copy-done _ _ _ _ _ (c .before .loop .inv) (c .loop-test .left)
 pub copy-words-spec : {M : Type 1} → statement M
 copy-words-spec =
     tie.close (tie.spec Inv-loop μ-loop (λ c. search needs) (λ c. copy-first _ _ _) (λ c. search needs) (λ c. search needs)
-    (λ c. search needs) (λ c. search needs) (λ c. search needs) (λ c. search needs) (λ c. search needs) loop-again
-    (λ c. c .before .loop .inv .long) returns)
+    (λ c. search needs) (λ c. search needs) (λ c. search needs) (λ c. search needs) (λ c. search needs)
+    (λ c. copy-next _ _ _ _ _ (c .before .before .loop .inv) (c .before .loop-test .taken)) (λ c. c .before .loop .inv .long) returns)

@@ -12,9 +12,6 @@ Inv-loop t code args h k₀ k = Walking t code args h k
 abbrev μ-loop : tie.MeasureT-loop
 μ-loop t code args h k₀ k = k
 
-get-at-requires : tie.Need-get-at-requires Inv-loop μ-loop
-get-at-requires c κs = let z = c .before .before .before .pre in let b = c .hash-app .ensures .1 in omega arith
-
 loop-holds : tie.Need-loop-holds Inv-loop μ-loop
 loop-holds c =
     let b = c .before .hash-app .ensures in walk-first _ _ _ (c .before .before .before .before .pre .0) _ (b .0) _ (b .1) (c .get-at .ensures .0)
@@ -42,15 +39,13 @@ loop-again c =
     let s = sym (c .before .before .is-app .ensures) ∙ c .before .if1 .left in
     walk-next _ _ _ (c .before .before .before .before .before .before .before .before .before .pre .0) _ (c .before .before .before .before .before .before .hash-app .ensures .0) _ (c .before .before .before .loop-test .taken) (c .before .before .before .before .loop .inv) _ (c .get-at2 .ensures .0) s .0
 
-get-at-requires-3 : tie.Need-get-at-requires-3 Inv-loop μ-loop
-get-at-requires-3 c κs = let z = c .before .before .before .before .before .before .pre .0 .long in omega arith
-
 returns-2 : tie.Need-returns-2 Inv-loop μ-loop
 returns-2 c =
     walk-missing _ _ _ (c .before .before .before .before .before .before .before .pre .0) _ (c .before .before .before .before .hash-app .ensures .0) _ _ (c .before .loop-test .left) (c .before .before .loop .inv) (c .get-at3 .ensures .0)
 
 pub find-app-spec : {M : Type 1} → statement M
 find-app-spec =
-    tie.close (tie.spec Inv-loop μ-loop (λ c κs. let z = c .before .before .pre in omega arith) get-at-requires loop-holds
-    (λ c. search needs) is-app-requires (λ c. search needs) returns (λ c. search needs) get-at-requires-2 loop-less loop-again
-    get-at-requires-3 returns-2)
+    tie.close (tie.spec Inv-loop μ-loop (λ c κs. let z = c .before .before .pre in omega arith)
+    (λ c κs. let z = c .before .before .before .pre in let b = c .hash-app .ensures .1 in omega arith) loop-holds (λ c. search needs)
+    is-app-requires (λ c. search needs) returns (λ c. search needs) get-at-requires-2 loop-less loop-again
+    (λ c κs. let z = c .before .before .before .before .before .before .pre .0 .long in omega arith) returns-2)

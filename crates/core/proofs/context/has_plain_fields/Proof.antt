@@ -22,9 +22,6 @@ param-sort-requires c κs =
     let e = c .before .before .get-at .ensures .0 in
     record { sound = z .0; declared = z .1; within = omega arith }
 
-get-at-requires-2 : tie.Need-get-at-requires-2 Inv-loop μ-loop
-get-at-requires-2 c κs = let z = c .before .before .before .before .before .pre .0 in omega arith
-
 returns : tie.Need-returns Inv-loop μ-loop
 returns c =
     let p = c .before .before .param-sort .ensures in
@@ -43,5 +40,6 @@ returns-2 c =
 
 pub has-plain-fields-spec : {M : Type 1} → statement M
 has-plain-fields-spec =
-    tie.close (tie.spec Inv-loop μ-loop (λ c κs. search needs) (λ c. none-yet _ 0) param-sort-requires get-at-requires-2 returns
-    (λ c. search needs) (λ c. search needs) loop-again returns-2)
+    tie.close (tie.spec Inv-loop μ-loop (λ c κs. search needs) (λ c. none-yet _ 0) param-sort-requires
+    (λ c κs. let z = c .before .before .before .before .before .pre .0 in omega arith) returns (λ c. search needs) (λ c. search needs)
+    loop-again returns-2)

@@ -6,9 +6,6 @@ use Rattle.core.proofs.Memory.Terms.{app-other-op, app-other-length, ap
 use Rattle.core.proofs.context.is_app.Statement.{statement}
 use Rattle.core.proofs.context.is_app.Tie as tie
 
-returns : tie.Need-returns
-returns c = app-other-op _ _ _ _ _ (c .before .get-at .ensures .0) (c .if1 .taken)
-
 sub-if2 : tie.Need-sub-if2
 sub-if2 c =
     let z = c .before .before .before .before .before .before .pre in
@@ -34,5 +31,5 @@ returns-3 c =
 
 pub is-app-spec : {M : Type 1} → statement M
 is-app-spec =
-    tie.close (tie.spec (λ c κs. search needs) returns (λ c κs. search needs) (λ c. search needs) (λ c κs. search needs) sub-if2
-    returns-2 same-args-requires returns-3)
+    tie.close (tie.spec (λ c κs. search needs) (λ c. app-other-op _ _ _ _ _ (c .before .get-at .ensures .0) (c .if1 .taken))
+    (λ c κs. search needs) (λ c. search needs) (λ c κs. search needs) sub-if2 returns-2 same-args-requires returns-3)

@@ -7,9 +7,6 @@ use Rattle.core.specs.Memory.Table.{digit, param-at}
 use Rattle.core.proofs.context.param_sort.Statement.{statement}
 use Rattle.core.proofs.context.param_sort.Tie as tie
 
-get-at-requires : tie.Need-get-at-requires
-get-at-requires c κs = let z = c .before .pre in let s = z .sound .symbols _ (z .declared) in omega arith
-
 returns : tie.Need-returns
 unfolding param-at
 returns c =
@@ -19,4 +16,6 @@ returns c =
     (e, rw e h)
 
 pub param-sort-spec : {M : Type 1} → statement M
-param-sort-spec = tie.close (tie.spec (λ c. search needs) (λ c. search needs) get-at-requires (λ c κs. search needs) returns)
+param-sort-spec =
+    tie.close (tie.spec (λ c. search needs) (λ c. search needs)
+    (λ c κs. let z = c .before .pre in let s = z .sound .symbols _ (z .declared) in omega arith) (λ c κs. search needs) returns)

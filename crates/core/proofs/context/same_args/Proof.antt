@@ -14,9 +14,6 @@ Inv-loop t start args i₀ i = (i ≤ length args) × NoneFrom (ArgDiffers t sta
 abbrev μ-loop : tie.MeasureT-loop
 μ-loop t start args i₀ i = length args - i
 
-cast-if1 : tie.Need-cast-if1 Inv-loop μ-loop
-cast-if1 c = omega (arith, c .shared-slice-known3 .given (c .before .before .before .loop .i))
-
 returns : tie.Need-returns Inv-loop μ-loop
 returns c =
     args-differ _ _ _ (c .before .before .before .before .loop .i) _ (c .before .before .before .loop-test .taken) (c .before .before .get-at .ensures .0) (c .if1 .taken)
@@ -29,5 +26,5 @@ loop-again c =
 pub same-args-spec : {M : Type 1} → statement M
 same-args-spec =
     tie.close (tie.spec Inv-loop μ-loop (λ c. (search needs, none-yet _ 0)) (λ c. search needs) (λ c κs. search needs)
-    (λ c. search needs) (λ c. search needs) cast-if1 returns (λ c. search needs) (λ c. search needs) loop-again
-    (λ c. args-same _ _ _ _ (c .loop-test .left) (c .before .loop .inv .1)))
+    (λ c. search needs) (λ c. search needs) (λ c. omega (arith, c .shared-slice-known3 .given (c .before .before .before .loop .i)))
+    returns (λ c. search needs) (λ c. search needs) loop-again (λ c. args-same _ _ _ _ (c .loop-test .left) (c .before .loop .inv .1)))

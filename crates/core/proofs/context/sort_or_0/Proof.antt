@@ -5,10 +5,7 @@ use lib.ListN.{List·getD-eq-default}
 use Rattle.core.proofs.context.sort_or_0.Statement.{statement}
 use Rattle.core.proofs.context.sort_or_0.Tie as tie
 
-returns-2 : tie.Need-returns-2
-returns-2 c = (sym (List·getD-eq-default (c .before .args .sorts .now) 0 (c .if1 .left)), search needs)
-
 pub sort-or-0-spec : {M : Type 1} → statement M
 sort-or-0-spec =
     tie.close (tie.spec (λ c. search needs) (λ c. search needs) (λ c. (refl, c .before .before .pre _ (c .before .if1 .taken)))
-    returns-2)
+    (λ c. (sym (List·getD-eq-default (c .before .args .sorts .now) 0 (c .if1 .left)), search needs)))

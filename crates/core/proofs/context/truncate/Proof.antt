@@ -13,12 +13,6 @@ Inv-loop t₀ n i₀ t i = Dropping t₀ n t i
 abbrev μ-loop : tie.MeasureT-loop
 μ-loop t₀ n i₀ t i = i
 
-loop-holds : tie.Need-loop-holds Inv-loop μ-loop
-loop-holds c = let z = c .before .before .before .pre in drop-first _ _ _ (z .0) (z .1) (c .get-at .ensures .0)
-
-drop-term-requires : tie.Need-drop-term-requires Inv-loop μ-loop
-drop-term-requires c κs = let d = c .before .before .loop .inv in let e = d .count in (d .sound, omega arith)
-
 loop-again : tie.Need-loop-again Inv-loop μ-loop
 loop-again c =
     let loop = c .before .before .before .before .before .loop in
@@ -28,5 +22,7 @@ loop-again c =
 
 pub truncate-spec : {M : Type 1} → statement M
 truncate-spec =
-    tie.close (tie.spec Inv-loop μ-loop (λ c κs. search needs) loop-holds (λ c. search needs) drop-term-requires (λ c. search needs)
-    loop-again (λ c. c .before .loop .inv .long) (λ c. drop-done _ _ _ _ (c .before .loop .inv) (c .loop-test .left)))
+    tie.close (tie.spec Inv-loop μ-loop (λ c κs. search needs)
+    (λ c. let z = c .before .before .before .pre in drop-first _ _ _ (z .0) (z .1) (c .get-at .ensures .0)) (λ c. search needs)
+    (λ c κs. let d = c .before .before .loop .inv in let e = d .count in (d .sound, omega arith)) (λ c. search needs) loop-again
+    (λ c. c .before .loop .inv .long) (λ c. drop-done _ _ _ _ (c .before .loop .inv) (c .loop-test .left)))
