@@ -47,7 +47,8 @@ module _ {A : Type 0} where
   every-in p (y ∷ ys) x t (inl e) = subst (λ (z : A). T (p z)) (sym e) (cond-and (p y) (every p ys) t .0)
   every-in p (y ∷ ys) x t (inr i) = every-in p ys x (cond-and (p y) (every p ys) t .1) i
 
-  any-here : (p : A → Bool) (y : A) (ys : List A) (b : Bool) → p y ≡ b → T (cond b true (any p ys)) → (T (any p ys) → (x : A) × In x ys × T (p x)) → (x : A) × In x (y ∷ ys) × T (p x)
+  any-here : (p : A → Bool) (y : A) (ys : List A) (b : Bool) → p y ≡ b → T (cond b true (any p ys)) →
+      (T (any p ys) → (x : A) × In x ys × T (p x)) → (x : A) × In x (y ∷ ys) × T (p x)
   any-here p y ys true e t go = (y, inl refl, subst (λ (b : Bool). T b) (sym e) tt)
   any-here p y ys false e t go = let (x, i, q) = go t in (x, inr i, q)
 
@@ -74,7 +75,8 @@ module _ {A : Type 0} where
       (keep-first y (keep p ys) (p y) (subst (λ (z : A). T (p z)) e t))
   in-keep p (y ∷ ys) x (inr i) t = keep-add (p y) y (keep p ys) x (in-keep p ys x i t)
 
-  kept-here : (p : A → Bool) (y : A) (ys : List A) (b : Bool) (x : A) → p y ≡ b → In x (cond b (y ∷ keep p ys) (keep p ys)) → (In x (keep p ys) → In x ys × T (p x)) → In x (y ∷ ys) × T (p x)
+  kept-here : (p : A → Bool) (y : A) (ys : List A) (b : Bool) (x : A) → p y ≡ b → In x (cond b (y ∷ keep p ys) (keep p ys)) →
+      (In x (keep p ys) → In x ys × T (p x)) → In x (y ∷ ys) × T (p x)
   kept-here p y ys true x e (inl q) go = (inl q, subst (λ (z : A). T (p z)) (sym q) (subst (λ (b : Bool). T b) (sym e) tt))
   kept-here p y ys true x e (inr i) go = let (j, t) = go i in (inr j, t)
   kept-here p y ys false x e i go = let (j, t) = go i in (inr j, t)
@@ -132,14 +134,16 @@ module _ {A : Type 0} where
 
   -- ---- a run of stores
 
-  pub getD-sets-out : (l : List A) (i : ℕ) (vs : List A) (k : ℕ) (d : A) → (k < i) ⊎ (i + length vs ≤ k) → getD (sets l i vs) k d ≡ getD l k d
+  pub getD-sets-out : (l : List A) (i : ℕ) (vs : List A) (k : ℕ) (d : A) → (k < i) ⊎ (i + length vs ≤ k) →
+      getD (sets l i vs) k d ≡ getD l k d
   getD-sets-out l i [] k d h = refl
   getD-sets-out l i (v ∷ vs) k d (inl h) =
       getD-sets-out (set l i v) (suc i) vs k d (inl (omega arith)) ∙ getD-set-other l i k v d (omega arith)
   getD-sets-out l i (v ∷ vs) k d (inr h) =
       getD-sets-out (set l i v) (suc i) vs k d (inr (omega arith)) ∙ getD-set-other l i k v d (omega arith)
 
-  pub getD-sets-in : (l : List A) (i : ℕ) (vs : List A) (k : ℕ) (d : A) → k < length vs → i + length vs ≤ length l → getD (sets l i vs) (i + k) d ≡ getD vs k d
+  pub getD-sets-in : (l : List A) (i : ℕ) (vs : List A) (k : ℕ) (d : A) → k < length vs → i + length vs ≤ length l →
+      getD (sets l i vs) (i + k) d ≡ getD vs k d
   getD-sets-in l i [] k d h m = absurd (omega arith)
   getD-sets-in l i (v ∷ vs) zero d h m =
       getD-sets-out (set l i v) (suc i) vs (i + 0) d (inl (omega arith))
@@ -151,7 +155,8 @@ module _ {A : Type 0} where
 
 -- ---- lists compared
 
-pub same-list-true : (xs ys : List ℕ) → length xs ≡ length ys → ((k : ℕ) → k < length xs → getD xs k 0 ≡ getD ys k 0) → same-list xs ys ≡ true
+pub same-list-true : (xs ys : List ℕ) → length xs ≡ length ys → ((k : ℕ) → k < length xs → getD xs k 0 ≡ getD ys k 0) →
+    same-list xs ys ≡ true
 unfolding same-list
 same-list-true [] [] e h = refl
 same-list-true [] (y ∷ ys) e h = absurd (omega arith)
@@ -195,7 +200,8 @@ pub record Copying (t₀ : List ℕ) (at : ℕ) (vs t : List ℕ) (i : ℕ) : Ty
 pub copy-first : (t : List ℕ) (at : ℕ) (vs : List ℕ) → Copying t at vs t 0
 copy-first t at vs = record { within = omega arith; long = refl; rest = ap (λ (k : ℕ). sets t k vs) (add-zero at) }
 
-pub copy-next : (t₀ : List ℕ) (at : ℕ) (vs t : List ℕ) (i : ℕ) → Copying t₀ at vs t i → i < length vs → Copying t₀ at vs (set t (at + i) (getD vs i 0)) (i + 1)
+pub copy-next : (t₀ : List ℕ) (at : ℕ) (vs t : List ℕ) (i : ℕ) → Copying t₀ at vs t i → i < length vs →
+    Copying t₀ at vs (set t (at + i) (getD vs i 0)) (i + 1)
 copy-next t₀ at vs t i c h =
     let e : at + (i + 1) ≡ suc (at + i) = omega arith in
     let d : i + 1 ≡ suc i = omega arith in

@@ -2,6 +2,7 @@
 use Prim.Native.Nat.{ℕ, zero, suc, _+_, _-_, _*_, _/_, _%_, _≤_, _<_}
 use mathlib.Core.Path.{_≡_, refl, sym, ap, ap₂, _∙_, subst}
 use mathlib.Core.List.{List, [], _∷_}
+use native.Mathlib.Numerals.{add-one}
 use native.Mathlib.Omega.{arith}
 use lib.ListN.{length, getD}
 use Rattle.core.specs.Term.{Role, Constructor, Tester, Selector, Function, Eq, Uninterpreted}
@@ -22,50 +23,26 @@ unfolding op-of
 op-of-pred zero n = absurd (n refl)
 op-of-pred (suc w) n = let e : suc w - 1 ≡ w = omega arith in ap Uninterpreted e
 
-member-at : (c d : ℕ) (k : ℕ) → d ≡ k → member-role c k ≡ member-role c d
-member-at c d k e = ap (member-role c) (sym e)
-
 pub role-of-zero : (s w : ℕ) → w ≡ 0 → Function ≡ role-of s w
 unfolding role-of
 role-of-zero s w e = rw e
 
-pub role-of-ctor : (s w : ℕ) → (w ≡ 0 → ⊥) → s ≡ w - 1 → Constructor ≡ role-of s w
-unfolding role-of member-role
-role-of-ctor s zero n e = absurd (n refl)
-role-of-ctor s (suc c) n e = let d : s - c ≡ 0 = omega arith in member-at c (s - c) 0 d
-
-pub role-of-tester : (s w : ℕ) → (w ≡ 0 → ⊥) → s - (w - 1) ≡ 1 → Tester (w - 1) ≡ role-of s w
-unfolding role-of member-role
-role-of-tester s zero n e = absurd (n refl)
-role-of-tester s (suc c) n e =
-    let p : suc c - 1 ≡ c = omega arith in
-    let d : s - c ≡ 1 = omega arith in
-    ap Tester p ∙ member-at c (s - c) 1 d
-
-selector-at : (s c x : ℕ) → x ≡ c → x ≤ s → (s ≡ x → ⊥) → (s - x ≡ 1 → ⊥) → Selector x (s - x - 2) ≡ member-role c (s - c)
-unfolding member-role
-selector-at s c x e l a b =
-    subst (λ (y : ℕ). Selector x (s - x - 2) ≡ member-role y (s - y)) e
-    (let d : s - x ≡ suc (suc (s - x - 2)) = omega arith in member-at x (s - x) (suc (suc (s - x - 2))) d)
-
-pub role-of-selector : (s w : ℕ) → (w ≡ 0 → ⊥) → w - 1 ≤ s → (s ≡ w - 1 → ⊥) → (s - (w - 1) ≡ 1 → ⊥) → Selector (w - 1) (s - (w - 1) - 2) ≡ role-of s w
+-- symbol s is member d of constructor c
+pub role-of-member : (s w c d : ℕ) → w ≡ c + 1 → s ≡ c + d → role-of s w ≡ member-role c d
 unfolding role-of
-role-of-selector s zero n l a b = absurd (n refl)
-role-of-selector s (suc c) n l a b = selector-at s c (suc c - 1) (omega arith) l a b
+role-of-member s w c d e q = let p : s - c ≡ d = omega arith in ap (role-of s) (e ∙ add-one c) ∙ ap (member-role c) p
 
--- the symbols of a constructor c: itself, its tester, its selectors
 pub ctor-role : (c : ℕ) → role-of c (c + 1) ≡ Constructor
-ctor-role c = sym (role-of-ctor c (c + 1) (omega arith) (omega arith))
+unfolding member-role
+ctor-role c = role-of-member c (c + 1) c 0 refl (omega arith)
 
 pub tester-role : (c : ℕ) → role-of (c + 1) (c + 1) ≡ Tester c
-tester-role c =
-    let p : c + 1 - 1 ≡ c = omega arith in sym (role-of-tester (c + 1) (c + 1) (omega arith) (omega arith)) ∙ ap Tester p
+unfolding member-role
+tester-role c = role-of-member (c + 1) (c + 1) c 1 refl refl
 
 pub selector-role : (c i : ℕ) → role-of (c + 2 + i) (c + 1) ≡ Selector c i
-selector-role c i =
-    let p : c + 1 - 1 ≡ c = omega arith in
-    let q : c + 2 + i - (c + 1 - 1) - 2 ≡ i = omega arith in
-    sym (role-of-selector (c + 2 + i) (c + 1) (omega arith) (omega arith) (omega arith) (omega arith)) ∙ ap₂ Selector p q
+unfolding member-role
+selector-role c i = role-of-member (c + 2 + i) (c + 1) c (suc (suc i)) refl (omega arith)
 
 -- a declared symbol stays below a larger bound
 pub op-below : (m n : ℕ) (r : Op.Op) → m ≤ n → OpBelow m r → OpBelow n r
@@ -82,7 +59,8 @@ role-below m n DtRole.the-variants.Function h b = tt
 
 -- ---- an operation that a match has found
 
-pub symbol-below : (t : List ℕ) (x : ℕ) (r : Op.Op) (f : SymbolId) → OpAt t x r → r ≡ Op.the-variants.Uninterpreted f → f .0 < length (context t .symbols)
+pub symbol-below : (t : List ℕ) (x : ℕ) (r : Op.Op) (f : SymbolId) → OpAt t x r → r ≡ Op.the-variants.Uninterpreted f →
+    f .0 < length (context t .symbols)
 unfolding OpBelow
 symbol-below t x r f o e = subst (OpBelow (length (context t .symbols))) e (o .declared)
 
@@ -90,7 +68,8 @@ pub eq-sort : (t : List ℕ) (x : ℕ) (r : Op.Op) → OpAt t x r → r ≡ Op.t
 unfolding sort-of result-of op-meaning
 eq-sort t x r o e = ap (result-of (context t)) (sym (ap op-meaning e) ∙ o .is)
 
-pub symbol-sort : (t : List ℕ) (x : ℕ) (r : Op.Op) (f : SymbolId) (q : ℕ) → OpAt t x r → r ≡ Op.the-variants.Uninterpreted f → q ≡ symbol (context t) (f .0) .result → q ≡ sort-of (context t) x
+pub symbol-sort : (t : List ℕ) (x : ℕ) (r : Op.Op) (f : SymbolId) (q : ℕ) → OpAt t x r → r ≡ Op.the-variants.Uninterpreted f →
+    q ≡ symbol (context t) (f .0) .result → q ≡ sort-of (context t) x
 unfolding sort-of result-of op-meaning
 symbol-sort t x r f q o e p = p ∙ ap (result-of (context t)) (sym (ap op-meaning e) ∙ o .is)
 
@@ -113,7 +92,8 @@ module _ (xs : List ℕ) (a : AllBelow max-sorts xs) where
       let p₃ = e (4 * q + 3) in
       go d h p₀ p₁ p₂ p₃
     where
-      go : (d : ℕ) → d < 4 → getD xs (4 * q) 0 < 64 → getD xs (4 * q + 1) 0 < 64 → getD xs (4 * q + 2) 0 < 64 → getD xs (4 * q + 3) 0 < 64 → digit (packed xs q) d ≡ getD xs (4 * q + d) 0
+      go : (d : ℕ) → d < 4 → getD xs (4 * q) 0 < 64 → getD xs (4 * q + 1) 0 < 64 → getD xs (4 * q + 2) 0 < 64 →
+          getD xs (4 * q + 3) 0 < 64 → digit (packed xs q) d ≡ getD xs (4 * q + d) 0
       go zero h p₀ p₁ p₂ p₃ = let z : 4 * q + 0 ≡ 4 * q = omega arith in rw z (omega arith)
       go (suc zero) h p₀ p₁ p₂ p₃ = omega arith
       go (suc (suc zero)) h p₀ p₁ p₂ p₃ = omega arith

@@ -58,7 +58,8 @@ module _ (t : List ℕ) (dt from s n : ℕ) (e : n ≡ symbols# t) (a : from ≤
 abbrev pub DatatypeField : List ℕ → ℕ → ℕ → Bool
 DatatypeField t s i = not (not (is-datatype-sort (context t) (param-at t s i)))
 
-pub field-word : (t : List ℕ) (s i p r : ℕ) → p ≡ param-at t s i → p < sorts# t → r ≡ at t SORT p → is-datatype-sort (context t) (param-at t s i) ≡ eqb r 1
+pub field-word : (t : List ℕ) (s i p r : ℕ) → p ≡ param-at t s i → p < sorts# t → r ≡ at t SORT p →
+    is-datatype-sort (context t) (param-at t s i) ≡ eqb r 1
 field-word t s i p r e h w = ap (is-datatype-sort (context t)) (sym e) ∙ sym (datatype-word t p r h w)
 
 module _ (t : List ℕ) (s n : ℕ) (h : s < symbols# t) (e : n ≡ at t ARITY s) where
@@ -99,7 +100,8 @@ module _ (t : List ℕ) (dt n : ℕ) (e : n ≡ symbols# t) where
       ∙ sym (any-kept (builds (context t) dt) (has-plain-fields (context t)) (range 0 n))
       ∙ ap (λ (m : ℕ). any (has-plain-fields (context t)) (keep (builds (context t) dt) (range 0 m))) (e ∙ sym (symbols-length t))
 
-  pub grounded-by : (s : ℕ) → s < n → true ≡ builds (context t) dt s → true ≡ has-plain-fields (context t) s → true ≡ grounded (context t) dt
+  pub grounded-by : (s : ℕ) → s < n → true ≡ builds (context t) dt s → true ≡ has-plain-fields (context t) s →
+      true ≡ grounded (context t) dt
   unfolding Grounds
   grounded-by s h b p = sym (any-found (Grounds t dt) (λ i. i) n s h (sym (ap₂ (λ (x y : Bool). x && y) b p))) ∙ grounded-is
 
@@ -129,7 +131,8 @@ module _ (t : List ℕ) (n : ℕ) (e : n ≡ sorts# t) where
       ∙ sym (every-by-any (grounded (context t)) (keep (is-datatype-sort (context t)) (range 0 n)))
       ∙ ap (λ (m : ℕ). every (grounded (context t)) (keep (is-datatype-sort (context t)) (range 0 m))) (e ∙ sym (sorts-length t))
 
-  pub one-not-grounded : (s : ℕ) → s < n → is-datatype-sort (context t) s ≡ true → grounded (context t) s ≡ false → false ≡ all-grounded (context t)
+  pub one-not-grounded : (s : ℕ) → s < n → is-datatype-sort (context t) s ≡ true → grounded (context t) s ≡ false →
+      false ≡ all-grounded (context t)
   unfolding Ungrounded
   one-not-grounded s h d g =
       sym (ap not (any-found (Ungrounded t) (λ i. i) n s h (ap₂ (λ (x y : Bool). x && not y) d g))) ∙ all-grounded-is

@@ -32,7 +32,8 @@ module _ {A : Type 0} where
   counted-cut f n m h = take-map-range f 0 n m h
 
   -- the entries that were there, and one more
-  pub counted-grown : (f g : ℕ → A) (n m : ℕ) (x : A) → m ≡ suc n → ((i : ℕ) → i < n → g i ≡ f i) → g n ≡ x → counted g m ≡ counted f n ++ (x ∷ [])
+  pub counted-grown : (f g : ℕ → A) (n m : ℕ) (x : A) → m ≡ suc n → ((i : ℕ) → i < n → g i ≡ f i) → g n ≡ x →
+      counted g m ≡ counted f n ++ (x ∷ [])
   counted-grown f g n m x e old new =
       ap (counted g) e ∙ counted-more g n ∙ ap₂ (λ (xs : List A) (y : A). xs ++ (y ∷ [])) (counted-same g f n old) new
 

@@ -94,7 +94,8 @@ clear-next {t} {u} {i} c h e =
 
 -- ---- terms taken back
 
-pub dropped : (i : ℕ) {t : List ℕ} {h o : ℕ} {t₁ u : List ℕ} → ContextSound t → terms# t ≡ i + 1 → h ≡ bucket-of t i → h < buckets → o ≡ at t LINK i →
+pub dropped : (i : ℕ) {t : List ℕ} {h o : ℕ} {t₁ u : List ℕ} → ContextSound t → terms# t ≡ i + 1 → h ≡ bucket-of t i → h < buckets →
+    o ≡ at t LINK i →
     t₁ ≡ put t BUCKET h o → u ≡ put t₁ COUNTS TERMS i → ContextSound u × (context u ≡ cut-terms i (context t))
 unfolding cut-terms context
 dropped i {t} {h} {o} {t₁} {u} z n b d q e₁ e₂ =
@@ -122,7 +123,8 @@ dropped i {t} {h} {o} {t₁} {u} z n b d q e₁ e₂ =
     ∙ sym (counted-cut (term-at t) (terms# t) i m) in
     (continued-old t u z i i (omega arith) ys ts y refl index, λ j. record { sorts = sorts j; symbols = symbols j; terms = terms j })
   where
-    older : (x : ℕ) → x < buckets → at u BUCKET h ≡ o → ((x ≡ h → ⊥) → at u BUCKET x ≡ at t BUCKET x) → Dec (x ≡ h) → at u BUCKET x ≡ newest (bucket-of t) x i
+    older : (x : ℕ) → x < buckets → at u BUCKET h ≡ o → ((x ≡ h → ⊥) → at u BUCKET x ≡ at t BUCKET x) → Dec (x ≡ h) →
+        at u BUCKET x ≡ newest (bucket-of t) x i
     older x g head heads (yes p) =
         ap (at u BUCKET) p ∙ head ∙ q ∙ z .index .links i (omega arith) ∙ ap (λ (y : ℕ). newest (bucket-of t) y i) (sym (p ∙ b))
     older x g head heads (no p) =
@@ -149,7 +151,8 @@ drop-first t n i z h e = record {
   long = refl;
 }
 
-pub drop-next : (t₀ : List ℕ) (n : ℕ) (t : List ℕ) (i j : ℕ) (u : List ℕ) → Dropping t₀ n t i → n < i → j ≡ i - 1 → length u ≡ length t → ContextSound u → context u ≡ cut-terms j (context t) → Dropping t₀ n u j
+pub drop-next : (t₀ : List ℕ) (n : ℕ) (t : List ℕ) (i j : ℕ) (u : List ℕ) → Dropping t₀ n t i → n < i → j ≡ i - 1 → length u ≡ length t →
+    ContextSound u → context u ≡ cut-terms j (context t) → Dropping t₀ n u j
 unfolding cut-terms
 drop-next t₀ n t i j u d h e l z v =
     let c = d .count in
@@ -168,7 +171,8 @@ drop-next t₀ n t i j u d h e l z v =
       long = omega arith;
     }
 
-pub drop-done : (t₀ : List ℕ) (n : ℕ) (t : List ℕ) (i : ℕ) → Dropping t₀ n t i → i ≤ n → ContextSound t × (context t ≡ cut-terms n (context t₀))
+pub drop-done : (t₀ : List ℕ) (n : ℕ) (t : List ℕ) (i : ℕ) → Dropping t₀ n t i → i ≤ n →
+    ContextSound t × (context t ≡ cut-terms n (context t₀))
 drop-done t₀ n t i d h = let a = d .above in let e : n ≡ i = omega arith in (d .sound, rw e (d .view))
 
 -- ---- whether declarations fit
@@ -207,13 +211,16 @@ accepted t cx u z e =
 
 -- ---- one more sort
 
-pub no-more-sorts : (t : List ℕ) (n : ℕ) (node : SortNode) → ContextSound t → n ≡ sorts# t → n ≡ max-sorts → Declares t (declare-sort (context t) node) Declared.the-variants.NoRoom t
+pub no-more-sorts : (t : List ℕ) (n : ℕ) (node : SortNode) → ContextSound t → n ≡ sorts# t → n ≡ max-sorts →
+    Declares t (declare-sort (context t) node) Declared.the-variants.NoRoom t
 unfolding declare-sort
 no-more-sorts t n node z e q =
     let m = length-append (context t .sorts) (node ∷ []) in
     refused t (declare-sort (context t) node) z (too-many-sorts (declare-sort (context t) node) (omega arith))
 
-pub sort-declared : (t : List ℕ) (n v : ℕ) (node : SortNode) (t₁ u : List ℕ) → ContextSound t → n ≡ sorts# t → (n ≡ max-sorts → ⊥) → node-of v ≡ node → t₁ ≡ put t SORT n v → u ≡ put t₁ COUNTS SORTS (n + 1) → Declares t (declare-sort (context t) node) Declared.the-variants.Done u
+pub sort-declared : (t : List ℕ) (n v : ℕ) (node : SortNode) (t₁ u : List ℕ) → ContextSound t → n ≡ sorts# t → (n ≡ max-sorts → ⊥) →
+    node-of v ≡ node → t₁ ≡ put t SORT n v → u ≡ put t₁ COUNTS SORTS (n + 1) →
+    Declares t (declare-sort (context t) node) Declared.the-variants.Done u
 unfolding context declare-sort sort-at
 sort-declared t n v node t₁ u z e q p e₁ e₂ =
     let l : table-words ≤ length t = z .long in
@@ -339,14 +346,16 @@ counts t u new e =
     let d = ap (λ (x : Context). length (x .symbols)) e in
     record { symbols = omega arith; sorts = sym (sorts-length u) ∙ ap (λ (x : Context). length (x .sorts)) e ∙ sorts-length t }
 
-too-many : (t : List ℕ) (new : List Symbol) → max-symbols < symbols# t + length new → ContextSound t → Declares t (with-symbols (context t) new) Declared.the-variants.NoRoom t
+too-many : (t : List ℕ) (new : List Symbol) → max-symbols < symbols# t + length new → ContextSound t →
+    Declares t (with-symbols (context t) new) Declared.the-variants.NoRoom t
 unfolding with-symbols
 too-many t new h z =
     let l = length-append (context t .symbols) new in
     refused t (with-symbols (context t) new) z (too-many-symbols (with-symbols (context t) new) (omega arith))
 
 -- room for one symbol, by what the view has
-pub symbol-room : (t : List ℕ) (n owner result : ℕ) (params : List ℕ) → MayDeclare t result params → n ≡ symbols# t → n < max-symbols → owner ≤ n + 1 → SymbolRoom t n owner result params
+pub symbol-room : (t : List ℕ) (n owner result : ℕ) (params : List ℕ) → MayDeclare t result params → n ≡ symbols# t → n < max-symbols →
+    owner ≤ n + 1 → SymbolRoom t n owner result params
 symbol-room t n owner result params a e r o =
     let z = a .sound in
     record {
@@ -361,7 +370,8 @@ symbol-room t n owner result params a e r o =
     }
 
 -- room for one of a single parameter
-single-room : (t : List ℕ) (n owner result dt : ℕ) → ContextSound t → n ≡ symbols# t → n < max-symbols → owner ≤ n + 1 → result < sorts# t → dt < sorts# t → SymbolRoom t n owner result (dt ∷ [])
+single-room : (t : List ℕ) (n owner result dt : ℕ) → ContextSound t → n ≡ symbols# t → n < max-symbols → owner ≤ n + 1 →
+    result < sorts# t → dt < sorts# t → SymbolRoom t n owner result (dt ∷ [])
 single-room t n owner result dt z e r o d q =
     record { sound = z; next = e; room = r; owned = o; declared = d; few = omega arith; sorts = only (sorts# t) q; small = only max-sorts (omega arith) }
   where
@@ -371,11 +381,13 @@ single-room t n owner result dt z e r o d q =
 
 -- ---- a function
 
-pub no-function : (t : List ℕ) (n result : ℕ) (params : List ℕ) → ContextSound t → n ≡ symbols# t → n ≡ max-symbols → Declares t (declare-fun (context t) result params) Declared.the-variants.NoRoom t
+pub no-function : (t : List ℕ) (n result : ℕ) (params : List ℕ) → ContextSound t → n ≡ symbols# t → n ≡ max-symbols →
+    Declares t (declare-fun (context t) result params) Declared.the-variants.NoRoom t
 unfolding declare-fun
 no-function t n result params z e q = too-many t (record { role = Function; params = params; result = result } ∷ []) (omega arith) z
 
-pub function-added : (t : List ℕ) (n result : ℕ) (params u : List ℕ) → SymbolAdded t n 0 result params u → Declares t (declare-fun (context t) result params) Declared.the-variants.Done u
+pub function-added : (t : List ℕ) (n result : ℕ) (params u : List ℕ) → SymbolAdded t n 0 result params u →
+    Declares t (declare-fun (context t) result params) Declared.the-variants.Done u
 unfolding declare-fun role-of
 function-added t n result params u a = accepted t (declare-fun (context t) result params) u (a .sound) (a .view)
 
@@ -405,7 +417,8 @@ module _ (t₀ : List ℕ) (c dt : ℕ) (fields : List ℕ) where
         let d = a .declared in
         single-room t (c + 2 + i) (c + 1) (getD fields i 0) dt (s .sound) (omega arith) (omega arith) (omega arith) (omega arith) (omega arith)
 
-    select-rest : (u : List ℕ) → i < length fields → SymbolAdded t (c + 2 + i) (c + 1) (getD fields i 0) (dt ∷ []) u → with-symbols (context u) (selectors-from c dt (i + 1) (drop (i + 1) fields)) ≡ with-symbols (context t₀) (selectors-from c dt 0 fields)
+    select-rest : (u : List ℕ) → i < length fields → SymbolAdded t (c + 2 + i) (c + 1) (getD fields i 0) (dt ∷ []) u →
+        with-symbols (context u) (selectors-from c dt (i + 1) (drop (i + 1) fields)) ≡ with-symbols (context t₀) (selectors-from c dt 0 fields)
     unfolding selectors-from
     select-rest u h a =
         let next : Role → Symbol = λ r. record { role = r; params = dt ∷ []; result = getD fields i 0 } in
@@ -417,7 +430,8 @@ module _ (t₀ : List ℕ) (c dt : ℕ) (fields : List ℕ) where
         ∙ sym (ap (λ (xs : List ℕ). with-symbols (context t) (selectors-from c dt i xs)) (drop-cons fields i 0 h))
         ∙ s .rest
 
-    pub select-next : (u : List ℕ) → i < length fields → length u ≡ length t → SymbolAdded t (c + 2 + i) (c + 1) (getD fields i 0) (dt ∷ []) u → Selecting t₀ c dt fields u (i + 1)
+    pub select-next : (u : List ℕ) → i < length fields → length u ≡ length t →
+        SymbolAdded t (c + 2 + i) (c + 1) (getD fields i 0) (dt ∷ []) u → Selecting t₀ c dt fields u (i + 1)
     select-next u h l a =
         let n = counts t u (record { role = role-of (c + 2 + i) (c + 1); params = dt ∷ []; result = getD fields i 0 } ∷ []) (a .view) in
         let e = s .count in
@@ -444,7 +458,8 @@ module _ (t₀ : List ℕ) (c dt : ℕ) (fields : List ℕ) where
 
 -- ---- a constructor
 
-pub no-constructor : (t : List ℕ) (n dt : ℕ) (fields : List ℕ) → ContextSound t → n ≡ symbols# t → max-symbols - n < length fields + 2 → Declares t (dt-add-constructor (context t) dt fields) Declared.the-variants.NoRoom t
+pub no-constructor : (t : List ℕ) (n dt : ℕ) (fields : List ℕ) → ContextSound t → n ≡ symbols# t → max-symbols - n < length fields + 2 →
+    Declares t (dt-add-constructor (context t) dt fields) Declared.the-variants.NoRoom t
 unfolding dt-add-constructor
 no-constructor t n dt fields z e h =
     let l = constructor-count (length (context t .symbols)) dt fields in
@@ -478,7 +493,9 @@ module _ (t : List ℕ) (n dt : ℕ) (fields t₁ : List ℕ) (e : n ≡ symbols
           sorts = λ j l. let q = m .sorts j l in omega arith;
         }
 
-  pub constructor-added : (t₂ u : List ℕ) → SymbolAdded t₁ (n + 1) (n + 1) 0 (dt ∷ []) t₂ → SymbolsAdded t₂ (selectors-from n dt 0 fields) u → Declares t (dt-add-constructor (context t) dt fields) Declared.the-variants.Done u
+  pub constructor-added : (t₂ u : List ℕ) → SymbolAdded t₁ (n + 1) (n + 1) 0 (dt ∷ []) t₂ →
+      SymbolsAdded t₂ (selectors-from n dt 0 fields) u →
+      Declares t (dt-add-constructor (context t) dt fields) Declared.the-variants.Done u
   unfolding dt-add-constructor constructor-symbols
   constructor-added t₂ u b c =
       let ctor : Role → Symbol = λ r. record { role = r; params = fields; result = dt } in

@@ -62,7 +62,8 @@ pub record Hashing (code : ℕ) (args : List ℕ) (h i : ℕ) : Type 0 where
   pub small : h < buckets
   pub rest : bucket h (drop i args) ≡ bucket code args
 
-pub hash-next : (code : ℕ) (args : List ℕ) (h i : ℕ) → Hashing code args h i → i < length args → Hashing code args ((31 * h + getD args i 0) % buckets) (i + 1)
+pub hash-next : (code : ℕ) (args : List ℕ) (h i : ℕ) → Hashing code args h i → i < length args →
+    Hashing code args ((31 * h + getD args i 0) % buckets) (i + 1)
 unfolding bucket
 hash-next code args h i w l = record {
   within = omega arith;

@@ -118,14 +118,16 @@ module _ (t u : List ℕ) (z : ContextSound t) where
     once-kept i j h l e = z .index .once i j (omega arith) (omega arith) (sym (term-kept n i m k h) ∙ e ∙ term-kept n j m k l)
 
     -- it is sound by its heads, if the links are as they were
-    pub index-kept : ((h : ℕ) → h < buckets → at u BUCKET h ≡ newest (bucket-of t) h n) → ((i : ℕ) → i < n → at u LINK i ≡ at t LINK i) → IndexSound u n
+    pub index-kept : ((h : ℕ) → h < buckets → at u BUCKET h ≡ newest (bucket-of t) h n) → ((i : ℕ) → i < n → at u LINK i ≡ at t LINK i) →
+        IndexSound u n
     index-kept heads links =
         record { heads = λ h l. heads h l ∙ sym (newest-kept h n (omega arith)); links = links-kept links; once = once-kept }
 
   -- ---- the table and its view
 
   module _ (n m : ℕ) (g : Grows t u n m) (ys : SymbolsKept t u (symbols# t)) (ts : TermsKept t u n) where
-    pub continued : ((s : ℕ) → symbols# t ≤ s → s < symbols# u → SymbolSound u s) → ((i : ℕ) → n ≤ i → i < m → TermSound u i) → IndexSound u m → ContextSound u
+    pub continued : ((s : ℕ) → symbols# t ≤ s → s < symbols# u → SymbolSound u s) → ((i : ℕ) → n ≤ i → i < m → TermSound u i) →
+        IndexSound u m → ContextSound u
     continued new-symbols new-terms index =
         let c = g .count in
         record {
@@ -177,7 +179,8 @@ module _ (t u : List ℕ) (z : ContextSound t) where
     pub sorts-apart : T (clear-of core-room SORT ws) → SortsKept t u (sorts# t)
     sorts-apart a = let f = z .sorts-fit in record { node = λ s h. k .rest SORT s a (omega arith) }
 
-    pub symbols-apart : T (clear-of core-room OWNER ws) → T (clear-of core-room RESULT ws) → T (clear-of core-room ARITY ws) → T (clear-of core-room PARAMS ws) → SymbolsKept t u (symbols# t)
+    pub symbols-apart : T (clear-of core-room OWNER ws) → T (clear-of core-room RESULT ws) → T (clear-of core-room ARITY ws) →
+        T (clear-of core-room PARAMS ws) → SymbolsKept t u (symbols# t)
     symbols-apart a b c d =
         let f = z .symbols-fit in
         record {
@@ -187,7 +190,8 @@ module _ (t u : List ℕ) (z : ContextSound t) where
           params = λ x h. k .rest PARAMS x d (omega arith);
         }
 
-    pub terms-apart : (n : ℕ) → n ≤ terms# t → T (clear-of core-room OP ws) → T (clear-of core-room OFFSET ws) → T (clear-of core-room POOL ws) → TermsKept t u n
+    pub terms-apart : (n : ℕ) → n ≤ terms# t → T (clear-of core-room OP ws) → T (clear-of core-room OFFSET ws) →
+        T (clear-of core-room POOL ws) → TermsKept t u n
     terms-apart n m a b c =
         let f = z .terms-fit in
         let p = z .places-fit in

@@ -98,6 +98,7 @@ module _ {A : Type 0} where
   any-kept p q [] = refl
   any-kept p q (x ∷ xs) = go (p x) (any-kept p q xs)
     where
-      go : (b : Bool) → any q (keep p xs) ≡ any (λ y. p y && q y) xs → any q (cond b (x ∷ keep p xs) (keep p xs)) ≡ cond (b && q x) true (any (λ y. p y && q y) xs)
+      go : (b : Bool) → any q (keep p xs) ≡ any (λ y. p y && q y) xs →
+          any q (cond b (x ∷ keep p xs) (keep p xs)) ≡ cond (b && q x) true (any (λ y. p y && q y) xs)
       go true h = ap (λ (r : Bool). cond (q x) true r) h
       go false h = h

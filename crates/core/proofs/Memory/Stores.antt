@@ -56,7 +56,8 @@ module _ (room : ℕ → ℕ) where
       differ (inr l) e = omega arith
 
   -- and so does a run of stores
-  pub all-other : (t : List ℕ) (b c x y : ℕ) (vs : List ℕ) → T (apart room b c) → x < room b → y + length vs ≤ room c → at (put-all t c y vs) b x ≡ at t b x
+  pub all-other : (t : List ℕ) (b c x y : ℕ) (vs : List ℕ) → T (apart room b c) → x < room b → y + length vs ≤ room c →
+      at (put-all t c y vs) b x ≡ at t b x
   unfolding at put-all
   all-other t b c x y vs a h k = getD-sets-out t (c + y) vs (b + x) 0 (outside (ordered b c a))
     where
@@ -72,7 +73,8 @@ module _ (room : ℕ → ℕ) where
       let (here, there) = T-and (apart room b w) (clear-of room b ws) a in
       go (eqb c w) refl here (clear-apart b c ws there) m
     where
-      go : (d : Bool) → eqb c w ≡ d → T (apart room b w) → (T (one-of c ws) → T (apart room b c)) → T (cond d true (one-of c ws)) → T (apart room b c)
+      go : (d : Bool) → eqb c w ≡ d → T (apart room b w) → (T (one-of c ws) → T (apart room b c)) → T (cond d true (one-of c ws)) →
+          T (apart room b c)
       go true e h f n = subst (λ (k : ℕ). T (apart room b k)) (sym (eqb-true c w e)) h
       go false e h f n = f n
 
@@ -88,7 +90,8 @@ module _ (room : ℕ → ℕ) where
     rest = λ b x a h. other-region u b c x y v (clear-apart b c ws a m) h k ∙ p .rest b x a h;
   }
 
-  pub kept-put-all : (ws t u : List ℕ) (c y : ℕ) (vs : List ℕ) → T (one-of c ws) → y + length vs ≤ room c → Kept room ws t u → Kept room ws t (put-all u c y vs)
+  pub kept-put-all : (ws t u : List ℕ) (c y : ℕ) (vs : List ℕ) → T (one-of c ws) → y + length vs ≤ room c → Kept room ws t u →
+      Kept room ws t (put-all u c y vs)
   kept-put-all ws t u c y vs m k p = record {
     long = length-put-all u c y vs ∙ p .long;
     rest = λ b x a h. all-other u b c x y vs (clear-apart b c ws a m) h k ∙ p .rest b x a h;
@@ -99,7 +102,8 @@ module _ (room : ℕ → ℕ) where
     unfolding at put
     same-place t b x v f l h = let m = leb→le (b + room b) size f in getD-set-same t (b + x) v 0 (omega arith)
 
-    pub same-region : (t : List ℕ) (b x y v : ℕ) → T (leb (b + room b) size) → size ≤ length t → x < room b → at (put t b x v) b y ≡ cond (eqb y x) v (at t b y)
+    pub same-region : (t : List ℕ) (b x y v : ℕ) → T (leb (b + room b) size) → size ≤ length t → x < room b →
+        at (put t b x v) b y ≡ cond (eqb y x) v (at t b y)
     same-region t b x y v f l h = go (ℕ-discrete y x)
       where
         go : Dec (y ≡ x) → at (put t b x v) b y ≡ cond (eqb y x) v (at t b y)
@@ -113,7 +117,8 @@ module _ (room : ℕ → ℕ) where
     put-all-long t b x vs l = let e = length-put-all t b x vs in omega arith
 
     -- a run of stores: its own words
-    pub all-same : (t : List ℕ) (b x : ℕ) (vs : List ℕ) (k : ℕ) → T (leb (b + room b) size) → size ≤ length t → x + length vs ≤ room b → k < length vs → at (put-all t b x vs) b (x + k) ≡ getD vs k 0
+    pub all-same : (t : List ℕ) (b x : ℕ) (vs : List ℕ) (k : ℕ) → T (leb (b + room b) size) → size ≤ length t → x + length vs ≤ room b →
+        k < length vs → at (put-all t b x vs) b (x + k) ≡ getD vs k 0
     unfolding at put-all
     all-same t b x vs k f l h g =
         let m = leb→le (b + room b) size f in

@@ -43,17 +43,20 @@ same-op-codes (suc a) (suc b) = sym (eqb·suc-suc a b)
 abbrev pub ArgDiffers : List ℕ → ℕ → List ℕ → ℕ → Bool
 ArgDiffers t start args k = not (eqb (at t POOL (start + k)) (getD args k 0))
 
-pub arg-same : (t : List ℕ) (start : ℕ) (args : List ℕ) (k w : ℕ) → w ≡ at t POOL (start + k) → w ≡ getD args k 0 → ArgDiffers t start args k ≡ false
+pub arg-same : (t : List ℕ) (start : ℕ) (args : List ℕ) (k w : ℕ) → w ≡ at t POOL (start + k) → w ≡ getD args k 0 →
+    ArgDiffers t start args k ≡ false
 arg-same t start args k w e q = ap not (eq-eqb (at t POOL (start + k)) (getD args k 0) (sym e ∙ q))
 
 module _ (t : List ℕ) (start : ℕ) (args : List ℕ) where
-  pub args-same : (i : ℕ) → length args ≤ i → NoneFrom (ArgDiffers t start args) 0 i → true ≡ same-list args (stretch t POOL start (length args))
+  pub args-same : (i : ℕ) → length args ≤ i → NoneFrom (ArgDiffers t start args) 0 i →
+      true ≡ same-list args (stretch t POOL start (length args))
   args-same i h w =
       sym
       (same-list-true args (stretch t POOL start (length args)) (sym (stretch-length t POOL start (length args)))
       (λ k l. sym (stretch-at t POOL start (length args) k l ∙ eqb-true (at t POOL (start + k)) (getD args k 0) (not-false (eqb (at t POOL (start + k)) (getD args k 0)) (w k (omega arith) (omega arith))))))
 
-  pub args-differ : (k w : ℕ) → k < length args → w ≡ at t POOL (start + k) → (w ≡ getD args k 0 → ⊥) → false ≡ same-list args (stretch t POOL start (length args))
+  pub args-differ : (k w : ℕ) → k < length args → w ≡ at t POOL (start + k) → (w ≡ getD args k 0 → ⊥) →
+      false ≡ same-list args (stretch t POOL start (length args))
   args-differ k w l e n =
       sym (same-list-false args (stretch t POOL start (length args)) k l (λ q. n (e ∙ sym (q ∙ stretch-at t POOL start (length args) k l))))
 
@@ -80,7 +83,8 @@ module _ (t : List ℕ) (code : ℕ) (args : List ℕ) where
           (ap (λ (b : Bool). same-op (op-of code) (op-of (at t OP i)) && b) (same-list-longer args (args-at t i) (λ l. n (length-is ∙ sym l)))
           ∙ and-no (same-op (op-of code) (op-of (at t OP i))))
 
-      pub app-same : (r : Bool) → w ≡ code → e - a ≡ length args → r ≡ same-list args (stretch t POOL a (length args)) → r ≡ Fits t code args i
+      pub app-same : (r : Bool) → w ≡ code → e - a ≡ length args → r ≡ same-list args (stretch t POOL a (length args)) →
+          r ≡ Fits t code args i
       unfolding same-term term-at args-at
       app-same r c l s =
           s
@@ -405,7 +409,8 @@ module _ (t : List ℕ) (o : Op) (args : List ℕ) (z : ContextSound t) where
     unchanged = λ q. refl;
   }
 
-  accept : (k : ℕ) (u : List ℕ) → terms-fit (asked .context) ≡ true → ContextSound u → k ≡ asked .id → context u ≡ asked .context → MkApp t o args (Made.the-variants.At (record { 0 = k })) u
+  accept : (k : ℕ) (u : List ℕ) → terms-fit (asked .context) ≡ true → ContextSound u → k ≡ asked .id → context u ≡ asked .context →
+      MkApp t o args (Made.the-variants.At (record { 0 = k })) u
   unfolding made-answer made-context asked
   accept k u b y e v = record {
     sound = y;
@@ -450,7 +455,8 @@ module _ (t : List ℕ) (code : ℕ) (args : List ℕ) (z : ContextSound t) (n k
         refuse t (op-of code) args z
         (ap (λ (x : Context.Made). terms-fit (x .context)) (made-none h) ∙ too-wide (intern (context t) (op-of code) args none .context) (omega arith))
 
-    pub made-new : (u : List ℕ) → n ≤ k → (n ≡ max-terms → ⊥) → length args ≤ max-places - start → Appended t code args u → MkApp t (op-of code) args (Made.the-variants.At (record { 0 = n })) u
+    pub made-new : (u : List ℕ) → n ≤ k → (n ≡ max-terms → ⊥) → length args ≤ max-places - start → Appended t code args u →
+        MkApp t (op-of code) args (Made.the-variants.At (record { 0 = n })) u
     unfolding intern
     made-new u h r q a =
         let m = made-none h in
@@ -462,7 +468,8 @@ module _ (t : List ℕ) (code : ℕ) (args : List ℕ) (z : ContextSound t) (n k
         (ap (λ (x : Context.Made). terms-fit (x .context)) m ∙ fits (intern (context t) (op-of code) args none .context) (omega arith) (omega arith))
         (a .sound) (e ∙ sym (terms-length t) ∙ sym (ap (λ (x : Context.Made). x .id) m)) (a .view ∙ sym (ap (λ (x : Context.Made). x .context) m))
 
-pub appendable : {t : List ℕ} {n k start code : ℕ} {args : List ℕ} → MayIntern t code args → n ≡ terms# t → FindsApp t code args k → n ≤ k → (n ≡ max-terms → ⊥) →
+pub appendable : {t : List ℕ} {n k start code : ℕ} {args : List ℕ} → MayIntern t code args → n ≡ terms# t → FindsApp t code args k →
+    n ≤ k → (n ≡ max-terms → ⊥) →
     start ≡ at t OFFSET n → length args ≤ max-places - start → Appendable t n start code args
 appendable {t} {n} {start = start} m e f g r o h =
     let z = m .sound in
@@ -497,7 +504,8 @@ may-equate t a b m =
     two l r (suc zero) h = r
     two l r (suc (suc j)) h = absurd (omega arith)
 
-pub symbol-code : (t : List ℕ) (s : ℕ) (args : List ℕ) (r : Made.Made) (u : List ℕ) → MkApp t (op-of (s + 1)) args r u → MkApp t (Uninterpreted s) args r u
+pub symbol-code : (t : List ℕ) (s : ℕ) (args : List ℕ) (r : Made.Made) (u : List ℕ) → MkApp t (op-of (s + 1)) args r u →
+    MkApp t (Uninterpreted s) args r u
 unfolding op-of
 symbol-code t s args r u m = rw add-one at m
 

@@ -93,7 +93,8 @@ module _ (t : List ℕ) where
   unfolding term-at
   op-is x h = ap (λ (n : Term). n .op) (sym (term-is x h))
 
-  pub stored-bucket : (x code : ℕ) (args : List ℕ) (h : ℕ) → x < terms# t → code ≡ at t OP x → args ≡ children (context t) x → h ≡ bucket code args → h ≡ bucket-of t x
+  pub stored-bucket : (x code : ℕ) (args : List ℕ) (h : ℕ) → x < terms# t → code ≡ at t OP x → args ≡ children (context t) x →
+      h ≡ bucket code args → h ≡ bucket-of t x
   unfolding bucket-of children term-at
   stored-bucket x code args h l o a e = e ∙ ap₂ bucket o (a ∙ ap (λ (y : Term). y .args) (term-is x l))
 

@@ -1,9 +1,5 @@
 -- The selectors below i stand at the end of the symbols.
-use borrow.Author.Needs.{needs}
-use mathlib.Core.Path.{_≡_}
-use Prim.Native.Nat.{_-_}
-use native.Mathlib.Omega.{arith}
-use lib.ListN.{length}
+use Rattle.core.proofs.Kit.{needs, _≡_, _-_, arith, length}
 use Rattle.core.proofs.Memory.Declarations.{Selecting, select-first, selector-room, select-next, select-done}
 use Rattle.core.proofs.context.add_selectors.Statement.{statement}
 use Rattle.core.proofs.context.add_selectors.Tie as tie

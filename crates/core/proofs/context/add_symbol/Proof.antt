@@ -1,5 +1,5 @@
 -- Its parameter sorts in four words, then the rest of its words.
-use borrow.Author.Needs.{needs}
+use Rattle.core.proofs.Kit.{needs}
 use Rattle.core.proofs.Memory.Declarations.{add-symbol}
 use Rattle.core.proofs.context.add_symbol.Statement.{statement}
 use Rattle.core.proofs.context.add_symbol.Tie as tie

@@ -1,10 +1,5 @@
 -- No datatype below s lacks a constructor with no datatype field.
-use borrow.Author.Needs.{needs}
-use Prim.Native.Nat.{_-_}
-use mathlib.Core.Path.{sym, _∙_}
-use mathlib.Core.Logic.{⊎-elim}
-use native.Mathlib.Omega.{arith}
-use borrow.Author.Tests.{eq-eqb, not-true}
+use Rattle.core.proofs.Kit.{needs, _-_, sym, _∙_, ⊎-elim, arith, eq-eqb, not-true}
 use Rattle.core.proofs.Memory.Searching.{NoneFrom, none-yet, none-more}
 use Rattle.core.proofs.Memory.Views.{datatype-word}
 use Rattle.core.proofs.Memory.Constructors.{Ungrounded, is-grounded, other-sort, one-not-grounded, each-grounded}

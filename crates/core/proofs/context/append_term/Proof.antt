@@ -1,5 +1,5 @@
 -- Its place in the index, its arguments at the end of the pool, then the rest of its words.
-use borrow.Author.Needs.{needs}
+use Rattle.core.proofs.Kit.{needs}
 use Rattle.core.proofs.Memory.Terms.{append}
 use Rattle.core.proofs.context.append_term.Statement.{statement}
 use Rattle.core.proofs.context.append_term.Tie as tie

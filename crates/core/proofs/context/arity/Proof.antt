@@ -1,7 +1,5 @@
 -- Straight.
-use borrow.Author.Needs.{needs}
-use mathlib.Core.Path.{_∙_}
-use native.Mathlib.Omega.{arith}
+use Rattle.core.proofs.Kit.{needs, _∙_, arith}
 use Rattle.core.proofs.Memory.Views.{symbols-below, arity-is}
 use Rattle.core.proofs.context.arity.Statement.{statement}
 use Rattle.core.proofs.context.arity.Tie as tie

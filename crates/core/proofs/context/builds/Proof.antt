@@ -1,6 +1,5 @@
 -- A constructor belongs to itself.
-use borrow.Author.Needs.{needs}
-use native.Mathlib.Omega.{arith}
+use Rattle.core.proofs.Kit.{needs}
 use Rattle.core.proofs.Memory.Constructors.{not-constructor, builds-by-result}
 use Rattle.core.proofs.context.builds.Statement.{statement}
 use Rattle.core.proofs.context.builds.Tie as tie

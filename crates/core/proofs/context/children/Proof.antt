@@ -1,6 +1,5 @@
 -- The arguments of a term are a part of the pool.
-use borrow.Author.Needs.{needs}
-use native.Mathlib.Omega.{arith}
+use Rattle.core.proofs.Kit.{needs, arith}
 use Rattle.core.proofs.Memory.Views.{args-part}
 use Rattle.core.proofs.context.children.Statement.{statement}
 use Rattle.core.proofs.context.children.Tie as tie

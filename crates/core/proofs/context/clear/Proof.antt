@@ -1,5 +1,5 @@
 -- Of an empty table nothing but the counts, Bool, the first offset and the buckets is read.
-use borrow.Author.Needs.{needs}
+use Rattle.core.proofs.Kit.{needs}
 use Rattle.core.proofs.Memory.Declarations.{cleared}
 use Rattle.core.proofs.context.clear.Statement.{statement}
 use Rattle.core.proofs.context.clear.Tie as tie

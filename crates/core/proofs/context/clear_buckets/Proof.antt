@@ -1,9 +1,5 @@
 -- The buckets below h are cleared.
-use borrow.Author.Needs.{needs}
-use Prim.Native.Nat.{_-_}
-use mathlib.Core.Path.{_≡_, refl}
-use native.Mathlib.Omega.{arith}
-use lib.ListN.{length}
+use Rattle.core.proofs.Kit.{needs, _-_, _≡_, refl, arith, length}
 use Rattle.core.specs.Memory.Table.{buckets}
 use Rattle.core.proofs.Memory.Declarations.{Clearing, clear-next}
 use Rattle.core.proofs.context.clear_buckets.Statement.{statement}

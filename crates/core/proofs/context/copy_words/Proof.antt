@@ -1,9 +1,6 @@
 -- The words below i are copied, and copying the others gives the whole copy.
-use borrow.Author.Needs.{needs}
-use Prim.Native.Nat.{_+_, _-_}
-use mathlib.Core.Path.{_∙_, ap}
-use native.Mathlib.Omega.{arith}
-use lib.ListN.{length}
+use Rattle.core.proofs.Kit.{needs, _-_, length}
+use Prim.Native.Nat.{_+_}
 use lib.Seq.{sets}
 use Rattle.core.specs.Memory.Words.{put-all}
 use Rattle.core.proofs.Lists.{Copying, copy-first, copy-next, copy-done}

@@ -1,6 +1,5 @@
 -- Straight.
-use borrow.Author.Needs.{needs}
-use native.Mathlib.Omega.{arith}
+use Rattle.core.proofs.Kit.{needs, arith}
 use Rattle.core.proofs.Memory.Declarations.{no-function, symbol-room, function-added}
 use Rattle.core.proofs.context.declare_fun.Statement.{statement}
 use Rattle.core.proofs.context.declare_fun.Tie as tie

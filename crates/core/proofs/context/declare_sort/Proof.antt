@@ -1,5 +1,5 @@
 -- Straight.
-use borrow.Author.Needs.{needs}
+use Rattle.core.proofs.Kit.{needs}
 use Rattle.core.proofs.Memory.Declarations.{no-more-sorts, sort-declared}
 use Rattle.core.proofs.context.declare_sort.Statement.{statement}
 use Rattle.core.proofs.context.declare_sort.Tie as tie

@@ -1,6 +1,5 @@
 -- By the digit.
-use mathlib.Core.Path.{_≡_}
-use native.Mathlib.Omega.{arith}
+use Rattle.core.proofs.Kit.{_≡_, arith}
 use Rattle.core.specs.Memory.Table.{digit}
 use Rattle.core.proofs.context.digit.Statement.{statement}
 use Rattle.core.proofs.context.digit.Tie as tie

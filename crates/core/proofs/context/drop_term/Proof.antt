@@ -1,6 +1,5 @@
 -- Its bucket begins again with the term before it.
-use borrow.Author.Needs.{needs}
-use native.Mathlib.Omega.{arith}
+use Rattle.core.proofs.Kit.{needs, arith}
 use Rattle.core.proofs.Memory.Views.{stored-bucket}
 use Rattle.core.proofs.Memory.Declarations.{dropped}
 use Rattle.core.proofs.context.drop_term.Statement.{statement}

@@ -1,6 +1,5 @@
 -- Its symbols one after the other: itself, its tester, its selectors.
-use borrow.Author.Needs.{needs}
-use native.Mathlib.Omega.{arith}
+use Rattle.core.proofs.Kit.{needs, arith}
 use Rattle.core.proofs.Memory.Declarations.{no-constructor, symbol-room, tester-room, selectors-room, constructor-added}
 use Rattle.core.proofs.context.dt_add_constructor.Statement.{statement}
 use Rattle.core.proofs.context.dt_add_constructor.Tie as tie

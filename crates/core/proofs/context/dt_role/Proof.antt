@@ -1,8 +1,5 @@
 -- A symbol belongs to a constructor before it.
-use borrow.Author.Needs.{needs}
-use mathlib.Core.Path.{_∙_, ap}
-use native.Mathlib.Omega.{arith}
-use lib.ListN.{length}
+use Rattle.core.proofs.Kit.{needs, _∙_, ap, arith, length}
 use Rattle.core.specs.Memory.Table.{role-of, context}
 use Rattle.core.proofs.Memory.Views.{symbols-below, role-is}
 use Rattle.core.proofs.Memory.Codes.{role-below}

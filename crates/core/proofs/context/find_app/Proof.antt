@@ -1,7 +1,5 @@
 -- The terms of the bucket from k on do not fit; each is found once, so the one that fits is the lowest.
-use borrow.Author.Needs.{needs}
-use mathlib.Core.Path.{sym, _∙_}
-use native.Mathlib.Omega.{arith}
+use Rattle.core.proofs.Kit.{needs, sym, _∙_, arith}
 use Rattle.core.proofs.Memory.Terms.{Walking, walk-first, walk-next, walk-found, walk-missing}
 use Rattle.core.proofs.context.find_app.Statement.{statement}
 use Rattle.core.proofs.context.find_app.Tie as tie

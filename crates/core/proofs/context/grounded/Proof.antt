@@ -1,9 +1,5 @@
 -- No symbol below s is a constructor with no datatype field.
-use borrow.Author.Needs.{needs}
-use Prim.Native.Nat.{_-_}
-use mathlib.Core.Path.{sym, _∙_}
-use mathlib.Core.Logic.{⊎-elim}
-use native.Mathlib.Omega.{arith}
+use Rattle.core.proofs.Kit.{needs, _-_, sym, _∙_, ⊎-elim, arith}
 use Rattle.core.proofs.Memory.Searching.{NoneFrom, none-yet, none-more}
 use Rattle.core.proofs.Memory.Constructors.{Grounds, not-built, not-plain, grounded-by, not-grounded}
 use Rattle.core.proofs.context.grounded.Statement.{statement}

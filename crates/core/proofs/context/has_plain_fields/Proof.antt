@@ -1,10 +1,6 @@
 -- The fields below i are of other sorts.
-use borrow.Author.Needs.{needs}
-use Prim.Native.Nat.{_-_}
-use mathlib.Core.Path.{ap, _∙_}
+use Rattle.core.proofs.Kit.{needs, _-_, ap, _∙_, arith, eq-eqb, ne-eqb}
 use mathlib.Core.Bool.{Bool, not}
-use native.Mathlib.Omega.{arith}
-use borrow.Author.Tests.{eq-eqb, ne-eqb}
 use Rattle.core.proofs.Memory.Searching.{NoneFrom, none-yet, none-more}
 use Rattle.core.proofs.Memory.Constructors.{DatatypeField, field-word, field-is-datatype, fields-are-plain}
 use Rattle.core.proofs.context.has_plain_fields.Statement.{statement}

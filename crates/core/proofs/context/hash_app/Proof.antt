@@ -1,9 +1,5 @@
 -- The bucket of the arguments below i, with the others, is that of all.
-use borrow.Author.Needs.{needs}
-use Prim.Native.Nat.{_-_}
-use mathlib.Core.Path.{refl}
-use native.Mathlib.Omega.{arith}
-use lib.ListN.{length}
+use Rattle.core.proofs.Kit.{needs, _-_, refl, arith, length}
 use Rattle.core.proofs.Memory.Index.{Hashing, hash-next, hash-done}
 use Rattle.core.proofs.context.hash_app.Statement.{statement}
 use Rattle.core.proofs.context.hash_app.Tie as tie

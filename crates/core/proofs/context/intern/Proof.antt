@@ -1,5 +1,5 @@
 -- An old term, no room for one more or for its arguments, or a new one.
-use borrow.Author.Needs.{needs}
+use Rattle.core.proofs.Kit.{needs}
 use Rattle.core.proofs.Memory.Terms.{made-old, no-more-terms, start-fits, no-more-places, appendable, made-new}
 use Rattle.core.proofs.context.intern.Statement.{statement}
 use Rattle.core.proofs.context.intern.Tie as tie

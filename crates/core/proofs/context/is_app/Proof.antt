@@ -1,6 +1,5 @@
 -- The operation is compared first, then the number of arguments, then each.
-use borrow.Author.Needs.{needs}
-use native.Mathlib.Omega.{arith}
+use Rattle.core.proofs.Kit.{needs, arith}
 use Rattle.core.proofs.Memory.Views.{args-part}
 use Rattle.core.proofs.Memory.Terms.{app-other-op, app-other-length, app-same}
 use Rattle.core.proofs.context.is_app.Statement.{statement}

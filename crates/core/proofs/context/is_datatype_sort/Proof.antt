@@ -1,6 +1,5 @@
 -- Straight.
-use borrow.Author.Needs.{needs}
-use native.Mathlib.Omega.{arith}
+use Rattle.core.proofs.Kit.{needs, arith}
 use Rattle.core.proofs.Memory.Views.{datatype-word}
 use Rattle.core.proofs.context.is_datatype_sort.Statement.{statement}
 use Rattle.core.proofs.context.is_datatype_sort.Tie as tie

@@ -1,5 +1,5 @@
 -- The code of a symbol is one more than its number.
-use borrow.Author.Needs.{needs}
+use Rattle.core.proofs.Kit.{needs}
 use Rattle.core.proofs.Memory.Terms.{may-apply, symbol-code}
 use Rattle.core.proofs.context.mk_app.Statement.{statement}
 use Rattle.core.proofs.context.mk_app.Tie as tie

@@ -1,5 +1,5 @@
 -- The code of an equation is 0.
-use borrow.Author.Needs.{needs}
+use Rattle.core.proofs.Kit.{needs}
 use Rattle.core.proofs.Memory.Terms.{may-equate, eq-code}
 use Rattle.core.proofs.context.mk_eq.Statement.{statement}
 use Rattle.core.proofs.context.mk_eq.Tie as tie

@@ -1,8 +1,5 @@
 -- The symbols below s are no constructors of the datatype.
-use borrow.Author.Needs.{needs}
-use Prim.Native.Nat.{_-_, _≤_}
-use mathlib.Core.Path.{sym, _∙_}
-use native.Mathlib.Omega.{arith}
+use Rattle.core.proofs.Kit.{needs, _-_, _≤_, sym, _∙_, arith}
 use Rattle.core.specs.Context.{builds}
 use Rattle.core.specs.Memory.Table.{context}
 use Rattle.core.proofs.Memory.Searching.{NoneFrom, none-yet, none-more}

@@ -1,5 +1,5 @@
 -- Straight.
-use borrow.Author.Needs.{needs}
+use Rattle.core.proofs.Kit.{needs}
 use Rattle.core.specs.Memory.Table.{node-of}
 use Rattle.core.specs.Memory.Codes.{declared-node}
 use Rattle.core.proofs.context.node_code.Statement.{statement}

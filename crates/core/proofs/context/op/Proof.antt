@@ -1,8 +1,5 @@
 -- An operation is as declared as its term.
-use borrow.Author.Needs.{needs}
-use mathlib.Core.Path.{_∙_, ap}
-use native.Mathlib.Omega.{arith}
-use lib.ListN.{length}
+use Rattle.core.proofs.Kit.{needs, _∙_, ap, arith, length}
 use Rattle.core.specs.Memory.Table.{op-of, context}
 use Rattle.core.proofs.Memory.Views.{terms-below, op-is}
 use Rattle.core.proofs.Memory.Codes.{op-below}

@@ -1,6 +1,5 @@
 -- Straight.
-use borrow.Author.Needs.{needs}
-use native.Mathlib.Omega.{arith}
+use Rattle.core.proofs.Kit.{needs, arith}
 use Rattle.core.specs.Memory.Table.{packed}
 use Rattle.core.proofs.context.pack.Statement.{statement}
 use Rattle.core.proofs.context.pack.Tie as tie

@@ -1,7 +1,5 @@
 -- By the words of the table.
-use borrow.Author.Needs.{needs}
-use mathlib.Core.Path.{_∙_}
-use native.Mathlib.Omega.{arith}
+use Rattle.core.proofs.Kit.{needs, _∙_, arith}
 use Rattle.core.proofs.Memory.Views.{param-word, param-is}
 use Rattle.core.proofs.context.param.Statement.{statement}
 use Rattle.core.proofs.context.param.Tie as tie

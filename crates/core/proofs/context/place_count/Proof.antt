@@ -1,7 +1,5 @@
 -- The pool ends where the next arguments would begin.
-use borrow.Author.Needs.{needs}
-use mathlib.Core.Path.{_∙_, ap, sym}
-use native.Mathlib.Omega.{arith}
+use Rattle.core.proofs.Kit.{needs, _∙_, ap, sym, arith}
 use Rattle.core.specs.Memory.Words.{at}
 use Rattle.core.specs.Memory.Table.{OFFSET}
 use Rattle.core.proofs.Memory.Terms.{places-are}

@@ -1,7 +1,5 @@
 -- Straight.
-use borrow.Author.Needs.{needs}
-use mathlib.Core.Path.{_∙_}
-use native.Mathlib.Omega.{arith}
+use Rattle.core.proofs.Kit.{needs, _∙_, arith}
 use Rattle.core.proofs.Memory.Views.{symbols-below, result-is}
 use Rattle.core.proofs.context.result_sort.Statement.{statement}
 use Rattle.core.proofs.context.result_sort.Tie as tie

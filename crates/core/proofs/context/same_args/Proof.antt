@@ -1,8 +1,5 @@
 -- The arguments below i are the words there.
-use borrow.Author.Needs.{needs}
-use Prim.Native.Nat.{_-_, _≤_}
-use native.Mathlib.Omega.{arith}
-use lib.ListN.{length}
+use Rattle.core.proofs.Kit.{needs, _-_, _≤_, arith, length}
 use Rattle.core.proofs.Memory.Searching.{NoneFrom, none-yet, none-more}
 use Rattle.core.proofs.Memory.Terms.{ArgDiffers, arg-same, args-same, args-differ}
 use Rattle.core.proofs.context.same_args.Statement.{statement}

@@ -1,6 +1,5 @@
 -- By the operation.
-use borrow.Author.Needs.{needs}
-use native.Mathlib.Omega.{arith}
+use Rattle.core.proofs.Kit.{needs, arith}
 use Rattle.core.proofs.Memory.Codes.{symbol-below, eq-sort, symbol-sort}
 use Rattle.core.proofs.context.sort_of.Statement.{statement}
 use Rattle.core.proofs.context.sort_of.Tie as tie

@@ -1,8 +1,5 @@
 -- The terms from i on are taken back.
-use borrow.Author.Needs.{needs}
-use mathlib.Core.Path.{_≡_, refl}
-use native.Mathlib.Omega.{arith}
-use lib.ListN.{length}
+use Rattle.core.proofs.Kit.{needs, _≡_, refl, arith, length}
 use Rattle.core.proofs.Memory.Declarations.{Dropping, drop-first, drop-next, drop-done}
 use Rattle.core.proofs.context.truncate.Statement.{statement}
 use Rattle.core.proofs.context.truncate.Tie as tie
