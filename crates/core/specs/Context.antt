@@ -1,7 +1,7 @@
 -- Declarations and terms (context.rs): what is made, and what is asked of it. Sorts, symbols and terms are numbered from 0 as made.
 -- Where a number is looked up, the default stands for no answer: question 5 asks that each number of a line exists, and a
 -- term's symbol and arguments were asked about, or made, before the term.
-use Prim.Native.Nat.{ℕ, zero, suc, _+_}
+use Prim.Native.Nat.{ℕ, suc, _+_}
 use mathlib.Core.Bool.{Bool, true, false, not, _&&_}
 use mathlib.Core.List.{List, [], _∷_, _++_, map}
 use mathlib.Core.Option.{Option, none, some}
@@ -9,7 +9,7 @@ use lib.Dec.{eqb, leb}
 use lib.ListN.{length, getD, take}
 use Rattle.core.specs.Limits.{max-sorts, max-symbols, max-terms, max-places}
 use Rattle.core.specs.Lists.{keep, every, any, place-from, range, total}
-use Rattle.core.specs.Sort.{SortNode, BoolSort, Datatype, Uninterpreted, is-datatype}
+use Rattle.core.specs.Sort.{SortNode, BoolSort, Uninterpreted, is-datatype}
 use Rattle.core.specs.Term as Term
 use Rattle.core.specs.Term.{Role, Constructor, Tester, Selector, Function, Symbol, Op, Eq, Term, same-term}
 

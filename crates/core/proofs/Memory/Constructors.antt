@@ -4,11 +4,10 @@ use mathlib.Core.Path.{_≡_, refl, sym, ap, ap₂, _∙_}
 use mathlib.Core.Bool.{Bool, true, false, not, _&&_}
 use mathlib.Core.List.{List}
 use native.Mathlib.Omega.{arith}
-use borrow.Author.Tests.{eq-eqb, ne-eqb}
+use borrow.Author.Tests.{ne-eqb}
 use lib.Dec.{eqb}
-use lib.ListN.{length}
 use Rattle.core.specs.Lists.{keep, every, any, range}
-use Rattle.core.specs.Context.{Context, is-constructor, is-datatype-sort, symbol, builds, dt-constructors, has-plain-fields, grounded, all-grounded}
+use Rattle.core.specs.Context.{is-constructor, is-datatype-sort, symbol, builds, dt-constructors, has-plain-fields, grounded, all-grounded}
 use Rattle.core.specs.Memory.Words.{at, counted}
 use Rattle.core.specs.Memory.Table.{SORT, OWNER, RESULT, ARITY, sorts#, symbols#, role-of, member-role, param-at, context, ContextSound, NextConstructor}
 use Rattle.core.proofs.Lists.{and-no}

@@ -1,6 +1,6 @@
 -- Declarations: an empty table, terms given back, one more sort, one more symbol, a function, a constructor.
 use Prim.Native.Nat.{ℕ, zero, suc, _+_, _-_, _*_, _/_, _%_, _≤_, _<_}
-use mathlib.Core.Path.{_≡_, refl, sym, ap, ap₂, _∙_, subst}
+use mathlib.Core.Path.{_≡_, refl, sym, ap, ap₂, _∙_}
 use mathlib.Core.Bool.{Bool, true, false, cond, _&&_, true≢false}
 use mathlib.Core.List.{List, [], _∷_, _++_, append-assoc, append-nil}
 use native.Mathlib.Decide.{ℕ-discrete}
@@ -11,10 +11,10 @@ use borrow.Author.Tests.{le-leb, lt-leb}
 use lib.Dec.{leb}
 use lib.ListN.{length, getD, take, drop, length-append, drop-of-length-le}
 use lib.Seq.{drop-cons, take-all, take-take, length-take-le}
-use Rattle.core.specs.Limits.{max-sorts, max-symbols, max-terms, max-places, max-params}
+use Rattle.core.specs.Limits.{max-sorts, max-symbols}
 use Rattle.core.specs.Lists.{range}
 use Rattle.core.specs.Sort.{SortNode, BoolSort}
-use Rattle.core.specs.Term.{Role, Constructor, Tester, Selector, Function, Symbol, Term}
+use Rattle.core.specs.Term.{Role, Function, Symbol}
 use Rattle.core.specs.Context.{Context, empty-context, with-symbols, declare-sort, declare-fun, selectors-from, constructor-symbols, dt-add-constructor, cut-terms, declarations-fit}
 use Rattle.core.specs.Memory.Words.{at, put, put-all, Kept, counted}
 use Rattle.core.specs.Memory.Table.{table-words, COUNTS, SORTS, SYMBOLS, TERMS, SORT, OWNER, RESULT, ARITY, PARAMS, OFFSET, BUCKET, LINK, core-room, sorts#, symbols#, terms#, digit, packed, packed-words, node-of, role-of, sort-at, param-at, symbol-at, term-at, context, buckets, bucket-of, newest, AllBelow, SymbolSound, ContextSound, MayDeclare, SymbolRoom, SymbolAdded, SelectorRoom, SymbolsAdded, NoTerms}
@@ -28,7 +28,7 @@ use Rattle.core.proofs.Memory.Regions.{stores}
 use Rattle.core.proofs.Memory.Index.{newest-not}
 use Rattle.core.proofs.Memory.Codes.{digit-packed, ctor-role, tester-role, selector-role}
 use Rattle.core.proofs.Memory.Views.{sorts-length, symbols-length, terms-length, offset-mono}
-use Rattle.core.proofs.Memory.Keeping.{SymbolsKept, Grows, continued, continued-old, symbol-kept, term-kept, sorts-view, symbols-view, terms-view, sorts-apart, symbols-apart, terms-apart, index-kept, index-apart}
+use Rattle.core.proofs.Memory.Keeping.{SymbolsKept, continued, continued-old, symbol-kept, term-kept, sorts-view, symbols-view, terms-view, sorts-apart, symbols-apart, terms-apart, index-kept, index-apart}
 
 -- ---- an empty table
 
@@ -188,26 +188,16 @@ too-many-symbols cx h =
     ∙ and-no (leb (length (cx .sorts)) max-sorts)
 
 refused : (t : List ℕ) (cx : Context) → ContextSound t → declarations-fit cx ≡ false → Declares t cx Declared.the-variants.NoRoom t
-refused t cx z b = record {
-  sound = z;
-  answer = sym (ap (λ (c : Bool). cond c Declared.the-variants.Done Declared.the-variants.NoRoom) b);
-  view = sym (ap (λ (c : Bool). cond c cx (context t)) b);
-  unchanged = λ q. refl;
-}
+refused t cx z b = record { sound = z; answer = rw b; view = rw b; unchanged = λ q. refl }
 
 accepted : (t : List ℕ) (cx : Context) (u : List ℕ) → ContextSound u → context u ≡ cx → Declares t cx Declared.the-variants.Done u
 unfolding declarations-fit
 accepted t cx u z e =
     let s = ap (λ (x : Context). length (x .sorts)) e in
     let y = ap (λ (x : Context). length (x .symbols)) e in
-    let b : declarations-fit cx ≡ true =
-    ap₂ (λ (p q : Bool). p && q) (le-leb (length (cx .sorts)) max-sorts (omega arith)) (le-leb (length (cx .symbols)) max-symbols (omega arith)) in
-    record {
-      sound = z;
-      answer = sym (ap (λ (c : Bool). cond c Declared.the-variants.Done Declared.the-variants.NoRoom) b);
-      view = e ∙ sym (ap (λ (c : Bool). cond c cx (context t)) b);
-      unchanged = λ q. absurd (true≢false (sym b ∙ q));
-    }
+    let p = le-leb (length (cx .sorts)) max-sorts (omega arith) in
+    let b : declarations-fit cx ≡ true = rw (p, le-leb (length (cx .symbols)) max-symbols (omega arith)) in
+    record { sound = z; answer = rw b; view = rw b e; unchanged = λ q. absurd (true≢false (sym b ∙ q)) }
 
 -- ---- one more sort
 

@@ -8,7 +8,6 @@ use lib.Dec.{T}
 use lib.ListN.{length}
 use Rattle.core.specs.Limits.{max-sorts, max-symbols, max-terms, max-places, max-params}
 use Rattle.core.specs.Term.{Term}
-use Rattle.core.specs.Context.{Context}
 use Rattle.core.specs.Memory.Words.{at, counted, stretch, clear-of, Kept}
 use Rattle.core.specs.Memory.Table.{table-words, SORT, OWNER, RESULT, ARITY, PARAMS, OP, OFFSET, POOL, BUCKET, LINK, core-room, sorts#, symbols#, terms#, digit, node-of, role-of, op-of, sort-at, param-at, symbol-at, args-at, term-at, context, buckets, bucket, bucket-of, newest, SymbolSound, TermSound, IndexSound, ContextSound}
 use Rattle.core.proofs.Memory.Counted.{counted-same, stretch-same}

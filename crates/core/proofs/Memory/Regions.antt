@@ -4,7 +4,7 @@ use mathlib.Core.Path.{_≡_}
 use mathlib.Core.List.{List}
 use lib.Dec.{T, leb, lit<}
 use lib.ListN.{length, getD}
-use Rattle.core.specs.Memory.Words.{at, put, put-all, apart, clear-of, one-of, Kept}
+use Rattle.core.specs.Memory.Words.{at, put, put-all, apart, one-of, Kept}
 use Rattle.core.specs.Memory.Table.{core-room, table-words}
 use Rattle.core.proofs.Memory.Stores as Stores
 use Rattle.core.proofs.Memory.Stores.{earlier, later, all-before}

@@ -3,22 +3,21 @@ use Prim.Native.Nat.{ℕ, zero, suc, _+_, _-_, _≤_, _<_}
 use mathlib.Core.Path.{_≡_, refl, sym, ap, ap₂, _∙_, subst}
 use mathlib.Core.Bool.{Bool, true, false, cond, not, _&&_, true≢false}
 use mathlib.Core.List.{List, [], _∷_, _++_, map, map-append}
-use mathlib.Core.Option.{Option, none, some}
-use native.Mathlib.Nat.{zero-add, add-assoc, lt-trans}
+use mathlib.Core.Option.{none}
+use native.Mathlib.Nat.{zero-add, add-assoc}
 use native.Mathlib.Numerals.{add-one}
 use native.Mathlib.Decide.{decLe, ℕ-discrete}
 use native.Mathlib.Omega.{arith}
 use borrow.Author.Tests.{eq-eqb, ne-eqb, eqb-true, not-false, le-leb, lt-leb}
 use lib.Dec.{T, eqb, leb, eqb→eq, eqb·suc-suc}
 use lib.ListN.{length, getD, length-append}
-use lib.Seq.{ext-getD}
 use Rattle.core.specs.Limits.{max-terms, max-places}
-use Rattle.core.specs.Lists.{same-list, place-from, range, total}
+use Rattle.core.specs.Lists.{same-list, range, total}
 use Rattle.core.specs.Term.{Op, Eq, Uninterpreted, Term, same-op, same-term}
 use Rattle.core.specs.Context as Context
 use Rattle.core.specs.Context.{Context, intern, mk-app, places, terms-fit}
 use Rattle.core.specs.Memory.Words.{at, put, put-all, Kept, counted, stretch}
-use Rattle.core.specs.Memory.Table.{table-words, COUNTS, SORTS, SYMBOLS, TERMS, OP, OFFSET, POOL, BUCKET, LINK, core-room, sorts#, symbols#, terms#, op-of, args-at, term-at, context, buckets, bucket, bucket-of, newest, AllBelow, TermSound, IndexSound, ContextSound, FindsApp, MayIntern, MayApply, MayEquate, Appendable, Appended}
+use Rattle.core.specs.Memory.Table.{table-words, COUNTS, TERMS, OP, OFFSET, POOL, BUCKET, LINK, core-room, sorts#, symbols#, terms#, op-of, args-at, term-at, context, buckets, bucket, bucket-of, newest, AllBelow, TermSound, IndexSound, ContextSound, FindsApp, MayIntern, MayApply, MayEquate, Appendable, Appended}
 use Rattle.core.specs.Memory.Codes.{made-answer, made-context, MkApp}
 use Rattle.core.specs.declared.context.Made as Made
 use Rattle.core.proofs.Lists.{T-and, true-T, and-no, same-list-eq, same-list-true, same-list-false, same-list-longer}
@@ -28,7 +27,7 @@ use Rattle.core.proofs.Memory.Stores.{other-place}
 use Rattle.core.proofs.Memory.Regions.{stores}
 use Rattle.core.proofs.Memory.Index.{newest-is, newest-not, newest-found, newest-in}
 use Rattle.core.proofs.Memory.Views.{terms-length}
-use Rattle.core.proofs.Memory.Keeping.{TermsKept, Grows, continued, term-kept, newest-kept, links-kept, once-kept, sorts-view, symbols-view, sorts-apart, symbols-apart}
+use Rattle.core.proofs.Memory.Keeping.{TermsKept, continued, term-kept, newest-kept, links-kept, once-kept, sorts-view, symbols-view, sorts-apart, symbols-apart}
 
 -- ---- one term
 
@@ -395,50 +394,37 @@ more-places cx o args = total-more (cx .terms) (record { op = o; args = args })
 
 -- ---- making a term: the old one, no room, or a new one
 
-module _ (t : List ℕ) (o : Op) (args : List ℕ) (z : ContextSound t) where
-  asked : Context.Made
-  asked = mk-app (context t) o args
+module _ {t : List ℕ} {o : Op} {args : List ℕ} {k : ℕ} {cx : Context} (m : mk-app (context t) o args ≡ record { id = k; context = cx }) where
+  refuse : terms-fit cx ≡ false → ContextSound t → MkApp t o args Made.the-variants.NoRoom t
+  unfolding made-answer made-context
+  refuse b z = record { sound = z; answer = rw (m, b); view = rw (m, b); unchanged = λ q. refl }
 
-  -- by whether the context asked for fits
-  refuse : terms-fit (asked .context) ≡ false → MkApp t o args Made.the-variants.NoRoom t
-  unfolding made-answer made-context asked
-  refuse b = record {
-    sound = z;
-    answer = sym (ap (λ (c : Bool). cond c (Made.the-variants.At (record { 0 = asked .id })) Made.the-variants.NoRoom) b);
-    view = sym (ap (λ (c : Bool). cond c (asked .context) (context t)) b);
-    unchanged = λ q. refl;
-  }
-
-  accept : (k : ℕ) (u : List ℕ) → terms-fit (asked .context) ≡ true → ContextSound u → k ≡ asked .id → context u ≡ asked .context →
-      MkApp t o args (Made.the-variants.At (record { 0 = k })) u
-  unfolding made-answer made-context asked
-  accept k u b y e v = record {
-    sound = y;
-    answer =
-        ap (λ (i : ℕ). Made.the-variants.At (record { 0 = i })) e
-        ∙ sym (ap (λ (c : Bool). cond c (Made.the-variants.At (record { 0 = asked .id })) Made.the-variants.NoRoom) b);
-    view = v ∙ sym (ap (λ (c : Bool). cond c (asked .context) (context t)) b);
-    unchanged = λ q. absurd (true≢false (sym b ∙ q));
-  }
+  accept : {u : List ℕ} → terms-fit cx ≡ true → ContextSound u → context u ≡ cx → MkApp t o args (Made.the-variants.At (record { 0 = k })) u
+  unfolding made-answer made-context
+  accept b y v = record { sound = y; answer = rw (m, b); view = rw (m, b) v; unchanged = λ q. absurd (true≢false (sym b ∙ (rw m at q))) }
 
 module _ (t : List ℕ) (code : ℕ) (args : List ℕ) (z : ContextSound t) (n k : ℕ) (e : n ≡ terms# t) (f : FindsApp t code args k) where
-  made-none : n ≤ k → asked t (op-of code) args z ≡ intern (context t) (op-of code) args none
-  unfolding asked mk-app
-  made-none h = let w = f .within in ap (intern (context t) (op-of code) args) (f .missing (omega arith))
-
   pub made-old : k < n → MkApp t (op-of code) args (Made.the-variants.At (record { 0 = k })) t
-  unfolding asked mk-app intern
+  unfolding mk-app intern
   made-old h =
-      let m : asked t (op-of code) args z ≡ record { id = k; context = context t } = ap (intern (context t) (op-of code) args) (f .found (omega arith)) in
       let l = places-are t z in
-      accept t (op-of code) args z k t (ap (λ (x : Context.Made). terms-fit (x .context)) m ∙ fits (context t) (omega arith) (omega arith)) z
-      (sym (ap (λ (x : Context.Made). x .id) m)) (sym (ap (λ (x : Context.Made). x .context) m))
+      accept (ap (intern (context t) (op-of code) args) (f .found (omega arith))) (fits (context t) (omega arith) (omega arith)) z refl
+
+  -- the context with the term at its end
+  more : Context
+  more = intern (context t) (op-of code) args none .context
+
+  made-none : n ≤ k → mk-app (context t) (op-of code) args ≡ record { id = n; context = more }
+  unfolding mk-app intern more
+  made-none h =
+      let w = f .within in
+      let l : length (context t .terms) ≡ n = terms-length t ∙ sym e in
+      ap (intern (context t) (op-of code) args) (f .missing (omega arith)) ∙ (λ i. record { id = l i; context = more })
 
   pub no-more-terms : n ≤ k → n ≡ max-terms → MkApp t (op-of code) args Made.the-variants.NoRoom t
+  unfolding more
   no-more-terms h q =
-      let s = more-terms (context t) (op-of code) args in
-      refuse t (op-of code) args z
-      (ap (λ (x : Context.Made). terms-fit (x .context)) (made-none h) ∙ too-many (intern (context t) (op-of code) args none .context) (omega arith))
+      let s = more-terms (context t) (op-of code) args in refuse (made-none h) (too-many more (omega arith)) z
 
   module _ (start : ℕ) (o : start ≡ at t OFFSET n) where
     begins : start ≡ places (context t)
@@ -448,25 +434,22 @@ module _ (t : List ℕ) (code : ℕ) (args : List ℕ) (z : ContextSound t) (n k
     start-fits = let p = begins in let q = places-are t z in omega arith
 
     pub no-more-places : n ≤ k → max-places - start < length args → MkApp t (op-of code) args Made.the-variants.NoRoom t
+    unfolding more
     no-more-places h q =
         let p = begins in
         let s = more-places (context t) (op-of code) args in
         let b = start-fits in
-        refuse t (op-of code) args z
-        (ap (λ (x : Context.Made). terms-fit (x .context)) (made-none h) ∙ too-wide (intern (context t) (op-of code) args none .context) (omega arith))
+        refuse (made-none h) (too-wide more (omega arith)) z
 
     pub made-new : (u : List ℕ) → n ≤ k → (n ≡ max-terms → ⊥) → length args ≤ max-places - start → Appended t code args u →
         MkApp t (op-of code) args (Made.the-variants.At (record { 0 = n })) u
-    unfolding intern
+    unfolding more
     made-new u h r q a =
-        let m = made-none h in
         let p = begins in
         let b = start-fits in
         let st = more-terms (context t) (op-of code) args in
         let sp = more-places (context t) (op-of code) args in
-        accept t (op-of code) args z n u
-        (ap (λ (x : Context.Made). terms-fit (x .context)) m ∙ fits (intern (context t) (op-of code) args none .context) (omega arith) (omega arith))
-        (a .sound) (e ∙ sym (terms-length t) ∙ sym (ap (λ (x : Context.Made). x .id) m)) (a .view ∙ sym (ap (λ (x : Context.Made). x .context) m))
+        accept (made-none h) (fits more (omega arith) (omega arith)) (a .sound) (a .view)
 
 pub appendable : {t : List ℕ} {n k start code : ℕ} {args : List ℕ} → MayIntern t code args → n ≡ terms# t → FindsApp t code args k →
     n ≤ k → (n ≡ max-terms → ⊥) →

@@ -1,16 +1,15 @@
 -- What a table means, by its words: the counts, and the sort, the symbol and the term of each number.
-use Prim.Native.Nat.{ℕ, zero, suc, _+_, _-_, _*_, _≤_, _<_}
+use Prim.Native.Nat.{ℕ, zero, suc, _+_, _-_, _≤_, _<_}
 use mathlib.Core.Path.{_≡_, refl, sym, ap, ap₂, _∙_, subst}
-use mathlib.Core.Bool.{Bool, true, false}
 use mathlib.Core.List.{List}
 use native.Mathlib.Omega.{arith}
 use borrow.Author.Tests.{ne-eqb}
 use lib.Dec.{eqb}
 use lib.ListN.{length, getD, take, drop}
-use Rattle.core.specs.Limits.{max-params, max-places}
+use Rattle.core.specs.Limits.{max-places}
 use Rattle.core.specs.Sort.{BoolSort, is-datatype}
 use Rattle.core.specs.Term.{Symbol, Term}
-use Rattle.core.specs.Context.{Context, sort-node, is-datatype-sort, no-symbol, symbol, no-term, term, children}
+use Rattle.core.specs.Context.{sort-node, is-datatype-sort, no-symbol, symbol, no-term, term, children}
 use Rattle.core.specs.Memory.Words.{at, counted, stretch}
 use Rattle.core.specs.Memory.Table.{SORT, OWNER, RESULT, ARITY, OP, OFFSET, POOL, sorts#, symbols#, terms#, node-of, role-of, op-of, sort-at, param-at, symbol-at, args-at, term-at, context, bucket, bucket-of, ContextSound, HasParam, HasParamWord}
 use Rattle.core.proofs.Memory.Counted.{counted-length, counted-at, part-is-stretch}
