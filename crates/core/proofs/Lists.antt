@@ -200,9 +200,9 @@ pub record Copying (t₀ : List ℕ) (at : ℕ) (vs t : List ℕ) (i : ℕ) : Ty
 pub copy-first : (t : List ℕ) (at : ℕ) (vs : List ℕ) → Copying t at vs t 0
 copy-first t at vs = record { within = omega arith; long = refl; rest = ap (λ (k : ℕ). sets t k vs) (add-zero at) }
 
-pub copy-next : (t₀ : List ℕ) (at : ℕ) (vs t : List ℕ) (i : ℕ) → Copying t₀ at vs t i → i < length vs →
+pub copy-next : {t₀ : List ℕ} {at : ℕ} {vs t : List ℕ} {i : ℕ} → Copying t₀ at vs t i → i < length vs →
     Copying t₀ at vs (set t (at + i) (getD vs i 0)) (i + 1)
-copy-next t₀ at vs t i c h =
+copy-next {at = at} {vs} {t} {i} c h =
     let e : at + (i + 1) ≡ suc (at + i) = omega arith in
     let d : i + 1 ≡ suc i = omega arith in
     record {
@@ -214,8 +214,8 @@ copy-next t₀ at vs t i c h =
           ∙ c .rest;
     }
 
-pub copy-done : (t₀ : List ℕ) (at : ℕ) (vs t : List ℕ) (i : ℕ) → Copying t₀ at vs t i → length vs ≤ i → t ≡ sets t₀ at vs
-copy-done t₀ at vs t i c h = sym (ap (λ (ws : List ℕ). sets t (at + i) ws) (drop-of-length-le vs h)) ∙ c .rest
+pub copy-done : {t₀ : List ℕ} {at : ℕ} {vs t : List ℕ} {i : ℕ} → Copying t₀ at vs t i → length vs ≤ i → t ≡ sets t₀ at vs
+copy-done {at = at} {vs} {t} {i} c h = sym (ap (λ (ws : List ℕ). sets t (at + i) ws) (drop-of-length-le vs h)) ∙ c .rest
 
 -- stores one after the other
 pub set-after : (l l₁ l₂ : List ℕ) (i v : ℕ) → l₂ ≡ set l₁ i v → l₁ ≡ l → l₂ ≡ set l i v

@@ -59,19 +59,19 @@ role-below m n DtRole.the-variants.Function h b = tt
 
 -- ---- an operation that a match has found
 
-pub symbol-below : (t : List ℕ) (x : ℕ) (r : Op.Op) (f : SymbolId) → OpAt t x r → r ≡ Op.the-variants.Uninterpreted f →
+pub symbol-below : {t : List ℕ} {x : ℕ} {r : Op.Op} {f : SymbolId} → OpAt t x r → r ≡ Op.the-variants.Uninterpreted f →
     f .0 < length (context t .symbols)
 unfolding OpBelow
-symbol-below t x r f o e = subst (OpBelow (length (context t .symbols))) e (o .declared)
+symbol-below {t} o e = subst (OpBelow (length (context t .symbols))) e (o .declared)
 
-pub eq-sort : (t : List ℕ) (x : ℕ) (r : Op.Op) → OpAt t x r → r ≡ Op.the-variants.Eq → 0 ≡ sort-of (context t) x
+pub eq-sort : {t : List ℕ} {x : ℕ} {r : Op.Op} → OpAt t x r → r ≡ Op.the-variants.Eq → 0 ≡ sort-of (context t) x
 unfolding sort-of result-of op-meaning
-eq-sort t x r o e = ap (result-of (context t)) (sym (ap op-meaning e) ∙ o .is)
+eq-sort {t} o e = ap (result-of (context t)) (sym (ap op-meaning e) ∙ o .is)
 
-pub symbol-sort : (t : List ℕ) (x : ℕ) (r : Op.Op) (f : SymbolId) (q : ℕ) → OpAt t x r → r ≡ Op.the-variants.Uninterpreted f →
+pub symbol-sort : {t : List ℕ} {x : ℕ} {r : Op.Op} {f : SymbolId} {q : ℕ} → OpAt t x r → r ≡ Op.the-variants.Uninterpreted f →
     q ≡ symbol (context t) (f .0) .result → q ≡ sort-of (context t) x
 unfolding sort-of result-of op-meaning
-symbol-sort t x r f q o e p = p ∙ ap (result-of (context t)) (sym (ap op-meaning e) ∙ o .is)
+symbol-sort {t} o e p = p ∙ ap (result-of (context t)) (sym (ap op-meaning e) ∙ o .is)
 
 -- ---- four sorts in a word
 

@@ -44,7 +44,7 @@ module _ (t : List ℕ) (dt s w : ℕ) (h : s < symbols# t) (e : w ≡ at t OWNE
       ap is-constructor (sym (role-is t s h) ∙ ap (role-of s) (sym e ∙ q) ∙ ctor-role s) in
       ap (λ (x : ℕ). eqb x dt) (p ∙ result-is t s h) ∙ ap (λ (b : Bool). b && eqb (symbol (context t) s .result) dt) (sym c)
 
-module _ (t : List ℕ) (dt from s n : ℕ) (e : n ≡ symbols# t) (a : from ≤ s) (w : NoneFrom (builds (context t) dt) from s) where
+module _ (t : List ℕ) (dt : ℕ) {from s n : ℕ} (e : n ≡ symbols# t) (a : from ≤ s) (w : NoneFrom (builds (context t) dt) from s) where
   pub seek-found : s < n → true ≡ builds (context t) dt s → NextConstructor t dt from s
   seek-found h b = let l = symbols-length t in record { after = a; within = omega arith; between = w; here = λ l. sym b }
 
@@ -57,9 +57,9 @@ module _ (t : List ℕ) (dt from s n : ℕ) (e : n ≡ symbols# t) (a : from ≤
 abbrev pub DatatypeField : List ℕ → ℕ → ℕ → Bool
 DatatypeField t s i = not (not (is-datatype-sort (context t) (param-at t s i)))
 
-pub field-word : (t : List ℕ) (s i p r : ℕ) → p ≡ param-at t s i → p < sorts# t → r ≡ at t SORT p →
+pub field-word : (t : List ℕ) (s i : ℕ) {p r : ℕ} → p ≡ param-at t s i → p < sorts# t → r ≡ at t SORT p →
     is-datatype-sort (context t) (param-at t s i) ≡ eqb r 1
-field-word t s i p r e h w = ap (is-datatype-sort (context t)) (sym e) ∙ sym (datatype-word t p r h w)
+field-word t s i {p} {r} e h w = ap (is-datatype-sort (context t)) (sym e) ∙ sym (datatype-word t p r h w)
 
 module _ (t : List ℕ) (s n : ℕ) (h : s < symbols# t) (e : n ≡ at t ARITY s) where
   abbrev field-test : ℕ → Bool

@@ -151,10 +151,10 @@ drop-first t n i z h e = record {
   long = refl;
 }
 
-pub drop-next : (t₀ : List ℕ) (n : ℕ) (t : List ℕ) (i j : ℕ) (u : List ℕ) → Dropping t₀ n t i → n < i → j ≡ i - 1 → length u ≡ length t →
+pub drop-next : {t₀ : List ℕ} {n : ℕ} {t : List ℕ} {i j : ℕ} {u : List ℕ} → Dropping t₀ n t i → n < i → j ≡ i - 1 → length u ≡ length t →
     ContextSound u → context u ≡ cut-terms j (context t) → Dropping t₀ n u j
 unfolding cut-terms
-drop-next t₀ n t i j u d h e l z v =
+drop-next {t₀} {t = t} {i} {j} {u} d h e l z v =
     let c = d .count in
     let long = d .long in
     let n₀ = ap (λ (x : Context). length (x .terms)) v in
@@ -171,21 +171,19 @@ drop-next t₀ n t i j u d h e l z v =
       long = omega arith;
     }
 
-pub drop-done : (t₀ : List ℕ) (n : ℕ) (t : List ℕ) (i : ℕ) → Dropping t₀ n t i → i ≤ n →
+pub drop-done : {t₀ : List ℕ} {n : ℕ} {t : List ℕ} {i : ℕ} → Dropping t₀ n t i → i ≤ n →
     ContextSound t × (context t ≡ cut-terms n (context t₀))
-drop-done t₀ n t i d h = let a = d .above in let e : n ≡ i = omega arith in (d .sound, rw e (d .view))
+drop-done {n = n} {i = i} d h = let a = d .above in let e : n ≡ i = omega arith in (d .sound, rw e (d .view))
 
 -- ---- whether declarations fit
 
 too-many-sorts : (cx : Context) → max-sorts < length (cx .sorts) → declarations-fit cx ≡ false
 unfolding declarations-fit
-too-many-sorts cx h = ap (λ (a : Bool). a && leb (length (cx .symbols)) max-symbols) (lt-leb (length (cx .sorts)) max-sorts h)
+too-many-sorts cx h = rw (lt-leb (length (cx .sorts)) max-sorts h)
 
 too-many-symbols : (cx : Context) → max-symbols < length (cx .symbols) → declarations-fit cx ≡ false
 unfolding declarations-fit
-too-many-symbols cx h =
-    ap (λ (b : Bool). leb (length (cx .sorts)) max-sorts && b) (lt-leb (length (cx .symbols)) max-symbols h)
-    ∙ and-no (leb (length (cx .sorts)) max-sorts)
+too-many-symbols cx h = rw (lt-leb (length (cx .symbols)) max-symbols h) (and-no (leb (length (cx .sorts)) max-sorts))
 
 refused : (t : List ℕ) (cx : Context) → ContextSound t → declarations-fit cx ≡ false → Declares t cx Declared.the-variants.NoRoom t
 refused t cx z b = record { sound = z; answer = rw b; view = rw b; unchanged = λ q. refl }
@@ -344,9 +342,9 @@ too-many t new h z =
     refused t (with-symbols (context t) new) z (too-many-symbols (with-symbols (context t) new) (omega arith))
 
 -- room for one symbol, by what the view has
-pub symbol-room : (t : List ℕ) (n owner result : ℕ) (params : List ℕ) → MayDeclare t result params → n ≡ symbols# t → n < max-symbols →
+pub symbol-room : {t : List ℕ} {n owner result : ℕ} {params : List ℕ} → MayDeclare t result params → n ≡ symbols# t → n < max-symbols →
     owner ≤ n + 1 → SymbolRoom t n owner result params
-symbol-room t n owner result params a e r o =
+symbol-room a e r o =
     let z = a .sound in
     record {
       sound = z;
@@ -376,10 +374,10 @@ pub no-function : (t : List ℕ) (n result : ℕ) (params : List ℕ) → Contex
 unfolding declare-fun
 no-function t n result params z e q = too-many t (record { role = Function; params = params; result = result } ∷ []) (omega arith) z
 
-pub function-added : (t : List ℕ) (n result : ℕ) (params u : List ℕ) → SymbolAdded t n 0 result params u →
+pub function-added : {t : List ℕ} {n result : ℕ} {params u : List ℕ} → SymbolAdded t n 0 result params u →
     Declares t (declare-fun (context t) result params) Declared.the-variants.Done u
 unfolding declare-fun role-of
-function-added t n result params u a = accepted t (declare-fun (context t) result params) u (a .sound) (a .view)
+function-added {t} {result = result} {params} {u} a = accepted t (declare-fun (context t) result params) u (a .sound) (a .view)
 
 -- ---- selectors
 
@@ -392,12 +390,12 @@ pub record Selecting (t₀ : List ℕ) (c dt : ℕ) (fields t : List ℕ) (i : �
   pub sorts : sorts# t ≡ sorts# t₀
   pub rest : with-symbols (context t) (selectors-from c dt i (drop i fields)) ≡ with-symbols (context t₀) (selectors-from c dt 0 fields)
 
-module _ (t₀ : List ℕ) (c dt : ℕ) (fields : List ℕ) where
+module _ {t₀ : List ℕ} {c dt : ℕ} {fields : List ℕ} where
   pub select-first : SelectorRoom t₀ c dt fields → Selecting t₀ c dt fields t₀ 0
   select-first a =
       let e = a .next in record { within = omega arith; long = refl; sound = a .sound; count = omega arith; sorts = refl; rest = refl }
 
-  module _ (t : List ℕ) (i : ℕ) (s : Selecting t₀ c dt fields t i) where
+  module _ {t : List ℕ} {i : ℕ} (s : Selecting t₀ c dt fields t i) where
     pub selector-room : SelectorRoom t₀ c dt fields → i < length fields → SymbolRoom t (c + 2 + i) (c + 1) (getD fields i 0) (dt ∷ [])
     selector-room a h =
         let g = a .sorts i h in
@@ -420,9 +418,9 @@ module _ (t₀ : List ℕ) (c dt : ℕ) (fields : List ℕ) where
         ∙ sym (ap (λ (xs : List ℕ). with-symbols (context t) (selectors-from c dt i xs)) (drop-cons fields i 0 h))
         ∙ s .rest
 
-    pub select-next : (u : List ℕ) → i < length fields → length u ≡ length t →
+    pub select-next : {u : List ℕ} → i < length fields → length u ≡ length t →
         SymbolAdded t (c + 2 + i) (c + 1) (getD fields i 0) (dt ∷ []) u → Selecting t₀ c dt fields u (i + 1)
-    select-next u h l a =
+    select-next {u} h l a =
         let n = counts t u (record { role = role-of (c + 2 + i) (c + 1); params = dt ∷ []; result = getD fields i 0 } ∷ []) (a .view) in
         let e = s .count in
         let o = s .sorts in
@@ -456,7 +454,7 @@ no-constructor t n dt fields z e h =
     too-many t (constructor-symbols (length (context t .symbols)) dt fields) (omega arith) z
 
 -- its symbols one after the other: itself, its tester, its selectors
-module _ (t : List ℕ) (n dt : ℕ) (fields t₁ : List ℕ) (e : n ≡ symbols# t) (a : SymbolAdded t n (n + 1) dt fields t₁) where
+module _ {t : List ℕ} {n dt : ℕ} {fields t₁ : List ℕ} (e : n ≡ symbols# t) (a : SymbolAdded t n (n + 1) dt fields t₁) where
   module _ (m : MayDeclare t dt fields) (h : length fields + 2 ≤ max-symbols - n) where
     after-ctor : Counts t t₁ 1
     after-ctor = counts t t₁ (record { role = role-of n (n + 1); params = fields; result = dt } ∷ []) (a .view)
@@ -469,8 +467,8 @@ module _ (t : List ℕ) (n dt : ℕ) (fields t₁ : List ℕ) (e : n ≡ symbols
         let b = a .sound .bool in
         single-room t₁ (n + 1) (n + 1) 0 dt (a .sound) (omega arith) (omega arith) (omega arith) b (omega arith)
 
-    pub selectors-room : (t₂ : List ℕ) → SymbolAdded t₁ (n + 1) (n + 1) 0 (dt ∷ []) t₂ → SelectorRoom t₂ n dt fields
-    selectors-room t₂ b =
+    pub selectors-room : {t₂ : List ℕ} → SymbolAdded t₁ (n + 1) (n + 1) 0 (dt ∷ []) t₂ → SelectorRoom t₂ n dt fields
+    selectors-room {t₂} b =
         let c = after-ctor in
         let g = counts t₁ t₂ (record { role = role-of (n + 1) (n + 1); params = dt ∷ []; result = 0 } ∷ []) (b .view) in
         let z = m .sound in
@@ -483,11 +481,11 @@ module _ (t : List ℕ) (n dt : ℕ) (fields t₁ : List ℕ) (e : n ≡ symbols
           sorts = λ j l. let q = m .sorts j l in omega arith;
         }
 
-  pub constructor-added : (t₂ u : List ℕ) → SymbolAdded t₁ (n + 1) (n + 1) 0 (dt ∷ []) t₂ →
+  pub constructor-added : {t₂ u : List ℕ} → SymbolAdded t₁ (n + 1) (n + 1) 0 (dt ∷ []) t₂ →
       SymbolsAdded t₂ (selectors-from n dt 0 fields) u →
       Declares t (dt-add-constructor (context t) dt fields) Declared.the-variants.Done u
   unfolding dt-add-constructor constructor-symbols
-  constructor-added t₂ u b c =
+  constructor-added {u = u} b c =
       let ctor : Role → Symbol = λ r. record { role = r; params = fields; result = dt } in
       let tester : Role → Symbol = λ r. record { role = r; params = dt ∷ []; result = 0 } in
       let sels = selectors-from n dt 0 fields in

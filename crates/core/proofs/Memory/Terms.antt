@@ -64,13 +64,13 @@ abbrev pub Fits : List ℕ → ℕ → List ℕ → ℕ → Bool
 Fits t code args i = same-term (op-of code) args (term-at t i)
 
 module _ (t : List ℕ) (code : ℕ) (args : List ℕ) where
-  module _ (i w : ℕ) (o : w ≡ at t OP i) where
+  module _ (i : ℕ) {w : ℕ} (o : w ≡ at t OP i) where
     pub app-other-op : (w ≡ code → ⊥) → false ≡ Fits t code args i
     unfolding same-term term-at
     app-other-op n =
         sym (ap (λ (b : Bool). b && same-list args (args-at t i)) (same-op-codes code (at t OP i) ∙ ne-eqb code (at t OP i) (λ q. n (o ∙ sym q))))
 
-    module _ (a e : ℕ) (p : a ≡ at t OFFSET i) (q : e ≡ at t OFFSET (i + 1)) where
+    module _ {a e : ℕ} (p : a ≡ at t OFFSET i) (q : e ≡ at t OFFSET (i + 1)) where
       length-is : e - a ≡ length (args-at t i)
       unfolding args-at
       length-is = ap₂ (λ (x y : ℕ). x - y) q p ∙ sym (stretch-length t POOL (at t OFFSET i) (at t OFFSET (i + 1) - at t OFFSET i))
@@ -82,10 +82,10 @@ module _ (t : List ℕ) (code : ℕ) (args : List ℕ) where
           (ap (λ (b : Bool). same-op (op-of code) (op-of (at t OP i)) && b) (same-list-longer args (args-at t i) (λ l. n (length-is ∙ sym l)))
           ∙ and-no (same-op (op-of code) (op-of (at t OP i))))
 
-      pub app-same : (r : Bool) → w ≡ code → e - a ≡ length args → r ≡ same-list args (stretch t POOL a (length args)) →
+      pub app-same : {r : Bool} → w ≡ code → e - a ≡ length args → r ≡ same-list args (stretch t POOL a (length args)) →
           r ≡ Fits t code args i
       unfolding same-term term-at args-at
-      app-same r c l s =
+      app-same c l s =
           s
           ∙ ap (λ (n : ℕ). same-list args (stretch t POOL a n)) (sym l)
           ∙ ap₂ (λ (x y : ℕ). same-list args (stretch t POOL x (y - x))) p q
@@ -372,16 +372,15 @@ places-are t z = places-below t z (terms# t) (omega arith)
 
 fits : (cx : Context) → length (cx .terms) ≤ max-terms → places cx ≤ max-places → terms-fit cx ≡ true
 unfolding terms-fit
-fits cx h l = ap₂ (λ (a b : Bool). a && b) (le-leb (length (cx .terms)) max-terms h) (le-leb (places cx) max-places l)
+fits cx h l = rw (le-leb (length (cx .terms)) max-terms h, le-leb (places cx) max-places l)
 
 too-many : (cx : Context) → max-terms < length (cx .terms) → terms-fit cx ≡ false
 unfolding terms-fit
-too-many cx h = ap (λ (a : Bool). a && leb (places cx) max-places) (lt-leb (length (cx .terms)) max-terms h)
+too-many cx h = rw (lt-leb (length (cx .terms)) max-terms h)
 
 too-wide : (cx : Context) → max-places < places cx → terms-fit cx ≡ false
 unfolding terms-fit
-too-wide cx h =
-    ap (λ (b : Bool). leb (length (cx .terms)) max-terms && b) (lt-leb (places cx) max-places h) ∙ and-no (leb (length (cx .terms)) max-terms)
+too-wide cx h = rw (lt-leb (places cx) max-places h) (and-no (leb (length (cx .terms)) max-terms))
 
 -- the context with one more term at its end
 more-terms : (cx : Context) (o : Op) (args : List ℕ) → length (intern cx o args none .context .terms) ≡ suc (length (cx .terms))

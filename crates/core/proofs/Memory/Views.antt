@@ -92,10 +92,10 @@ module _ (t : List ℕ) where
   unfolding term-at
   op-is x h = ap (λ (n : Term). n .op) (sym (term-is x h))
 
-  pub stored-bucket : (x code : ℕ) (args : List ℕ) (h : ℕ) → x < terms# t → code ≡ at t OP x → args ≡ children (context t) x →
+  pub stored-bucket : (x : ℕ) {code : ℕ} {args : List ℕ} {h : ℕ} → x < terms# t → code ≡ at t OP x → args ≡ children (context t) x →
       h ≡ bucket code args → h ≡ bucket-of t x
   unfolding bucket-of children term-at
-  stored-bucket x code args h l o a e = e ∙ ap₂ bucket o (a ∙ ap (λ (y : Term). y .args) (term-is x l))
+  stored-bucket x l o a e = e ∙ ap₂ bucket o (a ∙ ap (λ (y : Term). y .args) (term-is x l))
 
   -- offsets rise
   pub offset-le : ContextSound t → (i n : ℕ) → i + n ≤ terms# t → at t OFFSET i ≤ at t OFFSET (i + n)

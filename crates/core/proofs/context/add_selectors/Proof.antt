@@ -12,20 +12,20 @@ abbrev μ-loop : tie.MeasureT-loop
 
 add-symbol-requires : tie.Need-add-symbol-requires Inv-loop μ-loop
 add-symbol-requires c κs =
-    selector-room _ _ _ _ _ _ (c .before .before .before .before .loop .inv) (c .before .before .before .before .before .before .before .pre) (c .before .before .before .loop-test .taken)
+    selector-room (c .before .before .before .before .loop .inv) (c .before .before .before .before .before .before .before .pre) (c .before .before .before .loop-test .taken)
 
 loop-again : tie.Need-loop-again Inv-loop μ-loop
 loop-again c =
     let loop = c .before .before .before .before .before .before .before .loop in
     let l : length (c .before .before .add-symbol .last .0) ≡ length (loop .t) = search needs in
-    select-next _ _ _ _ _ _ (loop .inv) _ (c .before .before .before .before .before .before .loop-test .taken) l (c .before .before .add-symbol .ensures)
+    select-next (loop .inv) (c .before .before .before .before .before .before .loop-test .taken) l (c .before .before .add-symbol .ensures)
 
 pub add-selectors-spec : {M : Type 1} → statement M
 add-selectors-spec =
-    tie.close (tie.spec Inv-loop μ-loop (λ c. select-first _ _ _ _ (c .before .before .pre))
+    tie.close (tie.spec Inv-loop μ-loop (λ c. select-first (c .before .before .pre))
     (λ c. let a = c .before .before .before .before .before .pre .room in omega arith)
     (λ c. let a = c .before .before .before .before .before .pre .room in omega arith)
     (λ c. let a = c .before .before .before .before .before .pre .room in omega arith) (λ c. search needs) (λ c. search needs)
     (λ c. omega (arith, c .shared-slice-known2 .given (c .before .before .before .loop .i))) (λ c. search needs) add-symbol-requires
     (λ c. search needs) (λ c. search needs) loop-again (λ c. c .before .loop .inv .long)
-    (λ c. select-done _ _ _ _ _ _ (c .before .loop .inv) (c .loop-test .left)))
+    (λ c. select-done (c .before .loop .inv) (c .loop-test .left)))

@@ -1,5 +1,7 @@
 -- The words below i are copied, and copying the others gives the whole copy.
 use Rattle.core.proofs.Kit.{needs, _-_, length}
+use Prim.Native.Nat.{_+_}
+use lib.Seq.{sets}
 use Rattle.core.specs.Memory.Words.{put-all}
 use Rattle.core.proofs.Lists.{Copying, copy-first, copy-next, copy-done}
 use Rattle.core.proofs.context.copy_words.Statement.{statement}
@@ -13,10 +15,10 @@ abbrev μ-loop : tie.MeasureT-loop
 
 returns : tie.Need-returns Inv-loop μ-loop
 unfolding put-all
-returns c = copy-done _ _ _ _ _ (c .before .loop .inv) (c .loop-test .left)
+returns c = copy-done (c .before .loop .inv) (c .loop-test .left)
 
 pub copy-words-spec : {M : Type 1} → statement M
 copy-words-spec =
     tie.close (tie.spec Inv-loop μ-loop (λ c. search needs) (λ c. copy-first _ _ _) (λ c. search needs) (λ c. search needs)
     (λ c. search needs) (λ c. search needs) (λ c. search needs) (λ c. search needs) (λ c. search needs)
-    (λ c. copy-next _ _ _ _ _ (c .before .before .loop .inv) (c .before .loop-test .taken)) (λ c. c .before .loop .inv .long) returns)
+    (λ c. copy-next (c .before .before .loop .inv) (c .before .loop-test .taken)) (λ c. c .before .loop .inv .long) returns)

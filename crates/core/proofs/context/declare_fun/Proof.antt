@@ -13,9 +13,9 @@ add-symbol-requires c κs =
     let z = c .before .before .before .before .before .before .before .pre .sound in
     let e = c .before .before .before .get-at .ensures .0 in
     let g = c .before .before .if1 .left in
-    symbol-room _ _ _ _ _ (c .before .before .before .before .before .before .before .pre) e (omega arith) (omega arith)
+    symbol-room (c .before .before .before .before .before .before .before .pre) e (omega arith) (omega arith)
 
 pub declare-fun-spec : {M : Type 1} → statement M
 declare-fun-spec =
     tie.close (tie.spec (λ c κs. search needs) (λ c. search needs) returns (λ c. search needs) add-symbol-requires (λ c. search needs)
-    (λ c. function-added _ _ _ _ _ (c .before .before .add-symbol .ensures)))
+    (λ c. function-added (c .before .before .add-symbol .ensures)))

@@ -17,7 +17,7 @@ returns c =
     let hash = c .before .before .before .before .before .before .before .before .before .before in
     let entry = c .before .before .before .before .before .before .before .before .before .before .before .before .before .before .before .before in
     let z = entry .pre in
-    let b = stored-bucket _ _ _ _ _ (omega arith) (hash .before .before .before .get-at .ensures .0) (hash .before .children .ensures) (hash .hash-app .ensures .0) in
+    let b = stored-bucket _ _ (omega arith) (hash .before .before .before .get-at .ensures .0) (hash .before .children .ensures) (hash .hash-app .ensures .0) in
     dropped (entry .args .i) (z .0) (z .1) b (hash .hash-app .ensures .1) (c .before .before .before .before .before .before .before .before .get-at2 .ensures .0) (c .before .before .before .before .before .before .put-at .ensures) (c .before .before .put-at2 .ensures)
 
 pub drop-term-spec : {M : Type 1} → statement M

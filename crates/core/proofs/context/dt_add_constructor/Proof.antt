@@ -8,22 +8,22 @@ add-symbol-requires : tie.Need-add-symbol-requires
 add-symbol-requires c κs =
     let e = c .before .before .get-at .ensures .0 in
     let g = c .before .if1 .left in
-    symbol-room _ _ _ _ _ (c .before .before .before .before .before .before .pre) e (omega arith) (omega arith)
+    symbol-room (c .before .before .before .before .before .before .pre) e (omega arith) (omega arith)
 
 add-symbol-requires-2 : tie.Need-add-symbol-requires-2
 add-symbol-requires-2 c κs =
-    let entry = c .before .before .before .before .before .before .before .before .before .before .before in tester-room _ _ _ _ _ (c .before .before .before .before .before .before .before .get-at .ensures .0) (c .before .before .before .before .add-symbol .ensures) (entry .pre) (c .before .before .before .before .before .before .if1 .left)
+    let entry = c .before .before .before .before .before .before .before .before .before .before .before in tester-room (c .before .before .before .before .before .before .before .get-at .ensures .0) (c .before .before .before .before .add-symbol .ensures) (entry .pre) (c .before .before .before .before .before .before .if1 .left)
 
 add-selectors-requires : tie.Need-add-selectors-requires
 add-selectors-requires c κs =
     let entry = c .before .before .before .before .before .before .before .before .before .before .before .before .before .before .before in
     let e = c .before .before .before .before .before .before .before .before .before .before .before .get-at .ensures .0 in
-    selectors-room _ _ _ _ _ e (c .before .before .before .before .before .before .before .before .add-symbol .ensures) (entry .pre) (c .before .before .before .before .before .before .before .before .before .before .if1 .left) _ (c .before .before .before .add-symbol2 .ensures)
+    selectors-room e (c .before .before .before .before .before .before .before .before .add-symbol .ensures) (entry .pre) (c .before .before .before .before .before .before .before .before .before .before .if1 .left) (c .before .before .before .add-symbol2 .ensures)
 
 returns-2 : tie.Need-returns-2
 returns-2 c =
     let e = c .before .before .before .before .before .before .before .before .before .before .before .before .before .before .get-at .ensures .0 in
-    constructor-added _ _ _ _ _ e (c .before .before .before .before .before .before .before .before .before .before .before .add-symbol .ensures) _ _ (c .before .before .before .before .before .before .add-symbol2 .ensures) (c .before .before .add-selectors .ensures)
+    constructor-added e (c .before .before .before .before .before .before .before .before .before .before .before .add-symbol .ensures) (c .before .before .before .before .before .before .add-symbol2 .ensures) (c .before .before .add-selectors .ensures)
 
 pub dt-add-constructor-spec : {M : Type 1} → statement M
 dt-add-constructor-spec =

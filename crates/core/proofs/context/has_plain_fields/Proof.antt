@@ -21,13 +21,13 @@ param-sort-requires c κs =
 returns : tie.Need-returns Inv-loop μ-loop
 returns c =
     let p = c .before .before .param-sort .ensures in
-    let d = field-word _ _ _ _ _ (p .0) (p .1) (c .before .get-at2 .ensures .0) ∙ eq-eqb _ _ (c .if1 .taken) in
+    let d = field-word _ _ _ (p .0) (p .1) (c .before .get-at2 .ensures .0) ∙ eq-eqb _ _ (c .if1 .taken) in
     field-is-datatype _ _ _ (c .before .before .before .before .before .before .before .pre .1) (c .before .before .before .before .before .get-at .ensures .0) _ (c .before .before .before .loop-test .taken) d
 
 loop-again : tie.Need-loop-again Inv-loop μ-loop
 loop-again c =
     let p = c .before .before .param-sort .ensures in
-    let d = field-word _ _ _ _ _ (p .0) (p .1) (c .before .get-at2 .ensures .0) ∙ ne-eqb _ _ (c .if1 .left) in
+    let d = field-word _ _ _ (p .0) (p .1) (c .before .get-at2 .ensures .0) ∙ ne-eqb _ _ (c .if1 .left) in
     none-more _ 0 _ (c .before .before .before .before .loop .inv) (ap (λ (b : Bool). not (not b)) d)
 
 returns-2 : tie.Need-returns-2 Inv-loop μ-loop

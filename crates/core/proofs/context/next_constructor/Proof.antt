@@ -25,7 +25,7 @@ returns : tie.Need-returns Inv-loop μ-loop
 returns c =
     let i = c .before .before .before .loop .inv in
     let e = c .before .before .before .before .before .get-at .ensures .0 in
-    seek-found _ _ _ _ _ e (i .1) (i .2) (c .before .before .loop-test .taken) (sym (c .if1 .taken) ∙ c .before .builds .ensures)
+    seek-found _ _ e (i .1) (i .2) (c .before .before .loop-test .taken) (sym (c .if1 .taken) ∙ c .before .builds .ensures)
 
 loop-again : tie.Need-loop-again Inv-loop μ-loop
 loop-again c =
@@ -33,7 +33,7 @@ loop-again c =
 
 returns-2 : tie.Need-returns-2 Inv-loop μ-loop
 returns-2 c =
-    let i = c .before .loop .inv in seek-none _ _ _ _ _ (c .before .before .before .get-at .ensures .0) (i .1) (i .2) (i .0) (c .loop-test .left)
+    let i = c .before .loop .inv in seek-none _ _ (c .before .before .before .get-at .ensures .0) (i .1) (i .2) (i .0) (c .loop-test .left)
 
 pub next-constructor-spec : {M : Type 1} → statement M
 next-constructor-spec =

@@ -6,16 +6,16 @@ use Rattle.core.proofs.context.sort_of.Tie as tie
 
 result-sort-requires : tie.Need-result-sort-requires
 result-sort-requires c κs =
-    (c .before .before .before .before .before .pre .0, symbol-below _ _ _ _ (c .before .before .before .op .ensures) (c .before .f .given .1))
+    (c .before .before .before .before .before .pre .0, symbol-below (c .before .before .before .op .ensures) (c .before .f .given .1))
 
 returns : tie.Need-returns
 returns c =
-    let z = c .before .before .before .before .pre .0 in (eq-sort _ _ _ (c .before .before .op .ensures) (c .enum-told .given .1), omega arith)
+    let z = c .before .before .before .before .pre .0 in (eq-sort (c .before .before .op .ensures) (c .enum-told .given .1), omega arith)
 
 returns-2 : tie.Need-returns-2
 returns-2 c =
     let o = c .before .before .before .before .op .ensures in
-    (symbol-sort _ _ _ _ _ o (c .before .before .f .given .1) (c .result-sort .ensures .0), c .result-sort .ensures .1)
+    (symbol-sort o (c .before .before .f .given .1) (c .result-sort .ensures .0), c .result-sort .ensures .1)
 
 pub sort-of-spec : {M : Type 1} → statement M
 sort-of-spec =

@@ -15,11 +15,11 @@ loop-again c =
     let loop = c .before .before .before .before .before .loop in
     let u = c .before .before .drop-term in
     let l : length (u .last .0) ≡ length (loop .t) = search needs in
-    drop-next _ _ _ _ _ _ (loop .inv) (c .before .before .before .before .loop-test .taken) refl l (u .ensures .0) (u .ensures .1)
+    drop-next (loop .inv) (c .before .before .before .before .loop-test .taken) refl l (u .ensures .0) (u .ensures .1)
 
 pub truncate-spec : {M : Type 1} → statement M
 truncate-spec =
     tie.close (tie.spec Inv-loop μ-loop (λ c κs. search needs)
     (λ c. let z = c .before .before .before .pre in drop-first _ _ _ (z .0) (z .1) (c .get-at .ensures .0)) (λ c. search needs)
     (λ c κs. let d = c .before .before .loop .inv in let e = d .count in (d .sound, omega arith)) (λ c. search needs) loop-again
-    (λ c. c .before .loop .inv .long) (λ c. drop-done _ _ _ _ (c .before .loop .inv) (c .loop-test .left)))
+    (λ c. c .before .loop .inv .long) (λ c. drop-done (c .before .loop .inv) (c .loop-test .left)))
