@@ -12,13 +12,18 @@ abbrev μ-loop : tie.MeasureT-loop
 
 add-symbol-requires : tie.Need-add-symbol-requires Inv-loop μ-loop
 add-symbol-requires c κs =
-    selector-room (c .before .before .before .before .loop .inv) (c .before .before .before .before .before .before .before .pre) (c .before .before .before .loop-test .taken)
+    let at-loop-test = c .before .before .before in
+    let at-loop = at-loop-test .before in
+    let entry = at-loop .before .before .before in
+    selector-room (at-loop .loop .inv) (entry .pre) (at-loop-test .loop-test .taken)
 
 loop-again : tie.Need-loop-again Inv-loop μ-loop
 loop-again c =
-    let loop = c .before .before .before .before .before .before .before .loop in
+    let at-loop-test = c .before .before .before .before .before .before in
+    let at-loop = at-loop-test .before in
+    let loop = at-loop .loop in
     let l : length (c .before .before .add-symbol .last .0) ≡ length (loop .t) = search needs in
-    select-next (loop .inv) (c .before .before .before .before .before .before .loop-test .taken) l (c .before .before .add-symbol .ensures)
+    select-next (loop .inv) (at-loop-test .loop-test .taken) l (c .before .before .add-symbol .ensures)
 
 pub add-selectors-spec : {M : Type 1} → statement M
 add-selectors-spec =

@@ -13,7 +13,8 @@ returns c =
     let first = second .before .before .before .before in
     let packs = first .before .before .before in
     let entry = packs .before .before .before .before .before .before in
-    add-symbol (entry .pre) (packs .before .before .before .pack .ensures) (packs .before .before .pack2 .ensures) (packs .before .pack3 .ensures)
+    add-symbol (entry .pre) (packs .before .before .before .pack .ensures) (packs .before .before .pack2 .ensures)
+    (packs .before .pack3 .ensures)
     (packs .pack4 .ensures) (first .copy-words .ensures) (second .put-at .ensures) (third .put-at2 .ensures) (fourth .put-at3 .ensures)
     (fifth .put-at4 .ensures)
 

@@ -18,10 +18,13 @@ get-at-requires-2 c κs =
 
 returns : tie.Need-returns Inv-loop μ-loop
 returns c =
-    let e = c .before .before .before .before .before .before .get-at .ensures .0 in
-    let d = sym (datatype-word _ _ _ (omega arith) (c .before .before .before .get-at2 .ensures .0)) ∙ eq-eqb _ _ (c .before .before .if1 .taken) in
+    let at-get-at2 = c .before .before .before in
+    let at-loop-test = at-get-at2 .before in
+    let at-get-at = at-loop-test .before .before in
+    let e = at-get-at .get-at .ensures .0 in
+    let d = sym (datatype-word _ _ _ (omega arith) (at-get-at2 .get-at2 .ensures .0)) ∙ eq-eqb _ _ (c .before .before .if1 .taken) in
     let g = sym (c .before .grounded .ensures) ∙ not-true _ (c .if2 .taken) in
-    one-not-grounded _ _ e _ (c .before .before .before .before .loop-test .taken) d g
+    one-not-grounded _ _ e _ (at-loop-test .loop-test .taken) d g
 
 loop-again : tie.Need-loop-again Inv-loop μ-loop
 loop-again c =

@@ -13,8 +13,10 @@ returns c =
     let second = third .before .before .before .before in
     let first = second .before .before .before .before in
     let hash = first .before .before .before .before in
-    append (hash .before .before .before .pre) (hash .hash-app .ensures .0) (hash .hash-app .ensures .1) (first .before .before .get-at .ensures .0)
-    (first .put-at .ensures) (second .put-at2 .ensures) (third .copy-words .ensures) (fourth .put-at3 .ensures) (fifth .put-at4 .ensures)
+    append (hash .before .before .before .pre) (hash .hash-app .ensures .0) (hash .hash-app .ensures .1)
+    (first .before .before .get-at .ensures .0)
+    (first .put-at .ensures) (second .put-at2 .ensures) (third .copy-words .ensures) (fourth .put-at3 .ensures)
+    (fifth .put-at4 .ensures)
     (sixth .put-at5 .ensures)
 
 pub append-term-spec : {M : Type 1} → statement M

@@ -16,7 +16,9 @@ loop-holds c = (record { within = search needs; long = c .before .pre; heads = �
 
 loop-again : tie.Need-loop-again Inv-loop μ-loop
 loop-again c =
-    (clear-next (c .before .before .before .before .before .loop .inv .0) (c .before .before .before .before .loop-test .taken) (c .before .before .put-at .ensures), search needs)
+    let at-loop-test = c .before .before .before .before in
+    let at-loop = at-loop-test .before in
+    (clear-next (at-loop .loop .inv .0) (at-loop-test .loop-test .taken) (c .before .before .put-at .ensures), search needs)
 
 returns : tie.Need-returns Inv-loop μ-loop
 returns c = let i = c .before .loop .inv .0 in record { long = i .long; heads = λ x l. i .heads x (omega arith) }

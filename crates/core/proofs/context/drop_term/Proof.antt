@@ -14,11 +14,16 @@ hash-app-requires c κs =
 
 returns : tie.Need-returns
 returns c =
-    let hash = c .before .before .before .before .before .before .before .before .before .before in
-    let entry = c .before .before .before .before .before .before .before .before .before .before .before .before .before .before .before .before in
+    let at-put-at = c .before .before .before .before .before .before in
+    let at-get-at2 = at-put-at .before .before in
+    let at-here = at-get-at2 .before .before in
+    let at-here-16 = at-here .before .before .before .before .before .before in
+    let hash = at-here in
+    let entry = at-here-16 in
     let z = entry .pre in
     let b = stored-bucket _ _ (omega arith) (hash .before .before .before .get-at .ensures .0) (hash .before .children .ensures) (hash .hash-app .ensures .0) in
-    dropped (entry .args .i) (z .0) (z .1) b (hash .hash-app .ensures .1) (c .before .before .before .before .before .before .before .before .get-at2 .ensures .0) (c .before .before .before .before .before .before .put-at .ensures) (c .before .before .put-at2 .ensures)
+    dropped (entry .args .i) (z .0) (z .1) b (hash .hash-app .ensures .1) (at-get-at2 .get-at2 .ensures .0)
+    (at-put-at .put-at .ensures) (c .before .before .put-at2 .ensures)
 
 pub drop-term-spec : {M : Type 1} → statement M
 drop-term-spec =

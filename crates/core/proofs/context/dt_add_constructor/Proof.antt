@@ -12,18 +12,32 @@ add-symbol-requires c κs =
 
 add-symbol-requires-2 : tie.Need-add-symbol-requires-2
 add-symbol-requires-2 c κs =
-    let entry = c .before .before .before .before .before .before .before .before .before .before .before in tester-room (c .before .before .before .before .before .before .before .get-at .ensures .0) (c .before .before .before .before .add-symbol .ensures) (entry .pre) (c .before .before .before .before .before .before .if1 .left)
+    let at-add-symbol = c .before .before .before .before in
+    let at-if1 = at-add-symbol .before .before in
+    let at-get-at = at-if1 .before in
+    let at-here = at-get-at .before .before .before .before in
+    let entry = at-here in
+    tester-room (at-get-at .get-at .ensures .0) (at-add-symbol .add-symbol .ensures) (entry .pre) (at-if1 .if1 .left)
 
 add-selectors-requires : tie.Need-add-selectors-requires
 add-selectors-requires c κs =
-    let entry = c .before .before .before .before .before .before .before .before .before .before .before .before .before .before .before in
-    let e = c .before .before .before .before .before .before .before .before .before .before .before .get-at .ensures .0 in
-    selectors-room e (c .before .before .before .before .before .before .before .before .add-symbol .ensures) (entry .pre) (c .before .before .before .before .before .before .before .before .before .before .if1 .left) (c .before .before .before .add-symbol2 .ensures)
+    let at-add-symbol2 = c .before .before .before in
+    let at-add-symbol = at-add-symbol2 .before .before .before .before .before in
+    let at-if1 = at-add-symbol .before .before in
+    let at-get-at = at-if1 .before in
+    let at-here = at-get-at .before .before .before .before in
+    let entry = at-here in
+    let e = at-get-at .get-at .ensures .0 in
+    selectors-room e (at-add-symbol .add-symbol .ensures) (entry .pre) (at-if1 .if1 .left) (at-add-symbol2 .add-symbol2 .ensures)
 
 returns-2 : tie.Need-returns-2
 returns-2 c =
-    let e = c .before .before .before .before .before .before .before .before .before .before .before .before .before .before .get-at .ensures .0 in
-    constructor-added e (c .before .before .before .before .before .before .before .before .before .before .before .add-symbol .ensures) (c .before .before .before .before .before .before .add-symbol2 .ensures) (c .before .before .add-selectors .ensures)
+    let at-add-symbol2 = c .before .before .before .before .before .before in
+    let at-add-symbol = at-add-symbol2 .before .before .before .before .before in
+    let at-get-at = at-add-symbol .before .before .before in
+    let e = at-get-at .get-at .ensures .0 in
+    constructor-added e (at-add-symbol .add-symbol .ensures) (at-add-symbol2 .add-symbol2 .ensures)
+    (c .before .before .add-selectors .ensures)
 
 pub dt-add-constructor-spec : {M : Type 1} → statement M
 dt-add-constructor-spec =

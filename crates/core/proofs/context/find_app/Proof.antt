@@ -12,34 +12,58 @@ abbrev μ-loop : tie.MeasureT-loop
 
 loop-holds : tie.Need-loop-holds Inv-loop μ-loop
 loop-holds c =
-    let b = c .before .hash-app .ensures in walk-first _ _ _ (c .before .before .before .before .pre .0) _ (b .0) _ (b .1) (c .get-at .ensures .0)
+    let entry = c .before .before .before .before in
+    let b = c .before .hash-app .ensures in
+    walk-first _ _ _ (entry .pre .0) _ (b .0) _ (b .1) (c .get-at .ensures .0)
 
 is-app-requires : tie.Need-is-app-requires Inv-loop μ-loop
 is-app-requires c κs =
-    let w = c .before .loop .inv .within in let n = c .loop-test .taken in (c .before .before .before .before .before .before .pre .0, omega arith)
+    let entry = c .before .before .before .before .before .before in
+    let w = c .before .loop .inv .within in
+    let n = c .loop-test .taken in (entry .pre .0, omega arith)
 
 returns : tie.Need-returns Inv-loop μ-loop
 returns c =
+    let at-loop = c .before .before .before in
+    let at-hash-app = at-loop .before .before in
+    let entry = at-hash-app .before .before .before in
     let s = sym (c .if1 .taken) ∙ c .before .is-app .ensures in
-    walk-found _ _ _ (c .before .before .before .before .before .before .before .before .pre .0) _ (c .before .before .before .before .before .hash-app .ensures .0) _ (c .before .before .loop-test .taken) (c .before .before .before .loop .inv) s
+    walk-found _ _ _ (entry .pre .0) _ (at-hash-app .hash-app .ensures .0) _ (c .before .before .loop-test .taken) (at-loop .loop .inv)
+    s
 
 get-at-requires-2 : tie.Need-get-at-requires-2 Inv-loop μ-loop
 get-at-requires-2 c κs =
-    let w = c .before .before .before .loop .inv .within in let z = c .before .before .before .before .before .before .before .before .pre .0 in omega arith
+    let at-loop = c .before .before .before in
+    let entry = at-loop .before .before .before .before .before in
+    let w = at-loop .loop .inv .within in
+    let z = entry .pre .0 in omega arith
 
 loop-less : tie.Need-loop-less Inv-loop μ-loop
 loop-less c =
+    let at-loop-test = c .before .before .before in
+    let at-loop = at-loop-test .before in
+    let at-hash-app = at-loop .before .before in
+    let entry = at-hash-app .before .before .before in
     let s = sym (c .before .before .is-app .ensures) ∙ c .before .if1 .left in
-    walk-next _ _ _ (c .before .before .before .before .before .before .before .before .before .pre .0) _ (c .before .before .before .before .before .before .hash-app .ensures .0) _ (c .before .before .before .loop-test .taken) (c .before .before .before .before .loop .inv) _ (c .get-at2 .ensures .0) s .1
+    walk-next _ _ _ (entry .pre .0) _ (at-hash-app .hash-app .ensures .0) _ (at-loop-test .loop-test .taken) (at-loop .loop .inv) _
+    (c .get-at2 .ensures .0) s .1
 
 loop-again : tie.Need-loop-again Inv-loop μ-loop
 loop-again c =
+    let at-loop-test = c .before .before .before in
+    let at-loop = at-loop-test .before in
+    let at-hash-app = at-loop .before .before in
+    let entry = at-hash-app .before .before .before in
     let s = sym (c .before .before .is-app .ensures) ∙ c .before .if1 .left in
-    walk-next _ _ _ (c .before .before .before .before .before .before .before .before .before .pre .0) _ (c .before .before .before .before .before .before .hash-app .ensures .0) _ (c .before .before .before .loop-test .taken) (c .before .before .before .before .loop .inv) _ (c .get-at2 .ensures .0) s .0
+    walk-next _ _ _ (entry .pre .0) _ (at-hash-app .hash-app .ensures .0) _ (at-loop-test .loop-test .taken) (at-loop .loop .inv) _
+    (c .get-at2 .ensures .0) s .0
 
 returns-2 : tie.Need-returns-2 Inv-loop μ-loop
 returns-2 c =
-    walk-missing _ _ _ (c .before .before .before .before .before .before .before .pre .0) _ (c .before .before .before .before .hash-app .ensures .0) _ _ (c .before .loop-test .left) (c .before .before .loop .inv) (c .get-at3 .ensures .0)
+    let at-hash-app = c .before .before .before .before in
+    let entry = at-hash-app .before .before .before in
+    walk-missing _ _ _ (entry .pre .0) _ (at-hash-app .hash-app .ensures .0) _ _ (c .before .loop-test .left)
+    (c .before .before .loop .inv) (c .get-at3 .ensures .0)
 
 pub find-app-spec : {M : Type 1} → statement M
 find-app-spec =

@@ -16,17 +16,23 @@ builds-requires c κs = let e = c .before .before .get-at .ensures .0 in (c .bef
 
 has-plain-fields-requires : tie.Need-has-plain-fields-requires Inv-loop μ-loop
 has-plain-fields-requires c κs =
-    let e = c .before .before .before .before .get-at .ensures .0 in (c .before .before .before .before .before .before .pre, omega arith)
+    let at-get-at = c .before .before .before .before in
+    let entry = at-get-at .before .before in
+    let e = at-get-at .get-at .ensures .0 in (entry .pre, omega arith)
 
 returns : tie.Need-returns Inv-loop μ-loop
 returns c =
-    let b = sym (c .before .before .if1 .taken) ∙ c .before .before .before .builds .ensures in
+    let at-builds = c .before .before .before in
+    let at-loop-test = at-builds .before in
+    let at-get-at = at-loop-test .before .before in
+    let b = sym (c .before .before .if1 .taken) ∙ at-builds .builds .ensures in
     let p = sym (c .if2 .taken) ∙ c .before .has-plain-fields .ensures in
-    grounded-by _ _ _ (c .before .before .before .before .before .before .get-at .ensures .0) _ (c .before .before .before .before .loop-test .taken) b p
+    grounded-by _ _ _ (at-get-at .get-at .ensures .0) _ (at-loop-test .loop-test .taken) b p
 
 loop-again : tie.Need-loop-again Inv-loop μ-loop
 loop-again c =
-    none-more _ 0 _ (c .before .before .before .loop .inv)
+    let at-loop = c .before .before .before in
+    none-more _ 0 _ (at-loop .loop .inv)
     (⊎-elim (λ w. not-plain _ _ _ _ (w .1 .ensures) (w .2 .left)) (λ w. not-built _ _ _ _ (c .before .builds .ensures) (w .left)) (c .if1 .came))
 
 returns-2 : tie.Need-returns-2 Inv-loop μ-loop

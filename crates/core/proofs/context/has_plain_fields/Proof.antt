@@ -20,9 +20,12 @@ param-sort-requires c κs =
 
 returns : tie.Need-returns Inv-loop μ-loop
 returns c =
+    let at-loop-test = c .before .before .before in
+    let at-get-at = at-loop-test .before .before in
+    let entry = at-get-at .before .before in
     let p = c .before .before .param-sort .ensures in
     let d = field-word _ _ _ (p .0) (p .1) (c .before .get-at2 .ensures .0) ∙ eq-eqb _ _ (c .if1 .taken) in
-    field-is-datatype _ _ _ (c .before .before .before .before .before .before .before .pre .1) (c .before .before .before .before .before .get-at .ensures .0) _ (c .before .before .before .loop-test .taken) d
+    field-is-datatype _ _ _ (entry .pre .1) (at-get-at .get-at .ensures .0) _ (at-loop-test .loop-test .taken) d
 
 loop-again : tie.Need-loop-again Inv-loop μ-loop
 loop-again c =
@@ -32,7 +35,8 @@ loop-again c =
 
 returns-2 : tie.Need-returns-2 Inv-loop μ-loop
 returns-2 c =
-    fields-are-plain _ _ _ (c .before .before .before .before .pre .1) (c .before .before .get-at .ensures .0) _ (c .loop-test .left) (c .before .loop .inv)
+    let entry = c .before .before .before .before in
+    fields-are-plain _ _ _ (entry .pre .1) (c .before .before .get-at .ensures .0) _ (c .loop-test .left) (c .before .loop .inv)
 
 pub has-plain-fields-spec : {M : Type 1} → statement M
 has-plain-fields-spec =

@@ -6,17 +6,26 @@ use Rattle.core.proofs.context.intern.Tie as tie
 
 append-term-requires : tie.Need-append-term-requires
 append-term-requires c κs =
+    let at-if2 = c .before .before .before .before in
+    let at-if1 = at-if2 .before in
+    let entry = at-if1 .before .before .before .before .before .before .before in
     let after = c .before .before in
     let e = after .before .before .before .before .before .before .get-at .ensures .0 in
     let f = after .before .before .before .before .find-app .ensures in
-    appendable (c .before .before .before .before .before .before .before .before .before .before .before .before .pre) e f (c .before .before .before .before .before .if1 .left) (c .before .before .before .before .if2 .left) (after .get-at2 .ensures .0) (c .before .if3 .left)
+    appendable (entry .pre) e f (at-if1 .if1 .left) (at-if2 .if2 .left) (after .get-at2 .ensures .0) (c .before .if3 .left)
 
 returns-4 : tie.Need-returns-4
 returns-4 c =
-    let after = c .before .before .before .before .before in
+    let at-if3 = c .before .before .before .before in
+    let at-here = at-if3 .before in
+    let at-if2 = at-here .before .before in
+    let at-if1 = at-if2 .before in
+    let entry = at-if1 .before .before .before .before .before .before .before in
+    let after = at-here in
     let e = after .before .before .before .before .before .before .get-at .ensures .0 in
     let f = after .before .before .before .before .find-app .ensures in
-    made-new _ _ _ (c .before .before .before .before .before .before .before .before .before .before .before .before .before .before .before .pre .sound) _ _ e f _ (after .get-at2 .ensures .0) _ (c .before .before .before .before .before .before .before .before .if1 .left) (c .before .before .before .before .before .before .before .if2 .left) (c .before .before .before .before .if3 .left) (c .before .before .append-term .ensures)
+    made-new _ _ _ (entry .pre .sound) _ _ e f _ (after .get-at2 .ensures .0) _ (at-if1 .if1 .left) (at-if2 .if2 .left)
+    (at-if3 .if3 .left) (c .before .before .append-term .ensures)
 
 pub intern-spec : {M : Type 1} → statement M
 intern-spec =

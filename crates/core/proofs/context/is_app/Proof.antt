@@ -13,7 +13,9 @@ sub-if2 c =
 
 returns-2 : tie.Need-returns-2
 returns-2 c =
-    app-other-length _ _ _ _ (c .before .before .before .before .get-at .ensures .0) (c .before .before .get-at2 .ensures .0) (c .before .get-at3 .ensures .0) (c .if2 .taken)
+    let at-get-at = c .before .before .before .before in
+    app-other-length _ _ _ _ (at-get-at .get-at .ensures .0) (c .before .before .get-at2 .ensures .0) (c .before .get-at3 .ensures .0)
+    (c .if2 .taken)
 
 same-args-requires : tie.Need-same-args-requires
 same-args-requires c κs =

@@ -19,7 +19,10 @@ loop-holds c =
 
 builds-requires : tie.Need-builds-requires Inv-loop μ-loop
 builds-requires c κs =
-    let z = c .before .before .before .before .before .pre in let e = c .before .before .before .get-at .ensures .0 in (z .0, omega arith)
+    let at-get-at = c .before .before .before in
+    let entry = at-get-at .before .before in
+    let z = entry .pre in
+    let e = at-get-at .get-at .ensures .0 in (z .0, omega arith)
 
 returns : tie.Need-returns Inv-loop μ-loop
 returns c =
@@ -29,11 +32,14 @@ returns c =
 
 loop-again : tie.Need-loop-again Inv-loop μ-loop
 loop-again c =
-    let i = c .before .before .before .loop .inv in (omega arith, omega arith, none-more _ _ _ (i .2) (sym (c .before .builds .ensures) ∙ c .if1 .left))
+    let at-loop = c .before .before .before in
+    let i = at-loop .loop .inv in (omega arith, omega arith, none-more _ _ _ (i .2) (sym (c .before .builds .ensures) ∙ c .if1 .left))
 
 returns-2 : tie.Need-returns-2 Inv-loop μ-loop
 returns-2 c =
-    let i = c .before .loop .inv in seek-none _ _ (c .before .before .before .get-at .ensures .0) (i .1) (i .2) (i .0) (c .loop-test .left)
+    let at-get-at = c .before .before .before in
+    let i = c .before .loop .inv in
+    seek-none _ _ (at-get-at .get-at .ensures .0) (i .1) (i .2) (i .0) (c .loop-test .left)
 
 pub next-constructor-spec : {M : Type 1} → statement M
 next-constructor-spec =

@@ -13,12 +13,16 @@ abbrev μ-loop : tie.MeasureT-loop
 
 returns : tie.Need-returns Inv-loop μ-loop
 returns c =
-    args-differ _ _ _ (c .before .before .before .before .loop .i) _ (c .before .before .before .loop-test .taken) (c .before .before .get-at .ensures .0) (c .if1 .taken)
+    let at-loop-test = c .before .before .before in
+    let at-loop = at-loop-test .before in
+    args-differ _ _ _ (at-loop .loop .i) _ (at-loop-test .loop-test .taken) (c .before .before .get-at .ensures .0) (c .if1 .taken)
 
 loop-again : tie.Need-loop-again Inv-loop μ-loop
 loop-again c =
-    let loop = c .before .before .before .before .loop in
-    (search needs, none-more _ 0 _ (loop .inv .1) (arg-same _ _ (c .before .before .before .before .before .before .before .args .args .now) (loop .i) _ (c .before .before .get-at .ensures .0) (c .if1 .left)))
+    let at-loop = c .before .before .before .before in
+    let entry = at-loop .before .before .before in
+    let loop = at-loop .loop in
+    (search needs, none-more _ 0 _ (loop .inv .1) (arg-same _ _ (entry .args .args .now) (loop .i) _ (c .before .before .get-at .ensures .0) (c .if1 .left)))
 
 pub same-args-spec : {M : Type 1} → statement M
 same-args-spec =
