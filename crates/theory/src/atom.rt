@@ -1,6 +1,7 @@
 // The registry of variables (AtomRegistry of atom.rs), on a lent table of its own.
 use core::ids::TermId;
 use core::ids::Var;
+use core::limits::MAX_VARS;
 use core::table::get_at;
 use core::table::put_at;
 ghost use mathlib.Core.Path.{_≡_};
@@ -23,9 +24,6 @@ const VAR: usize = 1;
 const ATOM: usize = 1025;
 
 const FIRST: usize = 2049;
-
-// Variables are numbered below it, and so are terms.
-const MAX_VARS: usize = 1024;
 
 // The first variable of an atom, if it has one.
 pub enum FirstVar {

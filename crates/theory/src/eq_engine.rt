@@ -6,16 +6,16 @@ use crate::types::TheoryJust;
 use crate::types::push_leaf;
 use core::ids::Lit;
 use core::ids::TermId;
-use core::table::get;
+use core::limits::MAX_PAIRS;
+use core::limits::MAX_TERMS;
 use core::table::get_at;
-use core::table::put;
 use core::table::put_at;
 ghost use Prim.Native.Nat.{suc, _+_, _<_, _≤_};
 ghost use mathlib.Core.Path.{_≡_};
 ghost use mathlib.Core.Bool.{true, false, cond, _&&_};
 ghost use mathlib.Core.List.{[], _∷_};
 ghost use lib.Dec.{eqb};
-ghost use lib.ListN.{length, set};
+ghost use lib.ListN.{length};
 ghost use Rattle.core.specs.Lists.{zip};
 ghost use Rattle.theory.specs.Types.{Congruence};
 ghost use Rattle.theory.specs.EqEngine.{child, root, find, are-equal, merge, pairs-in-force, before, common, way, same-pair};
@@ -24,7 +24,7 @@ ghost use Rattle.core.specs.Memory.Words.{put};
 ghost use Rattle.theory.specs.Memory.Replay.{IsNode, end};
 ghost use Rattle.theory.specs.Memory.Table.{engine-size, PARENT, SIZE, FPARENT, merges#, size-word, parent-word, pair-at, label, just-at, merges, just-meaning, level, EngineSound, Engine, TwoNodes, Merges, Congruent, Pops};
 ghost use Rattle.theory.specs.Memory.Steps.{Upward, Rerooted, Spliced, TwoClasses, united, Entry, logged, Joinable, HoldsLabel, PairRoom, Copied, Separable, separated, Undoes, newest-above, Drops};
-ghost use Rattle.theory.specs.Memory.Explaining.{NewPair, Way, Label, Pairs, up-to, pairs-from, is-pair, Explaining, Goes, EqualNodes, EqualPair, PairsEqual, MarksPair, Markable, Explainable, Explains};
+ghost use Rattle.theory.specs.Memory.Explaining.{MARKS, NewPair, Way, Label, Pairs, up-to, pairs-from, is-pair, Explaining, Goes, EqualNodes, EqualPair, PairsEqual, MarksPair, Markable, Explainable, Explains};
 
 // ---- the layout of the table (specs/Memory/Table.antt)
 
@@ -69,6 +69,9 @@ const RIGHT: usize = 13376;
 const KIND_UNIT: usize = 65536;
 
 const LEVEL_UNIT: usize = 262144;
+
+// The marks of one explanation: for each argument pair whether it has been expanded.
+const MARKS: usize = 0;
 
 // ---- classes
 
@@ -121,7 +124,7 @@ pub fn clear(t: &mut [u32])
     put_at(t, COUNTS, MERGES, 0);
     put_at(t, COUNTS, LEVEL, 0);
     let mut n = 0;
-    while n < 1024 {
+    while n < MAX_TERMS {
         alone(t, n);
         n += 1;
     }
@@ -458,12 +461,12 @@ fn same_pair(x: usize, y: usize, a: usize, b: usize) -> bool
 // Marks argument pair j where it is the pair of a and b.
 fn mark_pair(t: &[u32], a: usize, b: usize, j: usize, marks: &mut [u32])
     requires { ⌜ Markable (now t) (now marks) j ⌝ }
-    ensures { λ _. ⌜ now (marks .exit) ≡ cond (is-pair (now (t .entry)) j (a, b)) (set (now (marks .entry)) j 1) (now (marks .entry)) ⌝ }
+    ensures { λ _. ⌜ now (marks .exit) ≡ cond (is-pair (now (t .entry)) j (a, b)) (put (now (marks .entry)) MARKS j 1) (now (marks .entry)) ⌝ }
 {
     let x = get_at(t, LEFT, j);
     let y = get_at(t, RIGHT, j);
     if same_pair(x, y, a, b) {
-        put(marks, j, 1);
+        put_at(marks, MARKS, j, 1);
     }
 }
 
@@ -551,7 +554,7 @@ fn expand_pair(t: &[u32], j: usize, marks: &mut [u32], out: &mut [u32])
     ensures { λ _. ⌜ Goes (now (t .entry)) (now (marks .entry)) (now (out .entry)) (now (marks .exit)) (now (out .exit))
         (Pairs (pair-at (now (t .entry)) j ∷ [])) ⌝ }
 {
-    if get(marks, j) == 0 {
+    if get_at(marks, MARKS, j) == 0 {
         explain_rec(t, get_at(t, LEFT, j), get_at(t, RIGHT, j), marks, out);
     }
 }
@@ -563,6 +566,6 @@ pub fn explain(t: &[u32], a: TermId, b: TermId, out: &mut [u32])
 {
     let x = a.0 as usize;
     let y = b.0 as usize;
-    let mut marks = [0u32; 2048];
+    let mut marks = [0u32; MAX_PAIRS];
     explain_rec(t, x, y, &mut marks, out);
 }

@@ -1,6 +1,7 @@
 -- Counted lists: a list of n entries, entry i given by a function of i. Looking up, cutting, one more, and lists of entries that agree.
 use Prim.Native.Nat.{ℕ, suc, _+_, _≤_, _<_}
-use mathlib.Core.Path.{_≡_, sym, ap, ap₂, _∙_}
+use mathlib.Core.Path.{_≡_, refl, sym, ap, ap₂, _∙_}
+use mathlib.Core.Logic.{inl, inr}
 use mathlib.Core.List.{List, [], _∷_, _++_, map, map-id}
 use native.Mathlib.Nat.{zero-add}
 use native.Mathlib.Omega.{arith}
@@ -8,7 +9,7 @@ use lib.ListN.{length, getD, take, drop, length-drop}
 use lib.Seq.{ext-getD, getD-take, getD-drop, length-take-le}
 use Rattle.core.specs.Lists.{range}
 use Rattle.core.specs.Memory.Words.{at, counted, stretch}
-use Rattle.core.proofs.Lists.{length-map-range, getD-map-range, map-range-cong, map-range-suc, take-map-range}
+use Rattle.core.proofs.Lists.{In, range-in, length-map-range, getD-map-range, map-range-cong, map-range-suc, take-map-range}
 
 module _ {A : Type 0} where
   pub counted-length : (f : ℕ → A) (n : ℕ) → length (counted f n) ≡ n
@@ -46,6 +47,20 @@ pub counted-list : (f : ℕ → ℕ) (n : ℕ) (vs : List ℕ) → n ≡ length 
 counted-list f n vs e h =
     let l = counted-length f n in
     ext-getD 0 (counted f n) vs (l ∙ e) (λ j g. counted-at f n j 0 (omega arith) ∙ h j (omega arith))
+
+module _ {A : Type 0} where
+  in-mapped : (f : ℕ → A) (y : A) (xs : List ℕ) → In y (map f xs) → (i : ℕ) × In i xs × (f i ≡ y)
+  in-mapped f y [] k = absurd k
+  in-mapped f y (x ∷ xs) (inl e) = (x, inl refl, sym e)
+  in-mapped f y (x ∷ xs) (inr k) = let (i, j, e) = in-mapped f y xs k in (i, inr j, e)
+
+  -- what stands in a counted list is one of its entries
+  pub counted-in : (f : ℕ → A) (n : ℕ) (y : A) → In y (counted f n) → (i : ℕ) × (i < n) × (f i ≡ y)
+  unfolding counted
+  counted-in f n y k =
+      let (i, j, e) = in-mapped f y (range 0 n) k in
+      let h = range-in 0 n i j in
+      (i, omega arith, e)
 
 pub stretch-length : (t : List ℕ) (b i n : ℕ) → length (stretch t b i n) ≡ n
 unfolding stretch

@@ -9,10 +9,10 @@ use native.Mathlib.Numerals.{add-one}
 use native.Mathlib.Omega.{arith}
 use borrow.Author.Tests.{eq-eqb, ne-eqb}
 use lib.Dec.{eqb}
-use lib.ListN.{length, replicate}
+use lib.ListN.{length, getD, replicate}
 use Rattle.core.specs.Limits.{max-pairs}
 use Rattle.core.specs.Lists.{any, range}
-use Rattle.core.specs.Memory.Table.{word}
+use Rattle.core.specs.Memory.Words.{at}
 use Rattle.core.proofs.Lists.{In, T-true, true-T, in-range}
 use Rattle.theory.specs.Types.{EqJust, Asserted, Congruence, Interface, EqLeaf, AssertedLeaf, InterfaceLeaf}
 use Rattle.theory.specs.EqEngine.{Merge, Step, Explained, are-equal, pairs-of, common, way, same-pair, visit, cite, path, expand-edge, explain-rec, explain, firsts-after}
@@ -21,7 +21,7 @@ use Rattle.theory.specs.declared.types.EqLeaf as Given
 use Rattle.theory.specs.Memory.Replay.{IsNode, Justified}
 use Rattle.theory.specs.Memory.Steps.{Upward}
 use Rattle.theory.specs.Memory.Answer.{leaves, leaf-meaning, HasRoom, Pushed, Labels, Cites, AnswerSound}
-use Rattle.theory.specs.Memory.Explaining.{age, pairs-age, Part, NewPair, Way, Label, Pairs, part-age, NotOlder, up-to, expand-way, expand-new, expand, pairs-from, marked, is-pair, Shows, Explaining, Goes, EqualNodes, EqualPair, PairsEqual, MarksPair, Explains}
+use Rattle.theory.specs.Memory.Explaining.{MARKS, age, pairs-age, Part, NewPair, Way, Label, Pairs, part-age, NotOlder, up-to, expand-way, expand-new, expand, pairs-from, marked, is-pair, Shows, Explaining, Goes, EqualNodes, EqualPair, PairsEqual, MarksPair, Explains}
 use Rattle.theory.proofs.Members.{in-left, in-right}
 use Rattle.theory.proofs.Classes.{Same, same-kept, same-equal, equal-same}
 use Rattle.theory.proofs.Forest.{Forest, Above, at-root, at-step, before-self, before-step, way-meets}
@@ -323,7 +323,7 @@ pair-nodes {t} {j} {x} {y} k p q =
     }
 
 -- the mark w of argument pair j
-module _ {t m o : List ℕ} {j w : ℕ} (k : EqualPair t j) (r : w ≡ word m j) where
+module _ {t m o : List ℕ} {j w : ℕ} (k : EqualPair t j) (r : w ≡ at m MARKS j) where
   marked-as : {seen : List EqLeaf} {f : Explained} → Shows t m o seen f → marked w ≡ any (is-pair t j) (f .visited)
   marked-as s = ap marked r ∙ s .marks-are j (k .in-force)
 
@@ -462,10 +462,14 @@ module _ {t m o : List ℕ} {i k v : ℕ} (z : Explaining t m o) (h : i < merges
 -- ---- explain
 
 -- no pair is marked at first
-no-marks : (n j : ℕ) → word (replicate n 0) j ≡ 0
-no-marks zero j = refl
-no-marks (suc n) zero = refl
-no-marks (suc n) (suc j) = no-marks n j
+no-marks : (n j : ℕ) → at (replicate n 0) MARKS j ≡ 0
+unfolding at
+no-marks n j = go n (MARKS + j)
+  where
+    go : (n k : ℕ) → getD {A = ℕ} (replicate n 0) k 0 ≡ 0
+    go zero k = refl
+    go (suc n) zero = refl
+    go (suc n) (suc k) = go n k
 
 pub explained : {t m o m₁ o₁ : List ℕ} {a b : ℕ} (n : ℕ) → m ≡ replicate n 0 → Goes t m o m₁ o₁ (NewPair a b) → Explains t a b o o₁
 unfolding expand part-age explain firsts-after any marked
@@ -475,7 +479,7 @@ explained {t} {m} {o} {a = a} {b = b} n e g =
     let d = suc (length (merges t)) in
     let s = g .shows d (leaves o) none-yet (omega arith) (record {
       listed = sym (append-nil (leaves o));
-      marks-are = λ j l. ap marked (ap (λ (u : List ℕ). word u j) e ∙ no-marks n j);
+      marks-are = λ j l. ap marked (ap (λ (u : List ℕ). at u MARKS j) e ∙ no-marks n j);
     }) in
     record {
       sound = g .answer;

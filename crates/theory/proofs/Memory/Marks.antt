@@ -7,12 +7,13 @@ use native.Mathlib.Omega.{arith}
 use borrow.Author.Count.{below-more}
 use borrow.Author.Tests.{eq-eqb, ne-eqb}
 use lib.Dec.{eqb}
-use lib.ListN.{length, set, length-set}
-use lib.Seq.{getD-set-same, getD-set-other}
-use Rattle.core.specs.Memory.Table.{word}
+use lib.ListN.{length}
+use lib.Seq.{getD-set-same}
+use Rattle.core.specs.Memory.Words.{at, put}
+use Rattle.core.proofs.Memory.Stores.{length-put, other-place}
 use Rattle.theory.specs.EqEngine.{pairs-in-force, same-pair}
 use Rattle.theory.specs.Memory.Table.{left-word, right-word, merges}
-use Rattle.theory.specs.Memory.Explaining.{marked, is-pair, MarksPair}
+use Rattle.theory.specs.Memory.Explaining.{MARKS, marked, is-pair, MarksPair}
 
 pub both-first : (x y a b : ℕ) → x ≡ a → eqb y b ≡ (eqb x a && eqb y b)
 both-first x y a b p = sym (ap (λ (u : Bool). u && eqb y b) (eq-eqb x a p))
@@ -35,40 +36,40 @@ module _ (t ks : List ℕ) (a b j x y : ℕ) (r : Bool) (p : x ≡ left-word t j
   tested : r ≡ is-pair t j (a, b)
   tested = e ∙ ap₂ (λ (u v : ℕ). same-pair u v (a, b)) p q
 
-  pub mark-one : (ls : List ℕ) → r ≡ true → ls ≡ set ks j 1 → ls ≡ cond (is-pair t j (a, b)) (set ks j 1) ks
-  mark-one ls h g = g ∙ sym (ap (λ (c : Bool). cond c (set ks j 1) ks) (sym tested ∙ h))
+  pub mark-one : (ls : List ℕ) → r ≡ true → ls ≡ put ks MARKS j 1 → ls ≡ cond (is-pair t j (a, b)) (put ks MARKS j 1) ks
+  mark-one ls h g = g ∙ sym (ap (λ (c : Bool). cond c (put ks MARKS j 1) ks) (sym tested ∙ h))
 
-  pub mark-none : r ≡ false → ks ≡ cond (is-pair t j (a, b)) (set ks j 1) ks
-  mark-none h = sym (ap (λ (c : Bool). cond c (set ks j 1) ks) (sym tested ∙ h))
+  pub mark-none : r ≡ false → ks ≡ cond (is-pair t j (a, b)) (put ks MARKS j 1) ks
+  mark-none h = sym (ap (λ (c : Bool). cond c (put ks MARKS j 1) ks) (sym tested ∙ h))
 
 record Stored (b : Bool) (ks ls : List ℕ) (j : ℕ) : Type 0 where
   long : length ls ≡ length ks
-  rest : (i : ℕ) → (i ≡ j → ⊥) → word ls i ≡ word ks i
-  mark : marked (word ls j) ≡ cond b true (marked (word ks j))
+  rest : (i : ℕ) → (i ≡ j → ⊥) → at ls MARKS i ≡ at ks MARKS i
+  mark : marked (at ls MARKS j) ≡ cond b true (marked (at ks MARKS j))
 
-store : (b : Bool) (ks : List ℕ) (j : ℕ) → j < length ks → Stored b ks (cond b (set ks j 1) ks) j
-unfolding marked
+store : (b : Bool) (ks : List ℕ) (j : ℕ) → j < length ks → Stored b ks (cond b (put ks MARKS j 1) ks) j
+unfolding marked at put
 store true ks j h =
-    record { long = length-set ks j 1; rest = λ i. getD-set-other ks j i 1 0; mark = ap marked (getD-set-same ks j 1 0 h) }
+    record { long = length-put ks MARKS j 1; rest = λ i. other-place ks MARKS j i 1; mark = ap marked (getD-set-same ks (MARKS + j) 1 0 (omega arith)) }
 store false ks j h = record { long = refl; rest = λ i d. refl; mark = refl }
 
 -- the pairs below j are marked as they should be, the others as they were
 pub record Marking (t : List ℕ) (a b : ℕ) (ks ls : List ℕ) (j : ℕ) : Type 0 where
   pub long : length ls ≡ length ks
-  pub done : (i : ℕ) → i < j → marked (word ls i) ≡ cond (is-pair t i (a, b)) true (marked (word ks i))
-  pub left-over : (i : ℕ) → j ≤ i → word ls i ≡ word ks i
+  pub done : (i : ℕ) → i < j → marked (at ls MARKS i) ≡ cond (is-pair t i (a, b)) true (marked (at ks MARKS i))
+  pub left-over : (i : ℕ) → j ≤ i → at ls MARKS i ≡ at ks MARKS i
 
 pub marking-first : (t : List ℕ) (a b : ℕ) (ks : List ℕ) → Marking t a b ks ks 0
 marking-first t a b ks = record { long = refl; done = λ i h. absurd (omega arith); left-over = λ i h. refl }
 
 pub marking-next : {t : List ℕ} {a b : ℕ} {ks ls us : List ℕ} {j : ℕ} → Marking t a b ks ls j → j < length ls →
-    us ≡ cond (is-pair t j (a, b)) (set ls j 1) ls → Marking t a b ks us (j + 1)
+    us ≡ cond (is-pair t j (a, b)) (put ls MARKS j 1) ls → Marking t a b ks us (j + 1)
 marking-next {t} {a} {b} {ks} {ls} {us} {j} c h e =
     let s = rw (← e) at (store (is-pair t j (a, b)) ls j h) in
     record {
       long = s .long ∙ c .long;
       done =
-          below-more (λ i. marked (word us i) ≡ cond (is-pair t i (a, b)) true (marked (word ks i))) j
+          below-more (λ i. marked (at us MARKS i) ≡ cond (is-pair t i (a, b)) true (marked (at ks MARKS i))) j
           (λ i g. ap marked (s .rest i (omega arith)) ∙ c .done i g)
           (s .mark ∙ ap (λ (w : ℕ). cond (is-pair t j (a, b)) true (marked w)) (c .left-over j (omega arith)));
       left-over = λ i g. s .rest i (omega arith) ∙ c .left-over i (omega arith);

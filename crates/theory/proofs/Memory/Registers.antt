@@ -15,8 +15,8 @@ use lib.ListN.{length}
 use Rattle.core.specs.Limits.{max-vars, max-terms}
 use Rattle.core.specs.Lists.{first, range}
 use Rattle.core.specs.Memory.Words.{at, put, apart, counted}
-use Rattle.core.proofs.Lists.{In, in-at, in-range}
-use Rattle.core.proofs.Memory.Counted.{counted-length, counted-at, counted-grown}
+use Rattle.core.proofs.Lists.{In, in-range}
+use Rattle.core.proofs.Memory.Counted.{counted-length, counted-in, counted-grown}
 use Rattle.core.proofs.Memory.Searching.{any-found}
 use Rattle.core.proofs.Memory.Stores as Stores
 use Rattle.theory.specs.Atom.{Registered, register, is-registered}
@@ -41,13 +41,6 @@ long = Stores.put-long registry-room registry-size
 ruleset stores = (tt, lit<, other, same, long, Stores.other-place, Stores.length-put)
 
 -- ---- a variable that is not registered
-
-counted-in : (f : ℕ → ℕ) (n y : ℕ) → In y (counted f n) → (i : ℕ) × (i < n) × (f i ≡ y)
-counted-in f n y k =
-    let (i, l, e) = in-at (counted f n) y k in
-    let m = counted-length f n in
-    let h : i < n = omega arith in
-    (i, h, sym (counted-at f n i 0 h) ∙ e)
 
 module _ {t : List ℕ} {v x : ℕ} (z : Registrable t v x) where
   not-var : (i : ℕ) → i < vars# t → at t VAR i ≡ v → ⊥

@@ -8,7 +8,7 @@ use lib.Dec.{eqb, leb}
 use lib.ListN.{length}
 use Rattle.core.specs.Limits.{max-pairs}
 use Rattle.core.specs.Lists.{any, range}
-use Rattle.core.specs.Memory.Table.{word}
+use Rattle.core.specs.Memory.Words.{at}
 use Rattle.theory.specs.Types.{EqJust, EqLeaf}
 use Rattle.theory.specs.EqEngine.{Merge, Step, Explained, are-equal, pairs-of, pairs-in-force, before, way, path, same-pair, visit, expand-edge, explain-rec, explain, firsts-after}
 use Rattle.theory.specs.Memory.Replay.{IsNode}
@@ -79,6 +79,10 @@ pairs-from t from to = map (pair-at t) (range from (to - from))
 
 -- ---- marks and leaves
 
+-- the marks are one region, one for each argument pair
+abbrev pub MARKS : ℕ
+MARKS = 0
+
 -- a mark is any word but 0
 unfoldable pub marked : ℕ → Bool
 marked zero = false
@@ -92,7 +96,7 @@ is-pair t j p = same-pair (pair-at t j .0) (pair-at t j .1) p
 -- either order, has been expanded.
 pub record Shows (t marks out : List ℕ) (seen : List EqLeaf) (e : Explained) : Type 0 where
   pub listed : leaves out ≡ seen ++ firsts-after seen (e .leaves)
-  pub marks-are : (j : ℕ) → j < pairs-in-force (merges t) → marked (word marks j) ≡ any (is-pair t j) (e .visited)
+  pub marks-are : (j : ℕ) → j < pairs-in-force (merges t) → marked (at marks MARKS j) ≡ any (is-pair t j) (e .visited)
 
 -- the tables that an explanation works on
 pub record Explaining (t marks out : List ℕ) : Type 0 where
@@ -124,7 +128,7 @@ pub record PairsEqual (t : List ℕ) (from to : ℕ) : Type 0 where
 
 -- ks with a mark at each pair in force that is a and b, in either order
 pub record MarksPair (t : List ℕ) (a b : ℕ) (ks ls : List ℕ) : Type 0 where
-  pub each : (j : ℕ) → j < pairs-in-force (merges t) → marked (word ls j) ≡ cond (is-pair t j (a, b)) true (marked (word ks j))
+  pub each : (j : ℕ) → j < pairs-in-force (merges t) → marked (at ls MARKS j) ≡ cond (is-pair t j (a, b)) true (marked (at ks MARKS j))
 
 -- argument pair j has words, and a mark
 pub record Markable (t marks : List ℕ) (j : ℕ) : Type 0 where

@@ -14,7 +14,6 @@ use Rattle.theory.specs.EqEngine.{way}
 use Rattle.theory.specs.Memory.Table.{pair-at, just-at, merges}
 use Rattle.theory.specs.Memory.Explaining.{NewPair, Way, Label, Pairs, part-age, up-to, pairs-from}
 use Rattle.theory.proofs.Memory.Explaining.{on-with, goes-one, met, goes-two, Walking, walk-first, walk-rises, walk-edge, walk-older, walk-next, walk-done, Pairing, pair-first, pair-older, pair-next, pair-done, pair-few, pair-nodes, pair-new, pair-known, edge-literal, edge-interface, edge-congruence}
-use Rattle.core.proofs.table.get.Reads as get
 use Rattle.core.proofs.table.get_at.Reads as get-at
 use Rattle.theory.proofs.types.push_leaf.Reads as push-leaf
 use Rattle.theory.proofs.eq_engine.forest_nca.Reads as forest-nca
@@ -151,7 +150,7 @@ pub +expand-edge+expand-pair+expand-pairs+expand-way+explain-rec-spec : {M : Typ
     let w = edge-interface (p .0) (p .1) (at-get .get-at .ensures .0) (at-get2 .get-at2 .ensures .0) (at-if2 .before .if1 .left)
     (at-if2 .if2 .left) in
     w .goes (at-push .push-leaf2 .ensures)))
-    (λ t. expand-pair-lts.spec (get.Asked, get.Learnt, get-at.Asked, get-at.Learnt, explain-rec-below t, explain-rec.Post)
+    (λ t. expand-pair-lts.spec (get-at.Asked, get-at.Learnt, explain-rec-below t, explain-rec.Post)
     _ expand-pair.Post
     (λ c κs. let p = c .before .before .before .before .pre .1 in omega (arith, pair-few (p .0 .engine) (p .1)))
     (λ c κs. let p = c .before .before .before .before .before .before .pre .1 in omega (arith, pair-few (p .0 .engine) (p .1)))
@@ -161,7 +160,7 @@ pub +expand-edge+expand-pair+expand-pairs+expand-way+explain-rec-spec : {M : Typ
     let at-right = c .before .before in
     let start = at-right .before .before .before .before .before .before .before .before in
     let p = start .pre .1 in
-    let w = pair-nodes (p .1) (at-right .before .get-at .ensures .0) (at-right .get-at2 .ensures .0) in
+    let w = pair-nodes (p .1) (at-right .before .get-at2 .ensures .0) (at-right .get-at3 .ensures .0) in
     (omega (arith, start .pre .0, w .as-old), (p .0, w .nodes)))
     (λ c. c .before .before .before .before .explain-rec .kept .1 .1 .1 .0)
     (λ c. c .before .before .before .before .explain-rec .kept .1 .1 .1 .1 .0)
@@ -170,12 +169,12 @@ pub +expand-edge+expand-pair+expand-pairs+expand-way+explain-rec-spec : {M : Typ
     let at-right = at-rec .before .before .before in
     let at-if = at-right .before .before in
     let p = at-if .before .before .before .before .before .before .pre .1 in
-    let w = pair-nodes (p .1) (at-right .before .get-at .ensures .0) (at-right .get-at2 .ensures .0) in
-    pair-new (p .1) (at-if .before .get .ensures .0) w (at-if .if1 .taken) (at-rec .explain-rec .ensures))
+    let w = pair-nodes (p .1) (at-right .before .get-at2 .ensures .0) (at-right .get-at3 .ensures .0) in
+    pair-new (p .1) (at-if .before .get-at .ensures .0) w (at-if .if1 .taken) (at-rec .explain-rec .ensures))
     (λ c. search needs)
     (λ c.
     let p = c .before .before .before .before .before .before .pre .1 in
-    pair-known (p .1) (c .before .get .ensures .0) (p .0) (c .if1 .left)))
+    pair-known (p .1) (c .before .get-at .ensures .0) (p .0) (c .if1 .left)))
     (λ t. expand-pairs-lts.spec (expand-pair-below t, expand-pair.Post)
     _ expand-pairs.Post Inv-pairs μ-pairs
     (λ c. let p = c .before .before .before .pre .1 in pair-first (p .0) (p .1 .ordered))
