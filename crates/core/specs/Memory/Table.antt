@@ -14,10 +14,6 @@ use Rattle.core.specs.Term.{Role, Constructor, Tester, Selector, Functio
 use Rattle.core.specs.Context.{Context, with-symbols, intern, builds, symbol}
 use Rattle.core.specs.Memory.Words.{at, room-in, counted, stretch}
 
--- a word of a table by its address, as the layer above still reads it
-abbrev pub word : List ℕ → ℕ → ℕ
-word t i = getD t i 0
-
 -- ---- the layout
 
 abbrev pub table-words : ℕ
