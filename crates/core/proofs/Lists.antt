@@ -217,10 +217,6 @@ copy-next {at = at} {vs} {t} {i} c h =
 pub copy-done : {t₀ : List ℕ} {at : ℕ} {vs t : List ℕ} {i : ℕ} → Copying t₀ at vs t i → length vs ≤ i → t ≡ sets t₀ at vs
 copy-done {at = at} {vs} {t} {i} c h = sym (ap (λ (ws : List ℕ). sets t (at + i) ws) (drop-of-length-le vs h)) ∙ c .rest
 
--- stores one after the other
-pub set-after : (l l₁ l₂ : List ℕ) (i v : ℕ) → l₂ ≡ set l₁ i v → l₁ ≡ l → l₂ ≡ set l i v
-set-after l l₁ l₂ i v e p = e ∙ ap (λ (m : List ℕ). set m i v) p
-
 -- ---- tests over a list, by its members
 
 pub T-true : (b : Bool) → T b → b ≡ true
@@ -230,19 +226,6 @@ T-true false t = absurd t
 pub true-T : (b : Bool) → b ≡ true → T b
 true-T true e = tt
 true-T false e = absurd (false≢true e)
-
-module _ {A : Type 0} where
-  pub any-none : (p : A → Bool) (xs : List A) → ((x : A) → In x xs → p x ≡ false) → any p xs ≡ false
-  unfolding any
-  any-none p [] h = refl
-  any-none p (x ∷ xs) h =
-      ap (λ (b : Bool). cond b true (any p xs)) (h x (inl refl)) ∙ any-none p xs (λ y i. h y (inr i))
-
-  pub any-some : (p : A → Bool) (xs : List A) (x : A) → In x xs → p x ≡ true → any p xs ≡ true
-  unfolding any
-  any-some p [] x i e = absurd i
-  any-some p (y ∷ ys) x (inl q) e = ap (λ (b : Bool). cond b true (any p ys)) (ap p (sym q) ∙ e)
-  any-some p (y ∷ ys) x (inr i) e = ap (λ (b : Bool). cond (p y) true b) (any-some p ys x i e) ∙ cond-both (p y)
 
 pub range-in : (k n x : ℕ) → In x (range k n) → (k ≤ x) × (x < k + n)
 unfolding range

@@ -81,9 +81,6 @@ module _ (room : ℕ → ℕ) where
   pub kept-none : (ws t : List ℕ) → Kept room ws t t
   kept-none ws t = record { long = refl; rest = λ b x a h. refl }
 
-  pub kept-then : (ws t u v : List ℕ) → Kept room ws t u → Kept room ws u v → Kept room ws t v
-  kept-then ws t u v p q = record { long = q .long ∙ p .long; rest = λ b x a h. q .rest b x a h ∙ p .rest b x a h }
-
   clear-fewer : (b : ℕ) (ws vs : List ℕ) → T (among ws vs) → T (clear-of room b vs) → T (clear-of room b ws)
   clear-fewer b [] vs m a = tt
   clear-fewer b (w ∷ ws) vs m a =
