@@ -9,7 +9,8 @@ use lib.ListN.{length}
 use Rattle.core.specs.Limits.{max-sorts, max-symbols, max-terms, max-places, max-params}
 use Rattle.core.specs.Term.{Term}
 use Rattle.core.specs.Memory.Words.{at, counted, stretch, clear-of, Kept}
-use Rattle.core.specs.Memory.Table.{table-words, SORT, OWNER, RESULT, ARITY, PARAMS, OP, OFFSET, POOL, BUCKET, LINK, core-room, sorts#, symbols#, terms#, digit, node-of, role-of, op-of, sort-at, param-at, symbol-at, args-at, term-at, context, buckets, bucket, bucket-of, newest, SymbolSound, TermSound, IndexSound, ContextSound}
+use Rattle.core.specs.Limits.{table-words}
+use Rattle.core.specs.Memory.Table.{SORT, OWNER, RESULT, ARITY, PARAMS, OP, OFFSET, POOL, BUCKET, LINK, core-room, sorts#, symbols#, terms#, digit, node-of, role-of, op-of, sort-at, param-at, symbol-at, args-at, term-at, context, buckets, bucket, bucket-of, newest, SymbolSound, TermSound, IndexSound, ContextSound}
 use Rattle.core.proofs.Memory.Counted.{counted-same, stretch-same}
 use Rattle.core.proofs.Memory.Index.{newest-same}
 use Rattle.core.proofs.Memory.Views.{sorts-length, symbols-length, terms-length, offset-mono}

@@ -5,7 +5,8 @@ use mathlib.Core.List.{List}
 use lib.Dec.{T, leb, lit<}
 use lib.ListN.{length, getD}
 use Rattle.core.specs.Memory.Words.{at, put, put-all, apart, one-of, Kept}
-use Rattle.core.specs.Memory.Table.{core-room, table-words}
+use Rattle.core.specs.Limits.{table-words}
+use Rattle.core.specs.Memory.Table.{core-room}
 use Rattle.core.proofs.Memory.Stores as Stores
 use Rattle.core.proofs.Memory.Stores.{earlier, later, all-before}
 

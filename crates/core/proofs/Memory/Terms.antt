@@ -17,7 +17,8 @@ use Rattle.core.specs.Term.{Op, Eq, Uninterpreted, Term, same-op, same-t
 use Rattle.core.specs.Context as Context
 use Rattle.core.specs.Context.{Context, intern, mk-app, places, terms-fit}
 use Rattle.core.specs.Memory.Words.{at, put, put-all, Kept, counted, stretch}
-use Rattle.core.specs.Memory.Table.{table-words, COUNTS, TERMS, OP, OFFSET, POOL, BUCKET, LINK, core-room, sorts#, symbols#, terms#, op-of, args-at, term-at, context, buckets, bucket, bucket-of, newest, AllBelow, TermSound, IndexSound, ContextSound, FindsApp, MayIntern, MayApply, MayEquate, Appendable, Appended}
+use Rattle.core.specs.Limits.{table-words}
+use Rattle.core.specs.Memory.Table.{COUNTS, TERMS, OP, OFFSET, POOL, BUCKET, LINK, core-room, sorts#, symbols#, terms#, op-of, args-at, term-at, context, buckets, bucket, bucket-of, newest, AllBelow, TermSound, IndexSound, ContextSound, FindsApp, MayIntern, MayApply, MayEquate, Appendable, Appended}
 use Rattle.core.specs.Memory.Codes.{made-answer, made-context, MkApp}
 use Rattle.core.specs.declared.context.Made as Made
 use Rattle.core.proofs.Lists.{T-and, true-T, and-no, same-list-eq, same-list-true, same-list-false, same-list-longer}

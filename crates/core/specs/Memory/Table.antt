@@ -6,7 +6,7 @@ use mathlib.Core.Bool.{true, false, cond}
 use mathlib.Core.Option.{none, some}
 use lib.Dec.{eqb}
 use lib.ListN.{length, getD}
-use Rattle.core.specs.Limits.{max-sorts, max-symbols, max-terms, max-places, max-params}
+use Rattle.core.specs.Limits.{max-sorts, max-symbols, max-terms, max-places, max-params, table-words}
 use Rattle.core.specs.Lists.{place-from}
 use Rattle.core.specs.Sort.{SortNode, BoolSort, Datatype, Uninterpreted}
 use Rattle.core.specs.Term as Term
@@ -15,9 +15,6 @@ use Rattle.core.specs.Context.{Context, with-symbols, intern, builds, sy
 use Rattle.core.specs.Memory.Words.{at, room-in, counted, stretch}
 
 -- ---- the layout
-
-abbrev pub table-words : ℕ
-table-words = 16384
 
 -- how many sorts, symbols and terms there are
 abbrev pub COUNTS : ℕ
@@ -72,16 +69,16 @@ LINK = 11264
 abbrev pub layout : List (ℕ × ℕ)
 layout =
     (COUNTS, 64)
-    ∷ (SORT, 64)
-    ∷ (OWNER, 512)
-    ∷ (RESULT, 512)
-    ∷ (ARITY, 512)
-    ∷ (OP, 1024)
+    ∷ (SORT, max-sorts)
+    ∷ (OWNER, max-symbols)
+    ∷ (RESULT, max-symbols)
+    ∷ (ARITY, max-symbols)
+    ∷ (OP, max-terms)
     ∷ (OFFSET, 1025)
-    ∷ (POOL, 4096)
+    ∷ (POOL, max-places)
     ∷ (PARAMS, 2048)
     ∷ (BUCKET, 1024)
-    ∷ (LINK, 1024)
+    ∷ (LINK, max-terms)
     ∷ []
 
 abbrev pub core-room : ℕ → ℕ

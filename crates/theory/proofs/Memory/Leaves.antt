@@ -10,7 +10,7 @@ use native.Mathlib.Omega.{arith}
 use borrow.Author.Tests.{eq-eqb, ne-eqb}
 use lib.Dec.{T, eqb, leb, lit<}
 use lib.ListN.{length, getD}
-use Rattle.core.specs.Limits.{max-terms}
+use Rattle.core.specs.Limits.{max-terms, max-theories}
 use Rattle.core.specs.Lists.{range}
 use Rattle.core.specs.Memory.Words.{at, put, apart, counted}
 use Rattle.core.proofs.Lists.{In}
@@ -63,7 +63,7 @@ pub leaves-length : (o : List ℕ) → length (leaves o) ≡ leaves# o
 unfolding leaves
 leaves-length o = counted-length (leaf-at o) (leaves# o)
 
-pub leaf-fits : (o : List ℕ) (i : ℕ) → LeavesSound o → i < length (leaves o) → (i < max-terms) × (at o LEAF-KIND i ≤ 65536)
+pub leaf-fits : (o : List ℕ) (i : ℕ) → LeavesSound o → i < length (leaves o) → (i < max-terms) × (at o LEAF-KIND i ≤ max-theories)
 leaf-fits o i z h = let n = leaves-length o in let f = z .fit in (omega arith, z .theories i (omega arith))
 
 -- the leaf at a place, by the words k and v that were read there
@@ -162,7 +162,7 @@ pushed-new {o} {o₁} {o₂} {u} {kind} {value} {n} {b} z e q m p r s =
           ∙ sym (ap (λ (x : Bool). cond x (leaves o) (leaves o ++ (leaf-of kind value ∷ []))) (sym e ∙ q));
     }
   where
-    fits : (i : ℕ) → Appended o u n kind value → Dec (i ≡ n) → i < leaves# u → at u LEAF-KIND i ≤ 65536
+    fits : (i : ℕ) → Appended o u n kind value → Dec (i ≡ n) → i < leaves# u → at u LEAF-KIND i ≤ max-theories
     fits i w (yes k) g = let x = ap (at u LEAF-KIND) k ∙ w .kind-is in let y = z .kind-fits in omega arith
     fits i w (no d) g =
         let c = w .count in

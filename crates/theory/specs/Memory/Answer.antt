@@ -5,7 +5,7 @@ use mathlib.Core.Logic.{_⊎_}
 use mathlib.Core.Bool.{Bool, true, cond}
 use mathlib.Core.List.{List, [], _∷_, _++_}
 use lib.ListN.{length}
-use Rattle.core.specs.Limits.{max-terms}
+use Rattle.core.specs.Limits.{max-terms, max-theories}
 use Rattle.core.specs.Lists.{In, Apart, any}
 use Rattle.core.specs.Memory.Words.{at, counted, room-in}
 use Rattle.theory.specs.Types.{EqJust, Asserted, Congruence, Interface, EqLeaf, AssertedLeaf, InterfaceLeaf, same-leaf}
@@ -63,7 +63,7 @@ pub record LeavesSound (o : List ℕ) : Type 0 where
   pub long : answer-size ≤ length o
   pub fit : leaves# o ≤ max-terms
   -- a theory has 16 bits
-  pub theories : (i : ℕ) → i < leaves# o → at o LEAF-KIND i ≤ 65536
+  pub theories : (i : ℕ) → i < leaves# o → at o LEAF-KIND i ≤ max-theories
 
 -- does a leaf stand in a list?
 abbrev pub has-leaf : EqLeaf → List EqLeaf → Bool
@@ -84,7 +84,7 @@ pub record Pushed (o u : List ℕ) (l : EqLeaf) : Type 0 where
 -- the words of a leaf that is to be pushed
 pub record Pushable (o : List ℕ) (kind value : ℕ) : Type 0 where
   pub sound : LeavesSound o
-  pub kind-fits : kind ≤ 65536
+  pub kind-fits : kind ≤ max-theories
   pub value-fits : value < 4294967296
   pub room : HasRoom o (leaf-of kind value)
 

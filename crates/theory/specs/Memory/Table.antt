@@ -7,7 +7,7 @@ use mathlib.Core.List.{List, [], _∷_, map}
 use mathlib.Core.Logic.{_⊎_}
 use lib.Dec.{T, eqb, leb}
 use lib.ListN.{length}
-use Rattle.core.specs.Limits.{max-terms, max-pairs, max-levels}
+use Rattle.core.specs.Limits.{max-terms, max-pairs, max-levels, max-theories, table-words}
 use Rattle.core.specs.Lists.{In, range, zip}
 use Rattle.core.specs.Memory.Words.{at, room-in}
 use Rattle.theory.specs.Types.{EqJust, Asserted, Congruence, Interface}
@@ -18,7 +18,7 @@ use Rattle.theory.specs.EqEngine.{Merge, child, root, classes, find, are
 -- ---- the layout
 
 abbrev pub engine-size : ℕ
-engine-size = 16384
+engine-size = table-words
 
 -- how many merges are in force, and the level
 abbrev pub COUNTS : ℕ
@@ -130,7 +130,7 @@ pair-at t j = (left-word t j, right-word t j)
 
 -- a label's word: the level of its merge, its kind and its theory
 abbrev pub kind-unit : ℕ
-kind-unit = 65536
+kind-unit = max-theories
 
 abbrev pub level-unit : ℕ
 level-unit = 262144
