@@ -52,7 +52,9 @@ module _ (t : List ℕ) (start : ℕ) (args : List ℕ) where
   args-same i h w =
       sym
       (same-list-true args (stretch t POOL start (length args)) (sym (stretch-length t POOL start (length args)))
-      (λ k l. sym (stretch-at t POOL start (length args) k l ∙ eqb-true (at t POOL (start + k)) (getD args k 0) (not-false (eqb (at t POOL (start + k)) (getD args k 0)) (w k (omega arith) (omega arith))))))
+      (λ k l.
+      let e = not-false (eqb (at t POOL (start + k)) (getD args k 0)) (w k (omega arith) (omega arith)) in
+      sym (stretch-at t POOL start (length args) k l ∙ eqb-true (at t POOL (start + k)) (getD args k 0) e)))
 
   pub args-differ : (k w : ℕ) → k < length args → w ≡ at t POOL (start + k) → (w ≡ getD args k 0 → ⊥) →
       false ≡ same-list args (stretch t POOL start (length args))
@@ -68,7 +70,8 @@ module _ (t : List ℕ) (code : ℕ) (args : List ℕ) where
     pub app-other-op : (w ≡ code → ⊥) → false ≡ Fits t code args i
     unfolding same-term term-at
     app-other-op n =
-        sym (ap (λ (b : Bool). b && same-list args (args-at t i)) (same-op-codes code (at t OP i) ∙ ne-eqb code (at t OP i) (λ q. n (o ∙ sym q))))
+        let e = same-op-codes code (at t OP i) ∙ ne-eqb code (at t OP i) (λ q. n (o ∙ sym q)) in
+        sym (ap (λ (b : Bool). b && same-list args (args-at t i)) e)
 
     module _ {a e : ℕ} (p : a ≡ at t OFFSET i) (q : e ≡ at t OFFSET (i + 1)) where
       length-is : e - a ≡ length (args-at t i)
@@ -78,18 +81,18 @@ module _ (t : List ℕ) (code : ℕ) (args : List ℕ) where
       pub app-other-length : (e - a ≡ length args → ⊥) → false ≡ Fits t code args i
       unfolding same-term term-at
       app-other-length n =
-          sym
-          (ap (λ (b : Bool). same-op (op-of code) (op-of (at t OP i)) && b) (same-list-longer args (args-at t i) (λ l. n (length-is ∙ sym l)))
-          ∙ and-no (same-op (op-of code) (op-of (at t OP i))))
+          let op = same-op (op-of code) (op-of (at t OP i)) in
+          sym (ap (λ (b : Bool). op && b) (same-list-longer args (args-at t i) (λ l. n (length-is ∙ sym l))) ∙ and-no op)
 
       pub app-same : {r : Bool} → w ≡ code → e - a ≡ length args → r ≡ same-list args (stretch t POOL a (length args)) →
           r ≡ Fits t code args i
       unfolding same-term term-at args-at
       app-same c l s =
+          let op = same-op-codes code (at t OP i) ∙ eq-eqb code (at t OP i) (sym c ∙ o) in
           s
           ∙ ap (λ (n : ℕ). same-list args (stretch t POOL a n)) (sym l)
           ∙ ap₂ (λ (x y : ℕ). same-list args (stretch t POOL x (y - x))) p q
-          ∙ ap (λ (b : Bool). b && same-list args (args-at t i)) (sym (same-op-codes code (at t OP i) ∙ eq-eqb code (at t OP i) (sym c ∙ o)))
+          ∙ ap (λ (b : Bool). b && same-list args (args-at t i)) (sym op)
 
   -- a term that fits is the application, and the other way round
   pub fits-term : (i : ℕ) → Fits t code args i ≡ true → term-at t i ≡ record { op = op-of code; args = args }
@@ -167,9 +170,10 @@ module _ (t : List ℕ) (code : ℕ) (args : List ℕ) where
       unfolding context
       walk-found s =
           let within = w .within in
+          let none-below : NoneFrom (Fits t code args) 0 (k - 1) = λ j a b. lower j b (Fits t code args j) refl in
           record {
             within = omega arith;
-            found = λ l. first-found (same-term (op-of code) args) (term-at t) (terms# t) (k - 1) l (λ j a b. lower j b (Fits t code args j) refl) (sym s);
+            found = λ l. first-found (same-term (op-of code) args) (term-at t) (terms# t) (k - 1) l none-below (sym s);
             missing = λ q. absurd (omega arith);
             new = λ q. absurd (omega arith);
           }
@@ -218,7 +222,8 @@ record TermWritten (t : List ℕ) (n start code : ℕ) (args : List ℕ) (h : �
 
 module _ (t : List ℕ) (n start code : ℕ) (args : List ℕ) (h o : ℕ) (t₁ t₂ t₃ t₄ t₅ u : List ℕ) (a : Appendable t n start code args) where
   term-written : h < buckets → o ≡ at t BUCKET h → t₁ ≡ put t LINK n o → t₂ ≡ put t₁ BUCKET h (n + 1) → t₃ ≡ put-all t₂ POOL start args →
-      t₄ ≡ put t₃ OP n code → t₅ ≡ put t₄ OFFSET (n + 1) (start + length args) → u ≡ put t₅ COUNTS TERMS (n + 1) → TermWritten t n start code args h u
+      t₄ ≡ put t₃ OP n code → t₅ ≡ put t₄ OFFSET (n + 1) (start + length args) → u ≡ put t₅ COUNTS TERMS (n + 1) →
+      TermWritten t n start code args h u
   term-written b e e₁ e₂ e₃ e₄ e₅ e₆ =
       let l : table-words ≤ length t = a .sound .long in
       let r : n < max-terms = a .room in
@@ -240,7 +245,8 @@ module _ (t : List ℕ) (n start code : ℕ) (args : List ℕ) (h o : ℕ) (t₁
         linked = search (e₆, e₅, e₄, e₃, e₂, e₁, e, stores, other-place) depth 9;
       }
 
-module _ (t : List ℕ) (n start code : ℕ) (args : List ℕ) (h : ℕ) (u : List ℕ) (a : Appendable t n start code args) (w : TermWritten t n start code args h u) where
+module _ {t : List ℕ} {n start code : ℕ} {args : List ℕ} {h : ℕ} {u : List ℕ}
+    (a : Appendable t n start code args) (w : TermWritten t n start code args h u) where
   starts : at u OFFSET n ≡ start
   starts = w .terms .offset n (omega arith) ∙ sym (a .begins)
 
@@ -333,9 +339,10 @@ module _ (t : List ℕ) (n start code : ℕ) (args : List ℕ) (h : ℕ) (u : Li
 
 module _ {t : List ℕ} {n start code : ℕ} {args : List ℕ} {h o : ℕ} {t₁ t₂ t₃ t₄ t₅ u : List ℕ} (a : Appendable t n start code args) where
   pub append : h ≡ bucket code args → h < buckets → o ≡ at t BUCKET h → t₁ ≡ put t LINK n o → t₂ ≡ put t₁ BUCKET h (n + 1) →
-      t₃ ≡ put-all t₂ POOL start args → t₄ ≡ put t₃ OP n code → t₅ ≡ put t₄ OFFSET (n + 1) (start + length args) → u ≡ put t₅ COUNTS TERMS (n + 1) → Appended t code args u
+      t₃ ≡ put-all t₂ POOL start args → t₄ ≡ put t₃ OP n code → t₅ ≡ put t₄ OFFSET (n + 1) (start + length args) → u ≡ put t₅ COUNTS TERMS (n + 1) →
+      Appended t code args u
   append e b q e₁ e₂ e₃ e₄ e₅ e₆ =
-      appended t n start code args h u a (term-written t n start code args h o t₁ t₂ t₃ t₄ t₅ u a b q e₁ e₂ e₃ e₄ e₅ e₆) e b
+      appended a (term-written t n start code args h o t₁ t₂ t₃ t₄ t₅ u a b q e₁ e₂ e₃ e₄ e₅ e₆) e b
 
 -- ---- argument places
 
@@ -393,7 +400,8 @@ more-places cx o args = total-more (cx .terms) (record { op = o; args = args })
 
 -- ---- making a term: the old one, no room, or a new one
 
-module _ {t : List ℕ} {o : Op} {args : List ℕ} {k : ℕ} {cx : Context} (m : mk-app (context t) o args ≡ record { id = k; context = cx }) where
+module _ {t : List ℕ} {o : Op} {args : List ℕ} {k : ℕ} {cx : Context}
+    (m : mk-app (context t) o args ≡ record { id = k; context = cx }) where
   refuse : terms-fit cx ≡ false → ContextSound t → MkApp t o args Made.the-variants.NoRoom t
   unfolding made-answer made-context
   refuse b z = record { sound = z; answer = rw (m, b); view = rw (m, b); unchanged = λ q. refl }
