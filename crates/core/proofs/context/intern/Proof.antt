@@ -31,7 +31,6 @@ returns-3 c =
     let at-get-at = at-find-app .before .before in
     let entry = at-get-at .before .before .before .before in
     let o = c .before .get-at2 .ensures .0 in
-    let h = start-fits _ _ _ (entry .pre .sound) _ _ (at-get-at .get-at .ensures .0) (at-find-app .find-app .ensures) _ o in
     no-more-places _ _ _ (entry .pre .sound) _ _ (at-get-at .get-at .ensures .0) (at-find-app .find-app .ensures) _ o (omega arith)
     (omega arith)
 
@@ -41,7 +40,6 @@ append-term-requires c κs =
     let at-get-at = at-find-app .before .before in
     let entry = at-get-at .before .before .before .before in
     let o = c .before .before .get-at2 .ensures .0 in
-    let h = start-fits _ _ _ (entry .pre .sound) _ _ (at-get-at .get-at .ensures .0) (at-find-app .find-app .ensures) _ o in
     appendable (entry .pre) (at-get-at .get-at .ensures .0) (at-find-app .find-app .ensures) (omega arith) (omega arith) o (omega arith)
 
 returns-4 : tie.Need-returns-4
@@ -53,7 +51,6 @@ returns-4 c =
     let o = at-get-at2 .get-at2 .ensures .0 in
     let e = at-get-at .get-at .ensures .0 in
     let f = at-find-app .find-app .ensures in
-    let h = start-fits _ _ _ (entry .pre .sound) _ _ e f _ o in
     made-new _ _ _ (entry .pre .sound) _ _ e f _ o _ (omega arith) (omega arith) (omega arith) (c .before .before .append-term .ensures)
 
 pub intern-spec : {M : Type 1} → statement M
