@@ -22,7 +22,8 @@ sub-if3 c =
     let at-find-app = c .before .before .before .before in
     let at-get-at = at-find-app .before .before in
     let entry = at-get-at .before .before .before .before in
-    let h = start-fits _ _ _ (entry .pre .sound) _ _ (at-get-at .get-at .ensures .0) (at-find-app .find-app .ensures) _ (c .get-at2 .ensures .0) in
+    let o = c .get-at2 .ensures .0 in
+    let h = start-fits _ _ _ (entry .pre .sound) _ _ (at-get-at .get-at .ensures .0) (at-find-app .find-app .ensures) _ o in
     omega arith
 
 returns-3 : tie.Need-returns-3
