@@ -115,7 +115,8 @@ dropped i {t} {h} {o} {t₁} {u} z n b d q e₁ e₂ =
     let ys = symbols-apart t u z written k tt tt tt tt in
     let top = offset-mono t z i (terms# t) m (omega arith) in
     let end = ts .offset i (omega arith) in
-    let index = index-kept t u z i m ts (λ x g. older x g head (heads x (omega arith)) (ℕ-discrete x h)) (λ j g. k .rest LINK j tt (omega arith)) in
+    let index =
+    index-kept t u z i m ts (λ x g. older x g head (heads x (omega arith)) (ℕ-discrete x h)) (λ j g. k .rest LINK j tt (omega arith)) in
     let sorts = sorts-view t u z s (sorts-apart t u z written k tt) in
     let symbols = symbols-view t u z y ys in
     let terms : counted (term-at u) (terms# u) ≡ take i (counted (term-at t) (terms# t)) =
@@ -207,11 +208,11 @@ no-more-sorts t n node z e q =
     let m = length-append (context t .sorts) (node ∷ []) in
     refused t (declare-sort (context t) node) z (too-many-sorts (declare-sort (context t) node) (omega arith))
 
-pub sort-declared : (t : List ℕ) (n v : ℕ) (node : SortNode) (t₁ u : List ℕ) → ContextSound t → n ≡ sorts# t → (n ≡ max-sorts → ⊥) →
+pub sort-declared : (v : ℕ) {t : List ℕ} {n : ℕ} {node : SortNode} {t₁ u : List ℕ} → ContextSound t → n ≡ sorts# t → (n ≡ max-sorts → ⊥) →
     node-of v ≡ node → t₁ ≡ put t SORT n v → u ≡ put t₁ COUNTS SORTS (n + 1) →
     Declares t (declare-sort (context t) node) Declared.the-variants.Done u
 unfolding context declare-sort sort-at
-sort-declared t n v node t₁ u z e q p e₁ e₂ =
+sort-declared v {t} {n} {node} {t₁} {u} z e q p e₁ e₂ =
     let l : table-words ≤ length t = z .long in
     let f = z .sorts-fit in
     let r : n < max-sorts = omega arith in
@@ -230,7 +231,8 @@ sort-declared t n v node t₁ u z e q p e₁ e₂ =
     (ap (λ (x : ℕ). node-of (at u SORT x)) (sym e) ∙ ap node-of w ∙ p) in
     let symbols = symbols-view t u z y ys in
     let terms = terms-view t u z m ts in
-    accepted t (declare-sort (context t) node) u (continued-old t u z (terms# t) (terms# t) (omega arith) ys ts y refl (index-apart t u z (COUNTS ∷ SORT ∷ []) k ts tt tt))
+    let index = index-apart t u z (COUNTS ∷ SORT ∷ []) k ts tt tt in
+    accepted t (declare-sort (context t) node) u (continued-old t u z (terms# t) (terms# t) (omega arith) ys ts y refl index)
     (λ i. record { sorts = sorts i; symbols = symbols i; terms = terms i })
 
 -- ---- one more symbol
@@ -259,7 +261,8 @@ module _ (t : List ℕ) (n owner result : ℕ) (params t₁ t₂ t₃ t₄ u : L
       let in-own : (q : ℕ) → q < 4 → 4 * n + q < 2048 = omega arith in
       search (e₅, e₄, e₃, e₂, e₁, stores) depth 9
 
-module _ (t : List ℕ) (n owner result : ℕ) (params u : List ℕ) (a : SymbolRoom t n owner result params) (w : SymbolWritten t n owner result params u) where
+module _ {t : List ℕ} {n owner result : ℕ} {params u : List ℕ}
+    (a : SymbolRoom t n owner result params) (w : SymbolWritten t n owner result params u) where
   written-param : (j : ℕ) → j < length params → param-at u n j ≡ getD params j 0
   unfolding param-at
   written-param j h =
@@ -302,14 +305,15 @@ module _ (t : List ℕ) (n owner result : ℕ) (params u : List ℕ) (a : Symbol
         view = λ i. record { sorts = sorts i; symbols = symbols i; terms = terms i };
       }
 
-module _ {t : List ℕ} {n owner result : ℕ} {params : List ℕ} {w₀ w₁ w₂ w₃ : ℕ} {t₁ t₂ t₃ t₄ u : List ℕ} (a : SymbolRoom t n owner result params) where
+module _ {t : List ℕ} {n owner result : ℕ} {params : List ℕ} {w₀ w₁ w₂ w₃ : ℕ} {t₁ t₂ t₃ t₄ u : List ℕ}
+    (a : SymbolRoom t n owner result params) where
   pub add-symbol : w₀ ≡ packed params 0 → w₁ ≡ packed params 1 → w₂ ≡ packed params 2 → w₃ ≡ packed params 3 →
       t₁ ≡ put-all t PARAMS (4 * n) (w₀ ∷ w₁ ∷ w₂ ∷ w₃ ∷ []) → t₂ ≡ put t₁ OWNER n owner → t₃ ≡ put t₂ RESULT n result →
       t₄ ≡ put t₃ ARITY n (length params) → u ≡ put t₄ COUNTS SYMBOLS (n + 1) → SymbolAdded t n owner result params u
   unfolding packed-words
   add-symbol p₀ p₁ p₂ p₃ e₁ e₂ e₃ e₄ e₅ =
       let e : t₁ ≡ put-all t PARAMS (4 * n) (packed-words params) = e₁ ∙ rw (p₀, p₁, p₂, p₃) in
-      symbol-added t n owner result params u a (symbol-written t n owner result params t₁ t₂ t₃ t₄ u (a .sound .long) (a .room) e e₂ e₃ e₄ e₅)
+      symbol-added a (symbol-written t n owner result params t₁ t₂ t₃ t₄ u (a .sound .long) (a .room) e e₂ e₃ e₄ e₅)
 
 -- ---- symbols at the end
 
@@ -362,7 +366,8 @@ symbol-room a e r o =
 single-room : (t : List ℕ) (n owner result dt : ℕ) → ContextSound t → n ≡ symbols# t → n < max-symbols → owner ≤ n + 1 →
     result < sorts# t → dt < sorts# t → SymbolRoom t n owner result (dt ∷ [])
 single-room t n owner result dt z e r o d q =
-    record { sound = z; next = e; room = r; owned = o; declared = d; few = omega arith; sorts = only (sorts# t) q; small = only max-sorts (omega arith) }
+    let small = only max-sorts (omega arith) in
+    record { sound = z; next = e; room = r; owned = o; declared = d; few = omega arith; sorts = only (sorts# t) q; small = small }
   where
     only : (m : ℕ) → dt < m → AllBelow m (dt ∷ [])
     only m h zero l = h
@@ -404,10 +409,12 @@ module _ {t₀ : List ℕ} {c dt : ℕ} {fields : List ℕ} where
         let n = s .count in
         let m = a .room in
         let d = a .declared in
-        single-room t (c + 2 + i) (c + 1) (getD fields i 0) dt (s .sound) (omega arith) (omega arith) (omega arith) (omega arith) (omega arith)
+        single-room t (c + 2 + i) (c + 1) (getD fields i 0) dt (s .sound)
+        (omega arith) (omega arith) (omega arith) (omega arith) (omega arith)
 
     select-rest : (u : List ℕ) → i < length fields → SymbolAdded t (c + 2 + i) (c + 1) (getD fields i 0) (dt ∷ []) u →
-        with-symbols (context u) (selectors-from c dt (i + 1) (drop (i + 1) fields)) ≡ with-symbols (context t₀) (selectors-from c dt 0 fields)
+        with-symbols (context u) (selectors-from c dt (i + 1) (drop (i + 1) fields))
+        ≡ with-symbols (context t₀) (selectors-from c dt 0 fields)
     unfolding selectors-from
     select-rest u h a =
         let next : Role → Symbol = λ r. record { role = r; params = dt ∷ []; result = getD fields i 0 } in

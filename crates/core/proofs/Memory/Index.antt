@@ -35,7 +35,8 @@ module _ (hash : ℕ → ℕ) (h : ℕ) where
     where
       go : Dec (hash n ≡ h) → Newest n (newest hash h n) → Newest (suc n) (newest hash h (suc n))
       go (yes e) r = rw (newest-is n e) (record { within = omega arith; here = newest-is n e; after = λ j l g. absurd (omega arith) })
-      go (no d) r = rw (newest-not n d) (record { within = let w = r .within in omega arith; here = r .here; after = λ j l g. last j l g (ℕ-discrete j n) })
+      go (no d) r =
+          rw (newest-not n d) (record { within = omega arith; here = r .here; after = λ j l g. last j l g (ℕ-discrete j n) })
         where
           last : (j : ℕ) → newest hash h n ≤ j → j < suc n → Dec (j ≡ n) → hash j ≡ h → ⊥
           last j l g (yes q) e = d (ap hash (sym q) ∙ e)

@@ -41,4 +41,8 @@ pub kept-put-all : (ws t u : List ℕ) (c y : ℕ) (vs : List ℕ) → T (one-of
     Kept core-room ws t (put-all u c y vs)
 kept-put-all = Stores.kept-put-all core-room
 
-pub ruleset stores = (tt, lit<, other, earlier, later, same, long, all-other, all-before, all-same, all-long, kept-none, kept-put, kept-put-all)
+pub ruleset runs = (all-other, all-before, all-same, all-long)
+
+pub ruleset keeps = (kept-none, kept-put, kept-put-all)
+
+pub ruleset stores = (tt, lit<, other, earlier, later, same, long, runs, keeps)

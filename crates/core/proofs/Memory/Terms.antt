@@ -53,7 +53,9 @@ module _ (t : List ℕ) (start : ℕ) (args : List ℕ) where
   args-same i h w =
       sym
       (same-list-true args (stretch t POOL start (length args)) (sym (stretch-length t POOL start (length args)))
-      (λ k l. sym (stretch-at t POOL start (length args) k l ∙ eqb-true (at t POOL (start + k)) (getD args k 0) (not-false (eqb (at t POOL (start + k)) (getD args k 0)) (w k (omega arith) (omega arith))))))
+      (λ k l.
+      let e = not-false (eqb (at t POOL (start + k)) (getD args k 0)) (w k (omega arith) (omega arith)) in
+      sym (stretch-at t POOL start (length args) k l ∙ eqb-true (at t POOL (start + k)) (getD args k 0) e)))
 
   pub args-differ : (k w : ℕ) → k < length args → w ≡ at t POOL (start + k) → (w ≡ getD args k 0 → ⊥) →
       false ≡ same-list args (stretch t POOL start (length args))
@@ -69,7 +71,8 @@ module _ (t : List ℕ) (code : ℕ) (args : List ℕ) where
     pub app-other-op : (w ≡ code → ⊥) → false ≡ Fits t code args i
     unfolding same-term term-at
     app-other-op n =
-        sym (ap (λ (b : Bool). b && same-list args (args-at t i)) (same-op-codes code (at t OP i) ∙ ne-eqb code (at t OP i) (λ q. n (o ∙ sym q))))
+        let e = same-op-codes code (at t OP i) ∙ ne-eqb code (at t OP i) (λ q. n (o ∙ sym q)) in
+        sym (ap (λ (b : Bool). b && same-list args (args-at t i)) e)
 
     module _ {a e : ℕ} (p : a ≡ at t OFFSET i) (q : e ≡ at t OFFSET (i + 1)) where
       length-is : e - a ≡ length (args-at t i)
@@ -79,18 +82,18 @@ module _ (t : List ℕ) (code : ℕ) (args : List ℕ) where
       pub app-other-length : (e - a ≡ length args → ⊥) → false ≡ Fits t code args i
       unfolding same-term term-at
       app-other-length n =
-          sym
-          (ap (λ (b : Bool). same-op (op-of code) (op-of (at t OP i)) && b) (same-list-longer args (args-at t i) (λ l. n (length-is ∙ sym l)))
-          ∙ and-no (same-op (op-of code) (op-of (at t OP i))))
+          let op = same-op (op-of code) (op-of (at t OP i)) in
+          sym (ap (λ (b : Bool). op && b) (same-list-longer args (args-at t i) (λ l. n (length-is ∙ sym l))) ∙ and-no op)
 
       pub app-same : {r : Bool} → w ≡ code → e - a ≡ length args → r ≡ same-list args (stretch t POOL a (length args)) →
           r ≡ Fits t code args i
       unfolding same-term term-at args-at
       app-same c l s =
+          let op = same-op-codes code (at t OP i) ∙ eq-eqb code (at t OP i) (sym c ∙ o) in
           s
           ∙ ap (λ (n : ℕ). same-list args (stretch t POOL a n)) (sym l)
           ∙ ap₂ (λ (x y : ℕ). same-list args (stretch t POOL x (y - x))) p q
-          ∙ ap (λ (b : Bool). b && same-list args (args-at t i)) (sym (same-op-codes code (at t OP i) ∙ eq-eqb code (at t OP i) (sym c ∙ o)))
+          ∙ ap (λ (b : Bool). b && same-list args (args-at t i)) (sym op)
 
   -- a term that fits is the application, and the other way round
   pub fits-term : (i : ℕ) → Fits t code args i ≡ true → term-at t i ≡ record { op = op-of code; args = args }
@@ -118,80 +121,81 @@ module _ (t : List ℕ) (code : ℕ) (args : List ℕ) where
           let same = eqb→eq code (at t OP i) (subst T (same-op-codes code (at t OP i)) o) in
           absurd (d (sym (ap₂ bucket same (same-list-eq args (args-at t i) l))))
 
-  -- ---- among the terms of a bucket
+-- ---- among the terms of a bucket
 
-  -- none from k on fits, and term k - 1 stands in bucket h, if k is not 0
-  pub record Walking (h k : ℕ) : Type 0 where
-    pub within : k ≤ terms# t
-    pub here : newest (bucket-of t) h k ≡ k
-    pub rest : NoneFrom (Fits t code args) k (terms# t)
+-- none from k on fits, and term k - 1 stands in the application's bucket h, if k is not 0
+pub record Walking (t : List ℕ) (code : ℕ) (args : List ℕ) (h k : ℕ) : Type 0 where
+  pub sound : ContextSound t
+  pub hash : h ≡ bucket code args
+  pub within : k ≤ terms# t
+  pub here : newest (bucket-of t) h k ≡ k
+  pub rest : NoneFrom (Fits t code args) k (terms# t)
 
-  module _ (z : ContextSound t) (h : ℕ) (e : h ≡ bucket code args) where
-    -- the walk goes on from the newest before term n
-    onwards : (n k : ℕ) → n ≤ terms# t → k ≡ newest (bucket-of t) h n → NoneFrom (Fits t code args) n (terms# t) → Walking h k
-    onwards n k m q w =
-        let f = newest-found (bucket-of t) h n in
-        let within = f .within in
+-- the walk goes on from the newest before term n
+module _ {t : List ℕ} (code : ℕ) (args : List ℕ) {h : ℕ} (z : ContextSound t) (e : h ≡ bucket code args) where
+  onwards : (n k : ℕ) → n ≤ terms# t → k ≡ newest (bucket-of t) h n → NoneFrom (Fits t code args) n (terms# t) → Walking t code args h k
+  onwards n k m q w =
+      let f = newest-found (bucket-of t) h n in
+      record { sound = z; hash = e; within = omega arith; here = rw q (f .here); rest = λ j l g. each j l g (decLe n j) }
+    where
+      each : (j : ℕ) → k ≤ j → j < terms# t → Dec (n ≤ j) → Fits t code args j ≡ false
+      each j l g (yes o) = w j o g
+      each j l g (no o) =
+          other-bucket t code args j (λ b. newest-found (bucket-of t) h n .after j (omega arith) (omega arith) (b ∙ sym e))
+
+  pub walk-first : {k : ℕ} → h < buckets → k ≡ at t BUCKET h → Walking t code args h k
+  walk-first {k} l q = onwards (terms# t) k (omega arith) (q ∙ z .index .heads h l) (none-yet (Fits t code args) (terms# t))
+
+module _ {t : List ℕ} {code : ℕ} {args : List ℕ} {h k : ℕ} (w : Walking t code args h k) where
+  module _ (n : k ≡ 0 → ⊥) where
+    in-bucket : bucket-of t (k - 1) ≡ h
+    in-bucket =
+        let p : k ≡ suc (k - 1) = omega arith in
+        newest-in (bucket-of t) h (k - 1) (subst (λ (x : ℕ). newest (bucket-of t) h x ≡ x) p (w .here))
+
+    pub walk-next : {r : ℕ} → r ≡ at t LINK (k - 1) → Fits t code args (k - 1) ≡ false → Walking t code args h r × (r < k)
+    walk-next {r} q no-fit =
+        let within = w .within in
+        let i : r ≡ newest (bucket-of t) h (k - 1) =
+        q ∙ w .sound .index .links (k - 1) (omega arith) ∙ ap (λ (x : ℕ). newest (bucket-of t) x (k - 1)) in-bucket in
+        let f = newest-found (bucket-of t) h (k - 1) .within in
+        (onwards code args (w .sound) (w .hash) (k - 1) r (omega arith) i (λ j l g. each j l g (decLe k j)), omega arith)
+      where
+        each : (j : ℕ) → k - 1 ≤ j → j < terms# t → Dec (k ≤ j) → Fits t code args j ≡ false
+        each j l g (yes o) = w .rest j o g
+        each j l g (no o) = let p : j ≡ k - 1 = omega arith in rw p no-fit
+
+    -- no term stands twice, so none below it fits
+    pub walk-found : true ≡ Fits t code args (k - 1) → FindsApp t code args (k - 1)
+    unfolding context
+    walk-found s =
+        let within = w .within in
+        let none-below : NoneFrom (Fits t code args) 0 (k - 1) = λ j a b. lower j b (Fits t code args j) refl in
         record {
           within = omega arith;
-          here = rw q (f .here);
-          rest = λ j l g. each j l g (decLe n j);
+          found = λ l. first-found (same-term (op-of code) args) (term-at t) (terms# t) (k - 1) l none-below (sym s);
+          missing = λ q. absurd (omega arith);
+          new = λ q. absurd (omega arith);
         }
       where
-        each : (j : ℕ) → k ≤ j → j < terms# t → Dec (n ≤ j) → Fits t code args j ≡ false
-        each j l g (yes o) = w j o g
-        each j l g (no o) = other-bucket j (λ b. newest-found (bucket-of t) h n .after j (omega arith) (omega arith) (b ∙ sym e))
+        lower : (j : ℕ) → j < k - 1 → (b : Bool) → Fits t code args j ≡ b → b ≡ false
+        lower j l false q = refl
+        lower j l true q =
+            let within = w .within in
+            let same = fits-term t code args j q ∙ sym (fits-term t code args (k - 1) (sym s)) in
+            let i = w .sound .index .once j (k - 1) (omega arith) (omega arith) same in
+            absurd (omega arith)
 
-    pub walk-first : (k : ℕ) → h < buckets → k ≡ at t BUCKET h → Walking h k
-    walk-first k l q = onwards (terms# t) k (omega arith) (q ∙ z .index .heads h l) (none-yet (Fits t code args) (terms# t))
-
-    module _ (k : ℕ) (n : k ≡ 0 → ⊥) (w : Walking h k) where
-      in-bucket : bucket-of t (k - 1) ≡ h
-      in-bucket =
-          let p : k ≡ suc (k - 1) = omega arith in
-          newest-in (bucket-of t) h (k - 1) (subst (λ (x : ℕ). newest (bucket-of t) h x ≡ x) p (w .here))
-
-      pub walk-next : (r : ℕ) → r ≡ at t LINK (k - 1) → Fits t code args (k - 1) ≡ false → Walking h r × (r < k)
-      walk-next r q no-fit =
-          let within = w .within in
-          let i : r ≡ newest (bucket-of t) h (k - 1) =
-          q ∙ z .index .links (k - 1) (omega arith) ∙ ap (λ (x : ℕ). newest (bucket-of t) x (k - 1)) in-bucket in
-          let f = newest-found (bucket-of t) h (k - 1) .within in
-          (onwards (k - 1) r (omega arith) i (λ j l g. each j l g (decLe k j)), omega arith)
-        where
-          each : (j : ℕ) → k - 1 ≤ j → j < terms# t → Dec (k ≤ j) → Fits t code args j ≡ false
-          each j l g (yes o) = w .rest j o g
-          each j l g (no o) = let p : j ≡ k - 1 = omega arith in rw p no-fit
-
-      -- no term stands twice, so none below it fits
-      pub walk-found : true ≡ Fits t code args (k - 1) → FindsApp t code args (k - 1)
-      unfolding context
-      walk-found s =
-          let within = w .within in
-          record {
-            within = omega arith;
-            found = λ l. first-found (same-term (op-of code) args) (term-at t) (terms# t) (k - 1) l (λ j a b. lower j b (Fits t code args j) refl) (sym s);
-            missing = λ q. absurd (omega arith);
-            new = λ q. absurd (omega arith);
-          }
-        where
-          lower : (j : ℕ) → j < k - 1 → (b : Bool) → Fits t code args j ≡ b → b ≡ false
-          lower j l false q = refl
-          lower j l true q =
-              let within = w .within in
-              let i = z .index .once j (k - 1) (omega arith) (omega arith) (fits-term j q ∙ sym (fits-term (k - 1) (sym s))) in
-              absurd (omega arith)
-
-    pub walk-missing : (k n : ℕ) → k ≡ 0 → Walking h k → n ≡ terms# t → FindsApp t code args n
-    unfolding context
-    walk-missing k n q w p =
-        let rest : NoneFrom (Fits t code args) 0 (terms# t) = λ j l g. w .rest j (omega arith) g in
-        record {
-          within = omega arith;
-          found = λ l. absurd (omega arith);
-          missing = λ o. first-missing (same-term (op-of code) args) (term-at t) (terms# t) rest;
-          new = λ o i l. rest i (omega arith) (omega arith);
-        }
+  pub walk-missing : {n : ℕ} → k ≡ 0 → n ≡ terms# t → FindsApp t code args n
+  unfolding context
+  walk-missing q p =
+      let rest : NoneFrom (Fits t code args) 0 (terms# t) = λ j l g. w .rest j (omega arith) g in
+      record {
+        within = omega arith;
+        found = λ l. absurd (omega arith);
+        missing = λ o. first-missing (same-term (op-of code) args) (term-at t) (terms# t) rest;
+        new = λ o i l. rest i (omega arith) (omega arith);
+      }
 
 -- ---- one more term
 
@@ -219,7 +223,8 @@ record TermWritten (t : List ℕ) (n start code : ℕ) (args : List ℕ) (h : �
 
 module _ (t : List ℕ) (n start code : ℕ) (args : List ℕ) (h o : ℕ) (t₁ t₂ t₃ t₄ t₅ u : List ℕ) (a : Appendable t n start code args) where
   term-written : h < buckets → o ≡ at t BUCKET h → t₁ ≡ put t LINK n o → t₂ ≡ put t₁ BUCKET h (n + 1) → t₃ ≡ put-all t₂ POOL start args →
-      t₄ ≡ put t₃ OP n code → t₅ ≡ put t₄ OFFSET (n + 1) (start + length args) → u ≡ put t₅ COUNTS TERMS (n + 1) → TermWritten t n start code args h u
+      t₄ ≡ put t₃ OP n code → t₅ ≡ put t₄ OFFSET (n + 1) (start + length args) → u ≡ put t₅ COUNTS TERMS (n + 1) →
+      TermWritten t n start code args h u
   term-written b e e₁ e₂ e₃ e₄ e₅ e₆ =
       let l : table-words ≤ length t = a .sound .long in
       let r : n < max-terms = a .room in
@@ -241,7 +246,8 @@ module _ (t : List ℕ) (n start code : ℕ) (args : List ℕ) (h o : ℕ) (t₁
         linked = search (e₆, e₅, e₄, e₃, e₂, e₁, e, stores, other-place) depth 9;
       }
 
-module _ (t : List ℕ) (n start code : ℕ) (args : List ℕ) (h : ℕ) (u : List ℕ) (a : Appendable t n start code args) (w : TermWritten t n start code args h u) where
+module _ {t : List ℕ} {n start code : ℕ} {args : List ℕ} {h : ℕ} {u : List ℕ}
+    (a : Appendable t n start code args) (w : TermWritten t n start code args h u) where
   starts : at u OFFSET n ≡ start
   starts = w .terms .offset n (omega arith) ∙ sym (a .begins)
 
@@ -334,9 +340,10 @@ module _ (t : List ℕ) (n start code : ℕ) (args : List ℕ) (h : ℕ) (u : Li
 
 module _ {t : List ℕ} {n start code : ℕ} {args : List ℕ} {h o : ℕ} {t₁ t₂ t₃ t₄ t₅ u : List ℕ} (a : Appendable t n start code args) where
   pub append : h ≡ bucket code args → h < buckets → o ≡ at t BUCKET h → t₁ ≡ put t LINK n o → t₂ ≡ put t₁ BUCKET h (n + 1) →
-      t₃ ≡ put-all t₂ POOL start args → t₄ ≡ put t₃ OP n code → t₅ ≡ put t₄ OFFSET (n + 1) (start + length args) → u ≡ put t₅ COUNTS TERMS (n + 1) → Appended t code args u
+      t₃ ≡ put-all t₂ POOL start args → t₄ ≡ put t₃ OP n code → t₅ ≡ put t₄ OFFSET (n + 1) (start + length args) → u ≡ put t₅ COUNTS TERMS (n + 1) →
+      Appended t code args u
   append e b q e₁ e₂ e₃ e₄ e₅ e₆ =
-      appended t n start code args h u a (term-written t n start code args h o t₁ t₂ t₃ t₄ t₅ u a b q e₁ e₂ e₃ e₄ e₅ e₆) e b
+      appended a (term-written t n start code args h o t₁ t₂ t₃ t₄ t₅ u a b q e₁ e₂ e₃ e₄ e₅ e₆) e b
 
 -- ---- argument places
 
@@ -394,7 +401,8 @@ more-places cx o args = total-more (cx .terms) (record { op = o; args = args })
 
 -- ---- making a term: the old one, no room, or a new one
 
-module _ {t : List ℕ} {o : Op} {args : List ℕ} {k : ℕ} {cx : Context} (m : mk-app (context t) o args ≡ record { id = k; context = cx }) where
+module _ {t : List ℕ} {o : Op} {args : List ℕ} {k : ℕ} {cx : Context}
+    (m : mk-app (context t) o args ≡ record { id = k; context = cx }) where
   refuse : terms-fit cx ≡ false → ContextSound t → MkApp t o args Made.the-variants.NoRoom t
   unfolding made-answer made-context
   refuse b z = record { sound = z; answer = rw (m, b); view = rw (m, b); unchanged = λ q. refl }

@@ -107,7 +107,9 @@ module _ (t : List ℕ) where
       rw e (omega arith)
 
   pub offset-mono : ContextSound t → (i j : ℕ) → i ≤ j → j ≤ terms# t → at t OFFSET i ≤ at t OFFSET j
-  offset-mono z i j h l = let e : i + (j - i) ≡ j = omega arith in subst (λ (k : ℕ). at t OFFSET i ≤ at t OFFSET k) e (offset-le z i (j - i) (omega arith))
+  offset-mono z i j h l =
+      let e : i + (j - i) ≡ j = omega arith in
+      subst (λ (k : ℕ). at t OFFSET i ≤ at t OFFSET k) e (offset-le z i (j - i) (omega arith))
 
   -- the part of the pool that holds a term's arguments, by the words that bound it
   pub record ArgsPart (x a e : ℕ) : Type 0 where

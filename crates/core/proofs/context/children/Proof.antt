@@ -8,21 +8,18 @@ sub-result : tie.Need-sub-result
 sub-result c =
     let z = c .before .before .before .before .pre in
     let s = args-part _ _ _ _ (z .0) (omega arith) (c .before .get-at .ensures .0) (c .get-at2 .ensures .0) in
-    let l = z .0 .long in
     omega arith
 
 part-result-start : tie.Need-part-result-start
 part-result-start c =
     let z = c .before .before .before .before .pre in
     let s = args-part _ _ _ _ (z .0) (omega arith) (c .before .get-at .ensures .0) (c .get-at2 .ensures .0) in
-    let l = z .0 .long in
     omega arith
 
 part-result-end : tie.Need-part-result-end
 part-result-end c =
     let z = c .before .before .before .before .pre in
     let s = args-part _ _ _ _ (z .0) (omega arith) (c .before .get-at .ensures .0) (c .get-at2 .ensures .0) in
-    let l = z .0 .long in
     omega arith
 
 returns : tie.Need-returns

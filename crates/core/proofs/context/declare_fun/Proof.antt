@@ -5,8 +5,7 @@ use Rattle.core.proofs.context.declare_fun.Statement.{statement}
 use Rattle.core.proofs.context.declare_fun.Tie as tie
 
 returns : tie.Need-returns
-returns c =
-    no-function _ _ _ _ (c .before .before .before .before .before .pre .sound) (c .before .get-at .ensures .0) (c .if1 .taken)
+returns c = no-function _ _ _ _ (c .before .before .before .before .before .pre .sound) (c .before .get-at .ensures .0) (omega arith)
 
 add-symbol-requires : tie.Need-add-symbol-requires
 add-symbol-requires c κs =

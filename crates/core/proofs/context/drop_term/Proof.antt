@@ -16,14 +16,15 @@ returns : tie.Need-returns
 returns c =
     let at-put-at = c .before .before .before .before .before .before in
     let at-get-at2 = at-put-at .before .before in
-    let at-here = at-get-at2 .before .before in
-    let at-here-16 = at-here .before .before .before .before .before .before in
-    let hash = at-here in
-    let entry = at-here-16 in
+    let at-hash-app = at-get-at2 .before .before in
+    let at-children = at-hash-app .before in
+    let at-get-at = at-children .before .before in
+    let entry = at-get-at .before .before .before in
     let z = entry .pre in
-    let b = stored-bucket _ _ (omega arith) (hash .before .before .before .get-at .ensures .0) (hash .before .children .ensures) (hash .hash-app .ensures .0) in
-    dropped (entry .args .i) (z .0) (z .1) b (hash .hash-app .ensures .1) (at-get-at2 .get-at2 .ensures .0)
-    (at-put-at .put-at .ensures) (c .before .before .put-at2 .ensures)
+    let h = at-hash-app .hash-app .ensures in
+    let b = stored-bucket _ _ (omega arith) (at-get-at .get-at .ensures .0) (at-children .children .ensures) (h .0) in
+    dropped (entry .args .i) (z .0) (z .1) b (h .1) (at-get-at2 .get-at2 .ensures .0) (at-put-at .put-at .ensures)
+    (c .before .before .put-at2 .ensures)
 
 pub drop-term-spec : {M : Type 1} → statement M
 drop-term-spec =

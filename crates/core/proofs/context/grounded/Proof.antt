@@ -31,9 +31,9 @@ returns c =
 
 loop-again : tie.Need-loop-again Inv-loop μ-loop
 loop-again c =
-    let at-loop = c .before .before .before in
-    none-more _ 0 _ (at-loop .loop .inv)
-    (⊎-elim (λ w. not-plain _ _ _ _ (w .1 .ensures) (w .2 .left)) (λ w. not-built _ _ _ _ (c .before .builds .ensures) (w .left)) (c .if1 .came))
+    let b = c .before .builds .ensures in
+    none-more _ 0 _ (c .before .before .before .loop .inv)
+    (⊎-elim (λ w. not-plain _ _ _ _ (w .1 .ensures) (w .2 .left)) (λ w. not-built _ _ _ _ b (w .left)) (c .if1 .came))
 
 returns-2 : tie.Need-returns-2 Inv-loop μ-loop
 returns-2 c = not-grounded _ _ _ (c .before .before .get-at .ensures .0) _ (c .loop-test .left) (c .before .loop .inv)

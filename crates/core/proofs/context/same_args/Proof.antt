@@ -22,7 +22,8 @@ loop-again c =
     let at-loop = c .before .before .before .before in
     let entry = at-loop .before .before .before in
     let loop = at-loop .loop in
-    (search needs, none-more _ 0 _ (loop .inv .1) (arg-same _ _ (entry .args .args .now) (loop .i) _ (c .before .before .get-at .ensures .0) (c .if1 .left)))
+    let s = arg-same _ _ (entry .args .args .now) (loop .i) _ (c .before .before .get-at .ensures .0) (c .if1 .left) in
+    (search needs, none-more _ 0 _ (loop .inv .1) s)
 
 pub same-args-spec : {M : Type 1} → statement M
 same-args-spec =
