@@ -123,7 +123,8 @@ module _ {A : Type 0} where
   unfolding range
   map-range-suc f k zero = rw add-zero
   map-range-suc f k (suc n) =
-      ap {B = List A} (λ xs. f k ∷ xs) (map-range-suc f (suc k) n ∙ ap (λ (m : ℕ). map f (range (suc k) n) ++ (f m ∷ [])) (suc-add k n ∙ sym (add-suc k n)))
+      ap {B = List A} (λ xs. f k ∷ xs)
+      (map-range-suc f (suc k) n ∙ ap (λ (m : ℕ). map f (range (suc k) n) ++ (f m ∷ [])) (suc-add k n ∙ sym (add-suc k n)))
 
   -- the first of them
   pub take-map-range : (f : ℕ → A) (k n m : ℕ) → m ≤ n → take m (map f (range k n)) ≡ map f (range k m)

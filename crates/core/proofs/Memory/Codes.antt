@@ -112,4 +112,6 @@ module _ (xs : List ℕ) (a : AllBelow max-sorts xs) where
   pub digit-packed : (i : ℕ) → i < max-params → digit (getD (packed-words xs) (i / 4) 0) (i % 4) ≡ getD xs i 0
   digit-packed i h =
       let e : 4 * (i / 4) + i % 4 ≡ i = omega arith in
-      ap (λ (w : ℕ). digit w (i % 4)) (word-of (i / 4) (omega arith)) ∙ digit-of (i / 4) (i % 4) (omega arith) ∙ ap (λ (j : ℕ). getD xs j 0) e
+      ap (λ (w : ℕ). digit w (i % 4)) (word-of (i / 4) (omega arith))
+      ∙ digit-of (i / 4) (i % 4) (omega arith)
+      ∙ ap (λ (j : ℕ). getD xs j 0) e

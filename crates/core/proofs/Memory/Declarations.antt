@@ -145,13 +145,15 @@ pub record Dropping (t₀ : List ℕ) (n : ℕ) (t : List ℕ) (i : ℕ) : Type 
 
 pub drop-first : (t : List ℕ) (n i : ℕ) → ContextSound t → n ≤ length (context t .terms) → i ≡ terms# t → Dropping t n t i
 unfolding cut-terms
-drop-first t n i z h e = record {
-  sound = z;
-  above = omega arith;
-  count = e;
-  view = λ j. record { sorts = context t .sorts; symbols = context t .symbols; terms = sym (take-all i (context t .terms) (omega arith)) j };
-  long = refl;
-}
+drop-first t n i z h e =
+    let all = sym (take-all i (context t .terms) (omega arith)) in
+    record {
+      sound = z;
+      above = omega arith;
+      count = e;
+      view = λ j. record { sorts = context t .sorts; symbols = context t .symbols; terms = all j };
+      long = refl;
+    }
 
 pub drop-next : {t₀ : List ℕ} {n : ℕ} {t : List ℕ} {i j : ℕ} {u : List ℕ} → Dropping t₀ n t i → n < i → j ≡ i - 1 → length u ≡ length t →
     ContextSound u → context u ≡ cut-terms j (context t) → Dropping t₀ n u j
@@ -162,6 +164,7 @@ drop-next {t₀} {t = t} {i} {j} {u} d h e l z v =
     let n₀ = ap (λ (x : Context). length (x .terms)) v in
     let n₁ = length-take-le j (context t .terms) (let y = terms-length t in omega arith) in
     let n₂ = terms-length u in
+    let fewer = take-take j i (context t₀ .terms) (omega arith) in
     record {
       sound = z;
       above = omega arith;
@@ -169,7 +172,7 @@ drop-next {t₀} {t = t} {i} {j} {u} d h e l z v =
       view =
           v
           ∙ ap (cut-terms j) (d .view)
-          ∙ (λ k. record { sorts = context t₀ .sorts; symbols = context t₀ .symbols; terms = take-take j i (context t₀ .terms) (omega arith) k });
+          ∙ (λ k. record { sorts = context t₀ .sorts; symbols = context t₀ .symbols; terms = fewer k });
       long = omega arith;
     }
 

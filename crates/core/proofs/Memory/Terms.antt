@@ -340,8 +340,8 @@ module _ {t : List ℕ} {n start code : ℕ} {args : List ℕ} {h : ℕ} {u : Li
 
 module _ {t : List ℕ} {n start code : ℕ} {args : List ℕ} {h o : ℕ} {t₁ t₂ t₃ t₄ t₅ u : List ℕ} (a : Appendable t n start code args) where
   pub append : h ≡ bucket code args → h < buckets → o ≡ at t BUCKET h → t₁ ≡ put t LINK n o → t₂ ≡ put t₁ BUCKET h (n + 1) →
-      t₃ ≡ put-all t₂ POOL start args → t₄ ≡ put t₃ OP n code → t₅ ≡ put t₄ OFFSET (n + 1) (start + length args) → u ≡ put t₅ COUNTS TERMS (n + 1) →
-      Appended t code args u
+      t₃ ≡ put-all t₂ POOL start args → t₄ ≡ put t₃ OP n code → t₅ ≡ put t₄ OFFSET (n + 1) (start + length args) →
+      u ≡ put t₅ COUNTS TERMS (n + 1) → Appended t code args u
   append e b q e₁ e₂ e₃ e₄ e₅ e₆ =
       appended a (term-written t n start code args h o t₁ t₂ t₃ t₄ t₅ u a b q e₁ e₂ e₃ e₄ e₅ e₆) e b
 

@@ -27,4 +27,5 @@ returns-4 c = (sym (role-of-member _ _ (c .before .before .before .args .owner -
 
 pub role-from-spec : {M : Type 1} → statement M
 role-from-spec =
-    tie.close (tie.spec returns (λ c. search needs) returns-2 (λ c. search needs) returns-3 (λ c. search needs) (λ c. search needs) returns-4)
+    tie.close (tie.spec returns (λ c. search needs) returns-2 (λ c. search needs) returns-3 (λ c. search needs) (λ c. search needs)
+    returns-4)
