@@ -3,5 +3,6 @@
 pub mod Lists
 pub mod Symbols
 pub mod Readings
--- Lemmas about the lent table.
+-- Memory: lemmas about the lent table; Kit: the names that most proofs of functions use.
 pub mod Memory
+pub mod Kit

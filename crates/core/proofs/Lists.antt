@@ -7,7 +7,7 @@ use mathlib.Core.List.{List, [], _∷_, _++_, map}
 use native.Mathlib.Nat.{le-antisymm, add-zero, add-suc, suc-add}
 use native.Mathlib.Decide.{decLe}
 use native.Mathlib.Omega.{arith}
-use lib.Dec.{T, eqb}
+use lib.Dec.{T, eqb, eqb→eq}
 use borrow.Author.Tests.{eq-eqb, ne-eqb}
 use lib.ListN.{length, getD, take, drop, set, length-set, drop-of-length-le}
 use lib.Seq.{sets, getD-set-same, getD-set-other, drop-cons}
@@ -47,7 +47,8 @@ module _ {A : Type 0} where
   every-in p (y ∷ ys) x t (inl e) = subst (λ (z : A). T (p z)) (sym e) (cond-and (p y) (every p ys) t .0)
   every-in p (y ∷ ys) x t (inr i) = every-in p ys x (cond-and (p y) (every p ys) t .1) i
 
-  any-here : (p : A → Bool) (y : A) (ys : List A) (b : Bool) → p y ≡ b → T (cond b true (any p ys)) → (T (any p ys) → (x : A) × In x ys × T (p x)) → (x : A) × In x (y ∷ ys) × T (p x)
+  any-here : (p : A → Bool) (y : A) (ys : List A) (b : Bool) → p y ≡ b → T (cond b true (any p ys)) →
+      (T (any p ys) → (x : A) × In x ys × T (p x)) → (x : A) × In x (y ∷ ys) × T (p x)
   any-here p y ys true e t go = (y, inl refl, subst (λ (b : Bool). T b) (sym e) tt)
   any-here p y ys false e t go = let (x, i, q) = go t in (x, inr i, q)
 
@@ -74,7 +75,8 @@ module _ {A : Type 0} where
       (keep-first y (keep p ys) (p y) (subst (λ (z : A). T (p z)) e t))
   in-keep p (y ∷ ys) x (inr i) t = keep-add (p y) y (keep p ys) x (in-keep p ys x i t)
 
-  kept-here : (p : A → Bool) (y : A) (ys : List A) (b : Bool) (x : A) → p y ≡ b → In x (cond b (y ∷ keep p ys) (keep p ys)) → (In x (keep p ys) → In x ys × T (p x)) → In x (y ∷ ys) × T (p x)
+  kept-here : (p : A → Bool) (y : A) (ys : List A) (b : Bool) (x : A) → p y ≡ b → In x (cond b (y ∷ keep p ys) (keep p ys)) →
+      (In x (keep p ys) → In x ys × T (p x)) → In x (y ∷ ys) × T (p x)
   kept-here p y ys true x e (inl q) go = (inl q, subst (λ (z : A). T (p z)) (sym q) (subst (λ (b : Bool). T b) (sym e) tt))
   kept-here p y ys true x e (inr i) go = let (j, t) = go i in (inr j, t)
   kept-here p y ys false x e i go = let (j, t) = go i in (inr j, t)
@@ -121,7 +123,8 @@ module _ {A : Type 0} where
   unfolding range
   map-range-suc f k zero = rw add-zero
   map-range-suc f k (suc n) =
-      ap {B = List A} (λ xs. f k ∷ xs) (map-range-suc f (suc k) n ∙ ap (λ (m : ℕ). map f (range (suc k) n) ++ (f m ∷ [])) (suc-add k n ∙ sym (add-suc k n)))
+      ap {B = List A} (λ xs. f k ∷ xs)
+      (map-range-suc f (suc k) n ∙ ap (λ (m : ℕ). map f (range (suc k) n) ++ (f m ∷ [])) (suc-add k n ∙ sym (add-suc k n)))
 
   -- the first of them
   pub take-map-range : (f : ℕ → A) (k n m : ℕ) → m ≤ n → take m (map f (range k n)) ≡ map f (range k m)
@@ -132,14 +135,16 @@ module _ {A : Type 0} where
 
   -- ---- a run of stores
 
-  pub getD-sets-out : (l : List A) (i : ℕ) (vs : List A) (k : ℕ) (d : A) → (k < i) ⊎ (i + length vs ≤ k) → getD (sets l i vs) k d ≡ getD l k d
+  pub getD-sets-out : (l : List A) (i : ℕ) (vs : List A) (k : ℕ) (d : A) → (k < i) ⊎ (i + length vs ≤ k) →
+      getD (sets l i vs) k d ≡ getD l k d
   getD-sets-out l i [] k d h = refl
   getD-sets-out l i (v ∷ vs) k d (inl h) =
       getD-sets-out (set l i v) (suc i) vs k d (inl (omega arith)) ∙ getD-set-other l i k v d (omega arith)
   getD-sets-out l i (v ∷ vs) k d (inr h) =
       getD-sets-out (set l i v) (suc i) vs k d (inr (omega arith)) ∙ getD-set-other l i k v d (omega arith)
 
-  pub getD-sets-in : (l : List A) (i : ℕ) (vs : List A) (k : ℕ) (d : A) → k < length vs → i + length vs ≤ length l → getD (sets l i vs) (i + k) d ≡ getD vs k d
+  pub getD-sets-in : (l : List A) (i : ℕ) (vs : List A) (k : ℕ) (d : A) → k < length vs → i + length vs ≤ length l →
+      getD (sets l i vs) (i + k) d ≡ getD vs k d
   getD-sets-in l i [] k d h m = absurd (omega arith)
   getD-sets-in l i (v ∷ vs) zero d h m =
       getD-sets-out (set l i v) (suc i) vs (i + 0) d (inl (omega arith))
@@ -151,7 +156,8 @@ module _ {A : Type 0} where
 
 -- ---- lists compared
 
-pub same-list-true : (xs ys : List ℕ) → length xs ≡ length ys → ((k : ℕ) → k < length xs → getD xs k 0 ≡ getD ys k 0) → same-list xs ys ≡ true
+pub same-list-true : (xs ys : List ℕ) → length xs ≡ length ys → ((k : ℕ) → k < length xs → getD xs k 0 ≡ getD ys k 0) →
+    same-list xs ys ≡ true
 unfolding same-list
 same-list-true [] [] e h = refl
 same-list-true [] (y ∷ ys) e h = absurd (omega arith)
@@ -176,6 +182,14 @@ same-list-longer (x ∷ xs) [] n = refl
 same-list-longer (x ∷ xs) (y ∷ ys) n =
     ap (λ (b : Bool). cond (eqb x y) b false) (same-list-longer xs ys (λ e. n (ap suc e))) ∙ cond-same (eqb x y)
 
+pub same-list-eq : (xs ys : List ℕ) → T (same-list xs ys) → xs ≡ ys
+unfolding same-list
+same-list-eq [] [] t = refl
+same-list-eq [] (y ∷ ys) t = absurd t
+same-list-eq (x ∷ xs) [] t = absurd t
+same-list-eq (x ∷ xs) (y ∷ ys) t =
+    let (e, r) = cond-and (eqb x y) (same-list xs ys) t in ap₂ (λ (z : ℕ) (zs : List ℕ). z ∷ zs) (eqb→eq x y e) (same-list-eq xs ys r)
+
 -- ---- a loop that copies vs into t₀ from a place on
 
 -- i elements are copied, and copying the others into the table as it is now gives the whole copy
@@ -187,8 +201,9 @@ pub record Copying (t₀ : List ℕ) (at : ℕ) (vs t : List ℕ) (i : ℕ) : Ty
 pub copy-first : (t : List ℕ) (at : ℕ) (vs : List ℕ) → Copying t at vs t 0
 copy-first t at vs = record { within = omega arith; long = refl; rest = ap (λ (k : ℕ). sets t k vs) (add-zero at) }
 
-pub copy-next : (t₀ : List ℕ) (at : ℕ) (vs t : List ℕ) (i : ℕ) → Copying t₀ at vs t i → i < length vs → Copying t₀ at vs (set t (at + i) (getD vs i 0)) (i + 1)
-copy-next t₀ at vs t i c h =
+pub copy-next : {t₀ : List ℕ} {at : ℕ} {vs t : List ℕ} {i : ℕ} → Copying t₀ at vs t i → i < length vs →
+    Copying t₀ at vs (set t (at + i) (getD vs i 0)) (i + 1)
+copy-next {at = at} {vs} {t} {i} c h =
     let e : at + (i + 1) ≡ suc (at + i) = omega arith in
     let d : i + 1 ≡ suc i = omega arith in
     record {
@@ -200,12 +215,8 @@ copy-next t₀ at vs t i c h =
           ∙ c .rest;
     }
 
-pub copy-done : (t₀ : List ℕ) (at : ℕ) (vs t : List ℕ) (i : ℕ) → Copying t₀ at vs t i → length vs ≤ i → t ≡ sets t₀ at vs
-copy-done t₀ at vs t i c h = sym (ap (λ (ws : List ℕ). sets t (at + i) ws) (drop-of-length-le vs h)) ∙ c .rest
-
--- stores one after the other
-pub set-after : (l l₁ l₂ : List ℕ) (i v : ℕ) → l₂ ≡ set l₁ i v → l₁ ≡ l → l₂ ≡ set l i v
-set-after l l₁ l₂ i v e p = e ∙ ap (λ (m : List ℕ). set m i v) p
+pub copy-done : {t₀ : List ℕ} {at : ℕ} {vs t : List ℕ} {i : ℕ} → Copying t₀ at vs t i → length vs ≤ i → t ≡ sets t₀ at vs
+copy-done {at = at} {vs} {t} {i} c h = sym (ap (λ (ws : List ℕ). sets t (at + i) ws) (drop-of-length-le vs h)) ∙ c .rest
 
 -- ---- tests over a list, by its members
 
@@ -217,45 +228,8 @@ pub true-T : (b : Bool) → b ≡ true → T b
 true-T true e = tt
 true-T false e = absurd (false≢true e)
 
-module _ {A : Type 0} where
-  pub any-none : (p : A → Bool) (xs : List A) → ((x : A) → In x xs → p x ≡ false) → any p xs ≡ false
-  unfolding any
-  any-none p [] h = refl
-  any-none p (x ∷ xs) h =
-      ap (λ (b : Bool). cond b true (any p xs)) (h x (inl refl)) ∙ any-none p xs (λ y i. h y (inr i))
-
-  pub any-some : (p : A → Bool) (xs : List A) (x : A) → In x xs → p x ≡ true → any p xs ≡ true
-  unfolding any
-  any-some p [] x i e = absurd i
-  any-some p (y ∷ ys) x (inl q) e = ap (λ (b : Bool). cond b true (any p ys)) (ap p (sym q) ∙ e)
-  any-some p (y ∷ ys) x (inr i) e = ap (λ (b : Bool). cond (p y) true b) (any-some p ys x i e) ∙ cond-both (p y)
-
-  pub every-all : (p : A → Bool) (xs : List A) → ((x : A) → In x xs → p x ≡ true) → every p xs ≡ true
-  unfolding every
-  every-all p [] h = refl
-  every-all p (x ∷ xs) h =
-      ap (λ (b : Bool). cond b (every p xs) false) (h x (inl refl)) ∙ every-all p xs (λ y i. h y (inr i))
-
-  pub every-not : (p : A → Bool) (xs : List A) (x : A) → In x xs → p x ≡ false → every p xs ≡ false
-  unfolding every
-  every-not p [] x i e = absurd i
-  every-not p (y ∷ ys) x (inl q) e = ap (λ (b : Bool). cond b (every p ys) false) (ap p (sym q) ∙ e)
-  every-not p (y ∷ ys) x (inr i) e = ap (λ (b : Bool). cond (p y) b false) (every-not p ys x i e) ∙ cond-same (p y)
-
 pub range-in : (k n x : ℕ) → In x (range k n) → (k ≤ x) × (x < k + n)
 unfolding range
 range-in k zero x i = absurd i
 range-in k (suc n) x (inl e) = (omega arith, omega arith)
 range-in k (suc n) x (inr i) = let r = range-in (suc k) n x i in (omega arith, omega arith)
-
--- ---- members by their places
-
-pub at-in : (xs : List ℕ) (i : ℕ) → i < length xs → In (getD xs i 0) xs
-at-in [] i h = absurd (omega arith)
-at-in (x ∷ xs) zero h = inl refl
-at-in (x ∷ xs) (suc i) h = inr (at-in xs i (omega arith))
-
-pub in-at : (xs : List ℕ) (x : ℕ) → In x xs → (j : ℕ) × (j < length xs) × (getD xs j 0 ≡ x)
-in-at [] x i = absurd i
-in-at (y ∷ ys) x (inl e) = (zero, omega arith, sym e)
-in-at (y ∷ ys) x (inr i) = let (j, h, e) = in-at ys x i in (suc j, omega arith, e)

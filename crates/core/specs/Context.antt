@@ -1,14 +1,15 @@
 -- Declarations and terms (context.rs): what is made, and what is asked of it. Sorts, symbols and terms are numbered from 0 as made.
 -- Where a number is looked up, the default stands for no answer: question 5 asks that each number of a line exists, and a
 -- term's symbol and arguments were asked about, or made, before the term.
-use Prim.Native.Nat.{ℕ, zero, suc, _+_}
+use Prim.Native.Nat.{ℕ, suc, _+_}
 use mathlib.Core.Bool.{Bool, true, false, not, _&&_}
 use mathlib.Core.List.{List, [], _∷_, _++_, map}
 use mathlib.Core.Option.{Option, none, some}
 use lib.Dec.{eqb, leb}
 use lib.ListN.{length, getD, take}
+use Rattle.core.specs.Limits.{max-sorts, max-symbols, max-terms, max-places}
 use Rattle.core.specs.Lists.{keep, every, any, place-from, range, total}
-use Rattle.core.specs.Sort.{SortNode, BoolSort, Datatype, Uninterpreted, is-datatype}
+use Rattle.core.specs.Sort.{SortNode, BoolSort, Uninterpreted, is-datatype}
 use Rattle.core.specs.Term as Term
 use Rattle.core.specs.Term.{Role, Constructor, Tester, Selector, Function, Symbol, Op, Eq, Term, same-term}
 
@@ -136,13 +137,13 @@ mk-eq cx a b = mk-app cx Eq (a ∷ b ∷ [])
 unfoldable pub places : Context → ℕ
 places cx = total (map (λ (t : Term). length (t .args)) (cx .terms))
 
--- Question 11 for terms: 1,024 terms, 4,096 argument places of terms
+-- Question 11 for terms
 unfoldable pub terms-fit : Context → Bool
-terms-fit cx = leb (length (cx .terms)) 1024 && leb (places cx) 4096
+terms-fit cx = leb (length (cx .terms)) max-terms && leb (places cx) max-places
 
--- Question 11 for declarations: 64 sorts with Bool, 512 symbols
+-- Question 11 for declarations
 unfoldable pub declarations-fit : Context → Bool
-declarations-fit cx = leb (length (cx .sorts)) 64 && leb (length (cx .symbols)) 512
+declarations-fit cx = leb (length (cx .sorts)) max-sorts && leb (length (cx .symbols)) max-symbols
 
 -- the first n terms: a refused line gives back the terms that it made
 unfoldable pub cut-terms : ℕ → Context → Context

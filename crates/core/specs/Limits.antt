@@ -1,4 +1,4 @@
--- Question 11's limits, and question 5's on variables.
+-- The limits of the questions: those of 11, and what 1, 2, 3 and 5 ask.
 use Prim.Native.Nat.{ℕ}
 
 -- sorts, with Bool
@@ -30,3 +30,14 @@ max-vars = 1024
 -- a line has at most 17 numbers, so a symbol has at most 16 parameters
 abbrev pub max-params : ℕ
 max-params = 16
+
+-- theories of interface leaves are numbered below it
+abbrev pub max-theories : ℕ
+max-theories = 65536
+
+-- words of a work table, or more
+abbrev pub table-words : ℕ
+table-words = 16384
+
+abbrev pub max-script : ℕ
+max-script = 65536

@@ -10,8 +10,8 @@ use mathlib.Core.List.{List, [], _∷_, _++_}
 use mathlib.Core.Option.{Option, none, some, Option·getD}
 use lib.Dec.{T, eqb}
 use lib.ListN.{getD}
-use Rattle.core.specs.Sort.{SortNode, is-bool, is-datatype, is-uninterpreted}
-use Rattle.core.specs.Term.{Role, Constructor, Tester, Selector, Function, Symbol, Op, Eq, Uninterpreted, Term}
+use Rattle.core.specs.Sort.{is-bool, is-datatype, is-uninterpreted}
+use Rattle.core.specs.Term.{Role, Constructor, Tester, Selector, Function, Op, Eq, Uninterpreted, Term}
 use Rattle.core.specs.Context.{Context, sort-node, symbol, builds}
 
 -- a value: a truth value, an element of another sort's set, or a constructor over values

@@ -2,21 +2,27 @@
 use crate::ids::SortId;
 use crate::ids::SymbolId;
 use crate::ids::TermId;
-use crate::table::get;
-use crate::table::put;
+use crate::limits::MAX_PLACES;
+use crate::limits::MAX_SORTS;
+use crate::limits::MAX_SYMBOLS;
+use crate::limits::MAX_TERMS;
+use crate::table::get_at;
+use crate::table::put_at;
 use crate::term::DtRole;
 use crate::term::Op;
 use crate::term::op_from;
 use crate::term::role_from;
 ghost use mathlib.Core.Path.{_≡_};
 ghost use Prim.Native.Nat.{_+_, _<_, _≤_};
-ghost use lib.ListN.{length, set};
-ghost use lib.Seq.{sets};
+ghost use lib.ListN.{length, getD};
+ghost use Rattle.core.specs.Limits.{max-sorts, max-symbols, max-terms, max-places, max-params};
 ghost use Rattle.core.specs.Context.{empty-context, cut-terms, declare-sort, declare-fun, selectors-from, dt-add-constructor, builds, dt-tester, has-plain-fields, grounded, all-grounded, places, is-datatype-sort, symbol, children, sort-of};
-ghost use Rattle.core.specs.Memory.Table.{words, node-of, op-of, term-at, context, ContextSound, FindsApp, sealed, Appendable, Appended, sealed-symbol, SymbolRoom, SymbolAdded, SelectorRoom, SymbolsAdded, NextConstructor, sorts#, symbols#, terms#};
+ghost use Rattle.core.specs.Memory.Words.{put-all, stretch};
+ghost use Rattle.core.specs.Limits.{table-words};
+ghost use Rattle.core.specs.Memory.Table.{POOL, sorts#, symbols#, terms#, digit, packed, param-at, node-of, op-of, term-at, context, buckets, bucket, AllBelow, ContextSound, HasParam, HasParamWord, FindsApp, MayIntern, MayApply, MayEquate, Appendable, Appended, MayDeclare, SymbolRoom, SymbolAdded, SelectorRoom, SymbolsAdded, NoTerms, NextConstructor};
 ghost use Rattle.core.specs.Lists.{same-list};
 ghost use Rattle.core.specs.Term.{same-term};
-ghost use Rattle.core.specs.Memory.Codes.{OpAt, RoleAt, AllBelow, MkApp, Declares, declared-node};
+ghost use Rattle.core.specs.Memory.Codes.{OpAt, RoleAt, MkApp, Declares, declared-node};
 ghost use Rattle.core.specs.Term as Term;
 ghost use mathlib.Core.List.{[], _∷_};
 
@@ -32,9 +38,11 @@ pub enum Declared {
     NoRoom,
 }
 
-// ---- the layout of the table (specs/Table.antt)
+// ---- the layout of the table (specs/Memory/Table.antt)
 
 // How many sorts, symbols and terms there are.
+const COUNTS: usize = 0;
+
 const SORTS: usize = 0;
 
 const SYMBOLS: usize = 1;
@@ -44,7 +52,7 @@ const TERMS: usize = 2;
 // For each sort: its kind.
 const SORT: usize = 64;
 
-// For each symbol: one more than the constructor it belongs to, its result sort, how many parameters, and 16 parameter sorts.
+// For each symbol: one more than the constructor it belongs to, its result sort, how many parameters, and four to a word their sorts.
 const OWNER: usize = 128;
 
 const RESULT: usize = 640;
@@ -53,58 +61,67 @@ const ARITY: usize = 1152;
 
 const PARAMS: usize = 8192;
 
-// For each term: one more than its symbol, and where its arguments begin and end in the pool; the pool of arguments.
+// For each term: one more than its symbol, and where its arguments begin in the pool; the pool of arguments.
 const OP: usize = 1664;
 
 const OFFSET: usize = 2688;
 
-const END: usize = 2689;
-
 const POOL: usize = 3840;
+
+// For each of 1,021 buckets: one more than the newest term in it, or 0; and for each term the same of the terms before it in its bucket.
+const BUCKET: usize = 10240;
+
+const LINK: usize = 11264;
+
+const BUCKETS: usize = 1021;
 
 // ---- an empty table
 
-// No symbol, no term, and of the sorts Bool.
-fn clear_counts(t: &mut [u32])
-    requires { ⌜ 16384 ≤ length (now t) ⌝ }
-    ensures { λ _. ⌜ now (t .exit) ≡ set (set (set (now (t .entry)) 0 1) 1 0) 2 0 ⌝ }
+fn clear_buckets(t: &mut [u32])
+    requires { ⌜ table-words ≤ length (now t) ⌝ }
+    ensures { λ _. ⌜ NoTerms (now (t .exit)) ⌝ }
 {
-    put(t, SORTS, 1);
-    put(t, SYMBOLS, 0);
-    put(t, TERMS, 0);
+    let mut h = 0;
+    while h < BUCKETS {
+        put_at(t, BUCKET, h, 0);
+        h += 1;
+    }
 }
 
 // Whatever the table held, it is now that of an empty session.
 pub fn clear(t: &mut [u32])
-    requires { ⌜ 16384 ≤ length (now t) ⌝ }
+    requires { ⌜ table-words ≤ length (now t) ⌝ }
     ensures { λ _. ⌜ ContextSound (now (t .exit)) × (context (now (t .exit)) ≡ empty-context) ⌝ }
 {
-    clear_counts(t);
-    put(t, SORT, 0);
-    put(t, OFFSET, 0);
+    clear_buckets(t);
+    put_at(t, COUNTS, SORTS, 1);
+    put_at(t, COUNTS, SYMBOLS, 0);
+    put_at(t, COUNTS, TERMS, 0);
+    put_at(t, SORT, 0, 0);
+    put_at(t, OFFSET, 0, 0);
 }
 
 // ---- counts
 
 pub fn sort_count(t: &[u32]) -> usize
     requires { ⌜ ContextSound (now t) ⌝ }
-    ensures { λ r. ⌜ (r ≡ length (context (now (t .entry)) .sorts)) × (r ≤ 64) ⌝ }
+    ensures { λ r. ⌜ (r ≡ length (context (now (t .entry)) .sorts)) × (r ≤ max-sorts) ⌝ }
 {
-    get(t, SORTS)
+    get_at(t, COUNTS, SORTS)
 }
 
 pub fn symbol_count(t: &[u32]) -> usize
     requires { ⌜ ContextSound (now t) ⌝ }
-    ensures { λ r. ⌜ (r ≡ length (context (now (t .entry)) .symbols)) × (r ≤ 512) ⌝ }
+    ensures { λ r. ⌜ (r ≡ length (context (now (t .entry)) .symbols)) × (r ≤ max-symbols) ⌝ }
 {
-    get(t, SYMBOLS)
+    get_at(t, COUNTS, SYMBOLS)
 }
 
 pub fn term_count(t: &[u32]) -> usize
     requires { ⌜ ContextSound (now t) ⌝ }
-    ensures { λ r. ⌜ (r ≡ length (context (now (t .entry)) .terms)) × (r ≤ 1024) ⌝ }
+    ensures { λ r. ⌜ (r ≡ length (context (now (t .entry)) .terms)) × (r ≤ max-terms) ⌝ }
 {
-    get(t, TERMS)
+    get_at(t, COUNTS, TERMS)
 }
 
 // ---- sorts and symbols
@@ -114,7 +131,7 @@ pub fn is_datatype_sort(t: &[u32], s: SortId) -> bool
     ensures { λ r. ⌜ r ≡ is-datatype-sort (context (now (t .entry))) (s .0) ⌝ }
 {
     let i = s.0 as usize;
-    get(t, SORT + i) == 1
+    get_at(t, SORT, i) == 1
 }
 
 pub fn result_sort(t: &[u32], f: SymbolId) -> SortId
@@ -122,26 +139,49 @@ pub fn result_sort(t: &[u32], f: SymbolId) -> SortId
     ensures { λ r. ⌜ (r .0 ≡ symbol (context (now (t .entry))) (f .0) .result) × (r .0 < length (context (now (t .entry)) .sorts)) ⌝ }
 {
     let i = f.0 as usize;
-    SortId(get(t, RESULT + i) as u32)
+    SortId(get_at(t, RESULT, i) as u32)
 }
 
 // How many parameters a symbol has.
 pub fn arity(t: &[u32], f: SymbolId) -> usize
     requires { ⌜ ContextSound (now t) × (f .0 < length (context (now t) .symbols)) ⌝ }
-    ensures { λ r. ⌜ (r ≡ length (symbol (context (now (t .entry))) (f .0) .params)) × (r ≤ 16) ⌝ }
+    ensures { λ r. ⌜ (r ≡ length (symbol (context (now (t .entry))) (f .0) .params)) × (r ≤ max-params) ⌝ }
 {
     let i = f.0 as usize;
-    get(t, ARITY + i)
+    get_at(t, ARITY, i)
 }
 
-pub fn fun_params(t: &[u32], f: SymbolId) -> &[u32]
-    requires { ⌜ ContextSound (now t) × (f .0 < length (context (now t) .symbols)) ⌝ }
-    ensures { λ r. ⌜ now r ≡ symbol (context (now (t .entry))) (f .0) .params ⌝ }
+// Digit d of a word, to the base 64.
+fn digit(w: usize, d: usize) -> usize
+    requires { ⌜ d < 4 ⌝ }
+    ensures { λ r. ⌜ r ≡ digit w d ⌝ }
 {
-    let i = f.0 as usize;
-    let start = PARAMS + 16 * i;
-    let end = start + get(t, ARITY + i);
-    &t[start..end]
+    if d == 0 {
+        return w % 64;
+    }
+    if d == 1 {
+        return w / 64 % 64;
+    }
+    if d == 2 {
+        return w / 4096 % 64;
+    }
+    w / 262144 % 64
+}
+
+fn param_sort(t: &[u32], s: usize, i: usize) -> usize
+    requires { ⌜ HasParamWord (now t) s i ⌝ }
+    ensures { λ r. ⌜ (r ≡ param-at (now (t .entry)) s i) × (r < sorts# (now (t .entry))) ⌝ }
+{
+    digit(get_at(t, PARAMS, 4 * s + i / 4), i % 4)
+}
+
+// Parameter i of a symbol.
+pub fn param(t: &[u32], f: SymbolId, i: usize) -> SortId
+    requires { ⌜ HasParam (now t) (f .0) i ⌝ }
+    ensures { λ r. ⌜ (r .0 ≡ getD (symbol (context (now (t .entry))) (f .0) .params) i 0) × (r .0 < length (context (now (t .entry)) .sorts)) ⌝ }
+{
+    let s = f.0 as usize;
+    SortId(param_sort(t, s, i) as u32)
 }
 
 pub fn dt_role(t: &[u32], f: SymbolId) -> DtRole
@@ -149,7 +189,7 @@ pub fn dt_role(t: &[u32], f: SymbolId) -> DtRole
     ensures { λ r. ⌜ RoleAt (now (t .entry)) (f .0) r ⌝ }
 {
     let i = f.0 as usize;
-    role_from(f.0, get(t, OWNER + i) as u32)
+    role_from(f.0, get_at(t, OWNER, i) as u32)
 }
 
 // ---- terms
@@ -159,7 +199,7 @@ pub fn op(t: &[u32], x: TermId) -> Op
     ensures { λ r. ⌜ OpAt (now (t .entry)) (x .0) r ⌝ }
 {
     let i = x.0 as usize;
-    op_from(get(t, OP + i) as u32)
+    op_from(get_at(t, OP, i) as u32)
 }
 
 // The children of a term are the very stretch of the argument pool.
@@ -168,8 +208,8 @@ pub fn children(t: &[u32], x: TermId) -> &[u32]
     ensures { λ r. ⌜ now r ≡ children (context (now (t .entry))) (x .0) ⌝ }
 {
     let i = x.0 as usize;
-    let start = POOL + get(t, OFFSET + i);
-    let end = POOL + get(t, END + i);
+    let start = POOL + get_at(t, OFFSET, i);
+    let end = POOL + get_at(t, OFFSET, i + 1);
     &t[start..end]
 }
 
@@ -185,14 +225,14 @@ pub fn sort_of(t: &[u32], x: TermId) -> SortId
 
 // ---- making terms
 
-// Are the words from a place on the given arguments?
-fn same_args(t: &[u32], at: usize, args: &[u32]) -> bool
-    requires { ⌜ at + length (now args) ≤ length (now t) ⌝ }
-    ensures { λ r. ⌜ r ≡ same-list (now (args .entry)) (words (now (t .entry)) at (length (now (args .entry)))) ⌝ }
+// Are the words of the pool from a place on the given arguments?
+fn same_args(t: &[u32], start: usize, args: &[u32]) -> bool
+    requires { ⌜ (table-words ≤ length (now t)) × (start + length (now args) ≤ max-places) ⌝ }
+    ensures { λ r. ⌜ r ≡ same-list (now (args .entry)) (stretch (now (t .entry)) POOL start (length (now (args .entry)))) ⌝ }
 {
     let mut i = 0;
     while i < args.len() {
-        if t[at + i] != args[i] {
+        if get_at(t, POOL, start + i) != args[i] as usize {
             return false;
         }
         i += 1;
@@ -205,53 +245,59 @@ fn is_app(t: &[u32], i: usize, code: usize, args: &[u32]) -> bool
     requires { ⌜ ContextSound (now t) × (i < terms# (now t)) ⌝ }
     ensures { λ r. ⌜ r ≡ same-term (op-of code) (now (args .entry)) (term-at (now (t .entry)) i) ⌝ }
 {
-    if get(t, OP + i) != code {
+    if get_at(t, OP, i) != code {
         return false;
     }
-    let start = get(t, OFFSET + i);
-    let end = get(t, END + i);
+    let start = get_at(t, OFFSET, i);
+    let end = get_at(t, OFFSET, i + 1);
     if end - start != args.len() {
         return false;
     }
-    same_args(t, POOL + start, args)
+    same_args(t, start, args)
 }
 
-// The lowest term that is the operation of a code over the given arguments, or the number of terms if there is none.
-fn find_app(t: &[u32], code: usize, args: &[u32]) -> usize
-    requires { ⌜ ContextSound (now t) ⌝ }
-    ensures { λ r. ⌜ FindsApp (now (t .entry)) code (now (args .entry)) r ⌝ }
+// The bucket of a code over the given arguments.
+fn hash_app(code: usize, args: &[u32]) -> usize
+    requires { ⌜ code < buckets ⌝ }
+    ensures { λ r. ⌜ (r ≡ bucket code (now (args .entry))) × (r < buckets) ⌝ }
 {
-    let n = get(t, TERMS);
-    let mut i = 0;
-    while i < n {
-        if is_app(t, i, code, args) {
-            return i;
-        }
-        i += 1;
-    }
-    i
-}
-
-// The arguments are copied to a place of the pool.
-fn push_children(t: &mut [u32], at: usize, args: &[u32])
-    requires { ⌜ at + length (now args) ≤ length (now t) ⌝ }
-    ensures { λ _. ⌜ now (t .exit) ≡ sets (now (t .entry)) at (now (args .entry)) ⌝ }
-{
+    let mut h = code;
     let mut i = 0;
     while i < args.len() {
-        t[at + i] = args[i];
+        h = (31 * h + args[i] as usize) % BUCKETS;
         i += 1;
     }
+    h
 }
 
-// The rest of a term: its operation, where the next arguments begin, the count.
-fn seal_term(t: &mut [u32], n: usize, code: usize, end: usize)
-    requires { ⌜ (16384 ≤ length (now t)) × (n < 1024) × (code ≤ 512) × (end ≤ 4096) ⌝ }
-    ensures { λ _. ⌜ now (t .exit) ≡ sealed (now (t .entry)) n code end ⌝ }
+// The term that is the operation of a code over the given arguments, or the number of terms if there is none: the terms of one bucket
+// are asked, the newest first.
+fn find_app(t: &[u32], code: usize, args: &[u32]) -> usize
+    requires { ⌜ ContextSound (now t) × (code ≤ symbols# (now t)) ⌝ }
+    ensures { λ r. ⌜ FindsApp (now (t .entry)) code (now (args .entry)) r ⌝ }
 {
-    put(t, OP + n, code);
-    put(t, END + n, end);
-    put(t, TERMS, n + 1);
+    let h = hash_app(code, args);
+    let mut k = get_at(t, BUCKET, h);
+    while k != 0 {
+        if is_app(t, k - 1, code, args) {
+            return k - 1;
+        }
+        k = get_at(t, LINK, k - 1);
+    }
+    get_at(t, COUNTS, TERMS)
+}
+
+// The words are copied to a region, from a place of it on.
+fn copy_words(t: &mut [u32], base: usize, at: usize, words: &[u32])
+    requires { ⌜ base + at + length (now words) ≤ length (now t) ⌝ }
+    ensures { λ _. ⌜ now (t .exit) ≡ put-all (now (t .entry)) base at (now (words .entry)) ⌝ }
+{
+    let from = base + at;
+    let mut i = 0;
+    while i < words.len() {
+        t[from + i] = words[i];
+        i += 1;
+    }
 }
 
 // One more term, the n-th, whose arguments go to a place of the pool.
@@ -259,25 +305,31 @@ fn append_term(t: &mut [u32], n: usize, start: usize, code: usize, args: &[u32])
     requires { ⌜ Appendable (now t) n start code (now args) ⌝ }
     ensures { λ _. ⌜ Appended (now (t .entry)) code (now (args .entry)) (now (t .exit)) ⌝ }
 {
-    push_children(t, POOL + start, args);
-    seal_term(t, n, code, start + args.len());
+    let h = hash_app(code, args);
+    let older = get_at(t, BUCKET, h);
+    put_at(t, LINK, n, older);
+    put_at(t, BUCKET, h, n + 1);
+    copy_words(t, POOL, start, args);
+    put_at(t, OP, n, code);
+    put_at(t, OFFSET, n + 1, start + args.len());
+    put_at(t, COUNTS, TERMS, n + 1);
 }
 
 // The term of a code over the given arguments: the old one, or a new one if there is room.
 fn intern(t: &mut [u32], code: usize, args: &[u32]) -> Made
-    requires { ⌜ ContextSound (now t) × (code ≤ symbols# (now t)) × AllBelow (terms# (now t)) (now args) ⌝ }
+    requires { ⌜ MayIntern (now t) code (now args) ⌝ }
     ensures { λ r. ⌜ MkApp (now (t .entry)) (op-of code) (now (args .entry)) r (now (t .exit)) ⌝ }
 {
-    let n = get(t, TERMS);
+    let n = get_at(t, COUNTS, TERMS);
     let k = find_app(t, code, args);
     if k < n {
         return Made::At(TermId(k as u32));
     }
-    if n == 1024 {
+    if n == MAX_TERMS {
         return Made::NoRoom;
     }
-    let start = get(t, OFFSET + n);
-    if 4096 - start < args.len() {
+    let start = get_at(t, OFFSET, n);
+    if MAX_PLACES - start < args.len() {
         return Made::NoRoom;
     }
     append_term(t, n, start, code, args);
@@ -285,7 +337,7 @@ fn intern(t: &mut [u32], code: usize, args: &[u32]) -> Made
 }
 
 pub fn mk_app(t: &mut [u32], f: SymbolId, args: &[u32]) -> Made
-    requires { ⌜ ContextSound (now t) × (f .0 < length (context (now t) .symbols)) × AllBelow (length (context (now t) .terms)) (now args) ⌝ }
+    requires { ⌜ MayApply (now t) (f .0) (now args) ⌝ }
     ensures { λ r. ⌜ MkApp (now (t .entry)) (Term.Uninterpreted (f .0)) (now (args .entry)) r (now (t .exit)) ⌝ }
 {
     let code = f.0 as usize + 1;
@@ -293,7 +345,7 @@ pub fn mk_app(t: &mut [u32], f: SymbolId, args: &[u32]) -> Made
 }
 
 pub fn mk_eq(t: &mut [u32], a: TermId, b: TermId) -> Made
-    requires { ⌜ ContextSound (now t) × (a .0 < length (context (now t) .terms)) × (b .0 < length (context (now t) .terms)) ⌝ }
+    requires { ⌜ MayEquate (now t) (a .0) (b .0) ⌝ }
     ensures { λ r. ⌜ MkApp (now (t .entry)) Term.Eq (a .0 ∷ b .0 ∷ []) r (now (t .exit)) ⌝ }
 {
     let sides = [a.0, b.0];
@@ -302,12 +354,28 @@ pub fn mk_eq(t: &mut [u32], a: TermId, b: TermId) -> Made
 
 // ---- undoing terms
 
+// The newest term, the i-th, is taken back.
+fn drop_term(t: &mut [u32], i: usize)
+    requires { ⌜ ContextSound (now t) × (terms# (now t) ≡ i + 1) ⌝ }
+    ensures { λ _. ⌜ ContextSound (now (t .exit)) × (context (now (t .exit)) ≡ cut-terms i (context (now (t .entry)))) ⌝ }
+{
+    let code = get_at(t, OP, i);
+    let h = hash_app(code, children(t, TermId(i as u32)));
+    let older = get_at(t, LINK, i);
+    put_at(t, BUCKET, h, older);
+    put_at(t, COUNTS, TERMS, i);
+}
+
 // Back to the first n terms: what a refused full check has made is given back.
 pub fn truncate(t: &mut [u32], n: usize)
     requires { ⌜ ContextSound (now t) × (n ≤ length (context (now t) .terms)) ⌝ }
     ensures { λ _. ⌜ ContextSound (now (t .exit)) × (context (now (t .exit)) ≡ cut-terms n (context (now (t .entry)))) ⌝ }
 {
-    put(t, TERMS, n);
+    let mut i = get_at(t, COUNTS, TERMS);
+    while n < i {
+        i -= 1;
+        drop_term(t, i);
+    }
 }
 
 // ---- declarations
@@ -322,24 +390,33 @@ pub fn declare_sort(t: &mut [u32], datatype: bool) -> Declared
     requires { ⌜ ContextSound (now t) ⌝ }
     ensures { λ r. ⌜ Declares (now (t .entry)) (declare-sort (context (now (t .entry))) (declared-node datatype)) r (now (t .exit)) ⌝ }
 {
-    let n = get(t, SORTS);
-    if n == 64 {
+    let n = get_at(t, COUNTS, SORTS);
+    if n == MAX_SORTS {
         return Declared::NoRoom;
     }
-    put(t, SORT + n, node_code(datatype));
-    put(t, SORTS, n + 1);
+    put_at(t, SORT, n, node_code(datatype));
+    put_at(t, COUNTS, SORTS, n + 1);
     Declared::Done
 }
 
-// The owner, the result and the arity of symbol n, and the count.
-fn seal_symbol(t: &mut [u32], n: usize, owner: usize, result: usize, arity: usize)
-    requires { ⌜ (16384 ≤ length (now t)) × (n < 512) × (owner ≤ 512) × (result < 64) × (arity ≤ 16) ⌝ }
-    ensures { λ _. ⌜ now (t .exit) ≡ sealed-symbol (now (t .entry)) n owner result arity ⌝ }
+// A number of a list of sorts, or 0 past its end.
+fn sort_or_0(sorts: &[u32], i: usize) -> u32
+    requires { ⌜ AllBelow max-sorts (now sorts) ⌝ }
+    ensures { λ r. ⌜ (r ≡ getD (now (sorts .entry)) i 0) × (r < max-sorts) ⌝ }
 {
-    put(t, OWNER + n, owner);
-    put(t, RESULT + n, result);
-    put(t, ARITY + n, arity);
-    put(t, SYMBOLS, n + 1);
+    if i < sorts.len() { sorts[i] } else { 0 }
+}
+
+// Four sorts of a list in a word, from number 4 q on.
+fn pack(sorts: &[u32], q: usize) -> u32
+    requires { ⌜ AllBelow max-sorts (now sorts) × (q < 4) ⌝ }
+    ensures { λ r. ⌜ r ≡ packed (now (sorts .entry)) q ⌝ }
+{
+    let i = 4 * q;
+    sort_or_0(sorts, i)
+        + 64 * sort_or_0(sorts, i + 1)
+        + 4096 * sort_or_0(sorts, i + 2)
+        + 262144 * sort_or_0(sorts, i + 3)
 }
 
 // One more symbol, the n-th.
@@ -347,16 +424,25 @@ fn add_symbol(t: &mut [u32], n: usize, owner: usize, result: usize, params: &[u3
     requires { ⌜ SymbolRoom (now t) n owner result (now params) ⌝ }
     ensures { λ _. ⌜ SymbolAdded (now (t .entry)) n owner result (now (params .entry)) (now (t .exit)) ⌝ }
 {
-    push_children(t, PARAMS + 16 * n, params);
-    seal_symbol(t, n, owner, result, params.len());
+    let words = [
+        pack(params, 0),
+        pack(params, 1),
+        pack(params, 2),
+        pack(params, 3),
+    ];
+    copy_words(t, PARAMS, 4 * n, &words);
+    put_at(t, OWNER, n, owner);
+    put_at(t, RESULT, n, result);
+    put_at(t, ARITY, n, params.len());
+    put_at(t, COUNTS, SYMBOLS, n + 1);
 }
 
 pub fn declare_fun(t: &mut [u32], result: SortId, params: &[u32]) -> Declared
-    requires { ⌜ ContextSound (now t) × (result .0 < length (context (now t) .sorts)) × (length (now params) ≤ 16) × AllBelow (length (context (now t) .sorts)) (now params) ⌝ }
+    requires { ⌜ MayDeclare (now t) (result .0) (now params) ⌝ }
     ensures { λ r. ⌜ Declares (now (t .entry)) (declare-fun (context (now (t .entry))) (result .0) (now (params .entry))) r (now (t .exit)) ⌝ }
 {
-    let n = get(t, SYMBOLS);
-    if n == 512 {
+    let n = get_at(t, COUNTS, SYMBOLS);
+    if n == MAX_SYMBOLS {
         return Declared::NoRoom;
     }
     let sort = result.0 as usize;
@@ -372,28 +458,22 @@ fn add_selectors(t: &mut [u32], c: usize, dt: u32, fields: &[u32])
     let own = [dt];
     let mut i = 0;
     while i < fields.len() {
-        add_symbol(t, c + 2 + i, c + 1, wide(fields[i]), &own);
+        add_symbol(t, c + 2 + i, c + 1, fields[i] as usize, &own);
         i += 1;
     }
 }
 
-fn wide(x: u32) -> usize
-    ensures { λ r. ⌜ r ≡ x ⌝ }
-{
-    x as usize
-}
-
 // A constructor takes symbols for itself, its tester and each selector, in this order.
 pub fn dt_add_constructor(t: &mut [u32], dt: SortId, fields: &[u32]) -> Declared
-    requires { ⌜ ContextSound (now t) × (dt .0 < length (context (now t) .sorts)) × (length (now fields) ≤ 16) × AllBelow (length (context (now t) .sorts)) (now fields) ⌝ }
+    requires { ⌜ MayDeclare (now t) (dt .0) (now fields) ⌝ }
     ensures { λ r. ⌜ Declares (now (t .entry)) (dt-add-constructor (context (now (t .entry))) (dt .0) (now (fields .entry))) r (now (t .exit)) ⌝ }
 {
-    let n = get(t, SYMBOLS);
-    if 512 - n < fields.len() + 2 {
+    let n = get_at(t, COUNTS, SYMBOLS);
+    if MAX_SYMBOLS - n < fields.len() + 2 {
         return Declared::NoRoom;
     }
     let sort = dt.0;
-    add_symbol(t, n, n + 1, wide(sort), fields);
+    add_symbol(t, n, n + 1, sort as usize, fields);
     let own = [sort];
     add_symbol(t, n + 1, n + 1, 0, &own);
     add_selectors(t, n, sort, fields);
@@ -407,10 +487,10 @@ fn builds(t: &[u32], dt: usize, s: usize) -> bool
     requires { ⌜ ContextSound (now t) × (s < symbols# (now t)) ⌝ }
     ensures { λ r. ⌜ r ≡ builds (context (now (t .entry))) dt s ⌝ }
 {
-    if get(t, OWNER + s) != s + 1 {
+    if get_at(t, OWNER, s) != s + 1 {
         return false;
     }
-    get(t, RESULT + s) == dt
+    get_at(t, RESULT, s) == dt
 }
 
 // The lowest constructor of dt from symbol `from` on, or the number of symbols if there is none.
@@ -418,8 +498,8 @@ pub fn next_constructor(t: &[u32], dt: SortId, from: usize) -> usize
     requires { ⌜ ContextSound (now t) × (from ≤ length (context (now t) .symbols)) ⌝ }
     ensures { λ r. ⌜ NextConstructor (now (t .entry)) (dt .0) from r ⌝ }
 {
-    let n = get(t, SYMBOLS);
-    let sort = wide(dt.0);
+    let n = get_at(t, COUNTS, SYMBOLS);
+    let sort = dt.0 as usize;
     let mut s = from;
     while s < n {
         if builds(t, sort, s) {
@@ -452,11 +532,10 @@ fn has_plain_fields(t: &[u32], s: usize) -> bool
     requires { ⌜ ContextSound (now t) × (s < symbols# (now t)) ⌝ }
     ensures { λ r. ⌜ r ≡ has-plain-fields (context (now (t .entry))) s ⌝ }
 {
-    let n = get(t, ARITY + s);
-    let at = PARAMS + 16 * s;
+    let n = get_at(t, ARITY, s);
     let mut i = 0;
     while i < n {
-        if get(t, SORT + get(t, at + i)) == 1 {
+        if get_at(t, SORT, param_sort(t, s, i)) == 1 {
             return false;
         }
         i += 1;
@@ -469,7 +548,7 @@ fn grounded(t: &[u32], dt: usize) -> bool
     requires { ⌜ ContextSound (now t) ⌝ }
     ensures { λ r. ⌜ r ≡ grounded (context (now (t .entry))) dt ⌝ }
 {
-    let n = get(t, SYMBOLS);
+    let n = get_at(t, COUNTS, SYMBOLS);
     let mut s = 0;
     while s < n {
         if builds(t, dt, s) {
@@ -487,10 +566,10 @@ pub fn all_grounded(t: &[u32]) -> bool
     requires { ⌜ ContextSound (now t) ⌝ }
     ensures { λ r. ⌜ r ≡ all-grounded (context (now (t .entry))) ⌝ }
 {
-    let n = get(t, SORTS);
+    let n = get_at(t, COUNTS, SORTS);
     let mut s = 0;
     while s < n {
-        if get(t, SORT + s) == 1 {
+        if get_at(t, SORT, s) == 1 {
             if !grounded(t, s) {
                 return false;
             }
@@ -503,8 +582,8 @@ pub fn all_grounded(t: &[u32]) -> bool
 // How many argument places the terms take.
 pub fn place_count(t: &[u32]) -> usize
     requires { ⌜ ContextSound (now t) ⌝ }
-    ensures { λ r. ⌜ (r ≡ places (context (now (t .entry)))) × (r ≤ 4096) ⌝ }
+    ensures { λ r. ⌜ (r ≡ places (context (now (t .entry)))) × (r ≤ max-places) ⌝ }
 {
-    let n = get(t, TERMS);
-    get(t, OFFSET + n)
+    let n = get_at(t, COUNTS, TERMS);
+    get_at(t, OFFSET, n)
 }

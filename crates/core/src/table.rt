@@ -1,25 +1,8 @@
-// The words of a lent table.
+// The words of a lent table, by its regions (specs/Memory/Words.antt). Every read and every store of a table goes through these two.
 ghost use mathlib.Core.Path.{_≡_};
 ghost use Prim.Native.Nat.{_+_, _<_};
-ghost use lib.ListN.{length, set};
-ghost use Rattle.core.specs.Memory.Table.{word};
+ghost use lib.ListN.{length};
 ghost use Rattle.core.specs.Memory.Words.{at, put};
-
-pub fn get(t: &[u32], i: usize) -> usize
-    requires { ⌜ i < length (now t) ⌝ }
-    ensures { λ r. ⌜ (r ≡ word (now (t .entry)) i) × (r < 4294967296) ⌝ }
-{
-    t[i] as usize
-}
-
-pub fn put(t: &mut [u32], i: usize, v: usize)
-    requires { ⌜ (i < length (now t)) × (v < 4294967296) ⌝ }
-    ensures { λ _. ⌜ now (t .exit) ≡ set (now (t .entry)) i v ⌝ }
-{
-    t[i] = v as u32;
-}
-
-// ---- by region
 
 // Word i of the region that begins at base.
 pub fn get_at(t: &[u32], base: usize, i: usize) -> usize

@@ -6,8 +6,7 @@ use core::term::DtRole;
 use core::term::Op;
 ghost use Prim.Native.Nat.{_<_};
 ghost use lib.ListN.{length};
-ghost use Rattle.core.specs.Memory.Codes.{AllBelow};
-ghost use Rattle.core.specs.Memory.Table.{ContextSound, context};
+ghost use Rattle.core.specs.Memory.Table.{AllBelow, ContextSound, context};
 
 // The k-th number up to n that a seed gives.
 fn draw(seed: u32, k: u32, n: u32) -> u32 {
@@ -50,6 +49,16 @@ fn element(xs: &[u32], k: usize) -> u32 {
     if k < xs.len() { xs[k] } else { 9999 }
 }
 
+fn parameter(t: &[u32], f: id::SymbolId, k: usize) -> u32
+    requires { ⌜ ContextSound (now t) × (f .0 < length (context (now t) .symbols)) ⌝ }
+{
+    let n = cx::arity(t, f);
+    if k < n {
+        return cx::param(t, f, k).0;
+    }
+    9999
+}
+
 fn ask(t: &[u32], f: id::SymbolId, s: id::SortId, k: usize) -> u32
     requires { ⌜ ContextSound (now t) × (f .0 < length (context (now t) .symbols)) × (s .0 < length (context (now t) .sorts)) ⌝ }
 {
@@ -57,7 +66,7 @@ fn ask(t: &[u32], f: id::SymbolId, s: id::SortId, k: usize) -> u32
     let b = mix(a, cx::next_constructor(t, s, f.0 as usize) as u32);
     let c = mix(b, cx::all_grounded(t) as u32);
     let d = mix(mix(c, role(cx::dt_role(t, f))), cx::result_sort(t, f).0);
-    mix(d, element(cx::fun_params(t, f), k))
+    mix(d, parameter(t, f, k))
 }
 
 fn ask_term(t: &[u32], x: id::TermId, k: usize) -> u32

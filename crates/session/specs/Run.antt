@@ -4,6 +4,7 @@ use mathlib.Core.Bool.{Bool, cond, _&&_}
 use mathlib.Core.List.{List, [], _∷_, _++_, map}
 use lib.Dec.{leb}
 use lib.ListN.{length, drop}
+use Rattle.core.specs.Limits.{table-words, max-script}
 use Rattle.session.specs.Text.{LF, lines}
 use Rattle.session.specs.Answer.{answer-text}
 use Rattle.session.specs.Session.{Session, empty-session, Performed, step}
@@ -52,13 +53,13 @@ run-lines room s (l ∷ ls) =
 
 -- 1. Are the three work tables 16,384 words of 32 bits each, or more?
 unfoldable pub tables-suffice : Sizes → Bool
-tables-suffice z = leb 16384 (z .core) && leb 16384 (z .theory) && leb 16384 (z .solver)
+tables-suffice z = leb table-words (z .core) && leb table-words (z .theory) && leb table-words (z .solver)
 
 -- 2. Is the script at most 65,536 bytes?
 unfoldable pub run : Sizes → List ℕ → Ran
 run z script =
     let started = run-lines (z .output) empty-session (lines script) in
-    cond (tables-suffice z) (cond (leb (length script) 65536) started (unstarted LongScript)) (unstarted ShortTable)
+    cond (tables-suffice z) (cond (leb (length script) max-script) started (unstarted LongScript)) (unstarted ShortTable)
 
 -- ---- what lent memory holds afterwards
 
@@ -80,7 +81,7 @@ table-after Full old = zeros old
 
 -- The program lends 65,536 bytes of output.
 unfoldable pub program-sizes : Sizes
-program-sizes = record { core = 16384; theory = 16384; solver = 16384; output = 65536 }
+program-sizes = record { core = table-words; theory = table-words; solver = table-words; output = 65536 }
 
 -- the bytes that the program prints for a script
 unfoldable pub output : List ℕ → List ℕ

@@ -6,6 +6,7 @@ use mathlib.Core.List as List
 use mathlib.Core.Option.{Option, none, some}
 use lib.Dec.{eqb, leb, ltb}
 use lib.ListN.{length}
+use Rattle.core.specs.Limits.{max-vars, max-pairs, max-levels}
 use Rattle.core.specs.Lists.{every, zip, same-list}
 use Rattle.core.specs.Ids as Ids
 use Rattle.core.specs.Term.{Eq, Uninterpreted, same-op}
@@ -117,7 +118,7 @@ questions s (MkEq t u) =
     after-close s ∷ exist (term-exists s t && term-exists s u) ∷ agree (not (eqb t u) && one-sort s t u) ∷ []
 questions s (Register v t) =
     after-close s
-    ∷ exist (ltb v 1024 && term-exists s t)
+    ∷ exist (ltb v max-vars && term-exists s t)
     ∷ agree (eqb (sort-of (s .state .terms) t) 0)
     ∷ unregistered s v
     ∷ []
@@ -186,7 +187,7 @@ perform s (Line.Check e) = let c = Check.check e (s .state) in done s (Checked (
 -- force, 64 levels?
 unfoldable pub fits : State → Bool
 fits st =
-    declarations-fit (st .terms) && terms-fit (st .terms) && leb (pairs-in-force (st .eq)) 2048 && leb (st .level) 64
+    declarations-fit (st .terms) && terms-fit (st .terms) && leb (pairs-in-force (st .eq)) max-pairs && leb (st .level) max-levels
 
 -- ---- one line
 

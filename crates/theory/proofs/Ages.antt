@@ -11,7 +11,7 @@ use lib.ListN.{length}
 use Rattle.core.proofs.Lists.{In, T-true}
 use Rattle.theory.specs.Types.{EqJust}
 use Rattle.theory.specs.EqEngine.{Merge, Step, are-equal, pairs-of, before, common, way, path}
-use Rattle.theory.specs.Memory.Table.{Justified}
+use Rattle.theory.specs.Memory.Replay.{Justified}
 use Rattle.theory.specs.Memory.Explaining.{age, larger, pairs-age, steps-age}
 use Rattle.theory.proofs.Members.{in-left, in-right}
 use Rattle.theory.proofs.Classes.{Same, same?, same-equal, equal-same, same-suffix, Suffix, suffix-self, suffix-tail}

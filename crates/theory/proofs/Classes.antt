@@ -1,15 +1,17 @@
 -- Equality in a list of merges: an equivalence, what one more merge adds, suffixes, chains over the sides of merges.
-use Prim.Native.Nat.{ℕ, zero, suc, _≤_}
+use Prim.Native.Nat.{ℕ, zero, suc, _+_, _≤_}
 use mathlib.Core.Path.{_≡_, refl, sym, subst, ap, _∙_}
 use mathlib.Core.Logic.{_⊎_, inl, inr}
 use mathlib.Core.Bool.{Bool, true, false, cond}
 use mathlib.Core.List.{List, [], _∷_, cons≢nil, tail-eq-of-cons-eq}
+use native.Mathlib.Decide.{ℕ-discrete}
 use native.Mathlib.Omega.{arith}
-use lib.Dec.{T, leb, eqb→eq}
+use lib.Dec.{T, leb, eqb, eqb→eq}
 use borrow.Author.Tests.{eq-eqb, ne-eqb, eqb-true, eqb-false, leb-false, lt-leb}
 use Rattle.core.proofs.Lists.{In}
 use Rattle.theory.specs.Types.{EqJust}
-pub use Rattle.theory.specs.Memory.Table.{BothSides}
+pub use Rattle.theory.specs.Memory.Replay.{BothSides}
+use Rattle.theory.specs.Memory.Replay.{child-of, root-of}
 use Rattle.theory.specs.EqEngine.{Merge, Classes, singletons, under, child, root, union, classes, find, are-equal, merge, pop-merges}
 
 -- ---- one class
@@ -57,66 +59,56 @@ same-alone x y e = sym (find-alone x) ∙ e ∙ find-alone y
 
 -- ---- one more merge
 
--- the side whose class went under, and the other
-pub record Union (m : Merge) (ms : List Merge) : Type 0 where
-  pub child : ℕ
-  pub root : ℕ
-  pub sides : BothSides m child root
-  pub is-under : classes (m ∷ ms) ≡ under (classes ms) (find ms child) (find ms root)
+-- c and r are the roots of the sides of a merge, in one order or the other
+abbrev pub Roots : Merge → List Merge → ℕ → ℕ → Type 0
+Roots m ms c r = ((c ≡ find ms (m .a)) × (r ≡ find ms (m .b))) ⊎ ((c ≡ find ms (m .b)) × (r ≡ find ms (m .a)))
 
-pub union-of : (m : Merge) (ms : List Merge) → Union m ms
-unfolding find classes union child root
-union-of m ms = go (leb (classes ms .size rb) (classes ms .size ra)) refl
-  where
-    ra : ℕ
-    ra = classes ms .find (m .a)
-
-    rb : ℕ
-    rb = classes ms .find (m .b)
-
-    pick : Bool → Classes
-    pick b = under (classes ms) (cond b rb ra) (cond b ra rb)
-
-    go : (b : Bool) → leb (classes ms .size rb) (classes ms .size ra) ≡ b → Union m ms
-    go true e = record { child = m .b; root = m .a; sides = inr (refl, refl); is-under = ap pick e }
-    go false e = record { child = m .a; root = m .b; sides = inl (refl, refl); is-under = ap pick e }
-
-module _ (m : Merge) (ms : List Merge) (u : Union m ms) where
-  -- who was with the lower side has the higher side's root, the others keep theirs
-  pub find-under : (x : ℕ) → Same ms x (u .child) → find (m ∷ ms) x ≡ find ms (u .root)
-  unfolding find under
-  find-under x e =
-      ap (λ (c : Classes). c .find x) (u .is-under)
-      ∙ ap (λ (b : Bool). cond b (find ms (u .root)) (find ms x)) (eq-eqb (find ms x) (find ms (u .child)) e)
-
-  pub root-other : (x : ℕ) → (Same ms x (u .child) → ⊥) → find (m ∷ ms) x ≡ find ms x
-  unfolding find under
-  root-other x h =
-      ap (λ (c : Classes). c .find x) (u .is-under)
-      ∙ ap (λ (b : Bool). cond b (find ms (u .root)) (find ms x)) (ne-eqb (find ms x) (find ms (u .child)) h)
-
-  pub find-over : (x : ℕ) → Same ms x (u .root) → find (m ∷ ms) x ≡ find ms (u .root)
-  find-over x e = go (same? ms x (u .child))
+module _ (m : Merge) (ms : List Merge) where
+  -- the two roots, and the classes with the one put under the other
+  chosen : Roots m ms (child-of ms m) (root-of ms m) × (classes (m ∷ ms) ≡ under (classes ms) (child-of ms m) (root-of ms m))
+  unfolding child-of root-of find classes union child root
+  chosen = (go (leb (classes ms .size (find ms (m .b))) (classes ms .size (find ms (m .a)))), refl)
     where
-      go : Dec (Same ms x (u .child)) → find (m ∷ ms) x ≡ find ms (u .root)
-      go (yes s) = find-under x s
-      go (no h) = root-other x h ∙ e
+      go : (b : Bool) → Roots m ms (cond b (find ms (m .b)) (find ms (m .a))) (cond b (find ms (m .a)) (find ms (m .b)))
+      go true = inr (refl, refl)
+      go false = inl (refl, refl)
 
-  -- the roots of the two sides differ, if the sides did
-  pub roots-differ : are-equal ms (m .a) (m .b) ≡ false → Same ms (u .child) (u .root) → ⊥
-  roots-differ j e = unequal ms (m .a) (m .b) j (go (u .sides))
+  pub roots : Roots m ms (child-of ms m) (root-of ms m)
+  roots = chosen .0
+
+  pub find-more : (x : ℕ) → find (m ∷ ms) x ≡ cond (eqb (find ms x) (child-of ms m)) (root-of ms m) (find ms x)
+  unfolding find under
+  find-more x = ap (λ (c : Classes). c .find x) (chosen .1)
+
+  pub size-more : (r : ℕ) → classes (m ∷ ms) .size r ≡ cond (eqb r (root-of ms m)) (classes ms .size (child-of ms m) + classes ms .size (root-of ms m)) (classes ms .size r)
+  unfolding under
+  size-more r = ap (λ (c : Classes). c .size r) (chosen .1)
+
+  -- who had the root that goes under has the other, and all others keep theirs
+  pub find-child : (x : ℕ) → find ms x ≡ child-of ms m → find (m ∷ ms) x ≡ root-of ms m
+  find-child x e = let d = eq-eqb (find ms x) (child-of ms m) e in find-more x ∙ rw d
+
+  pub find-kept : (x : ℕ) → (find ms x ≡ child-of ms m → ⊥) → find (m ∷ ms) x ≡ find ms x
+  find-kept x n = let d = ne-eqb (find ms x) (child-of ms m) n in find-more x ∙ rw d
+
+  pub find-root : (x : ℕ) → find ms x ≡ root-of ms m → find (m ∷ ms) x ≡ root-of ms m
+  find-root x e = go (ℕ-discrete (find ms x) (child-of ms m))
     where
-      go : BothSides m (u .child) (u .root) → Same ms (m .a) (m .b)
-      go (inl (p, q)) = ap (find ms) (sym p) ∙ e ∙ ap (find ms) q
-      go (inr (p, q)) = ap (find ms) (sym q) ∙ sym e ∙ ap (find ms) p
+      go : Dec (find ms x ≡ child-of ms m) → find (m ∷ ms) x ≡ root-of ms m
+      go (yes q) = find-child x q
+      go (no n) = find-kept x n ∙ e
+
+  -- the two roots differ, if the sides did
+  pub roots-apart : are-equal ms (m .a) (m .b) ≡ false → child-of ms m ≡ root-of ms m → ⊥
+  roots-apart j e = unequal ms (m .a) (m .b) j (go roots)
+    where
+      go : Roots m ms (child-of ms m) (root-of ms m) → Same ms (m .a) (m .b)
+      go (inl (p, q)) = sym p ∙ e ∙ q
+      go (inr (p, q)) = sym q ∙ sym e ∙ p
 
 -- x and y over the sides of a merge: x with one side, y with the other
 abbrev pub Across : Merge → List Merge → ℕ → ℕ → Type 0
 Across m ms x y = (Same ms x (m .a) × Same ms (m .b) y) ⊎ (Same ms x (m .b) × Same ms (m .a) y)
-
-across : (m : Merge) (ms : List Merge) (x y p q : ℕ) → BothSides m p q → Same ms x p → Same ms q y → Across m ms x y
-across m ms x y p q (inl (e, f)) s t = inl (s ∙ ap (find ms) e, ap (find ms) (sym f) ∙ t)
-across m ms x y p q (inr (e, f)) s t = inr (s ∙ ap (find ms) e, ap (find ms) (sym f) ∙ t)
 
 pub turned-sides : (m : Merge) (p q : ℕ) → BothSides m p q → BothSides m q p
 turned-sides m p q (inl (e, f)) = inr (f, e)
@@ -124,39 +116,39 @@ turned-sides m p q (inr (e, f)) = inl (f, e)
 
 -- older equality persists
 pub same-kept : (m : Merge) (ms : List Merge) (x y : ℕ) → Same ms x y → Same (m ∷ ms) x y
-same-kept m ms x y e = go (union-of m ms)
+same-kept m ms x y e = go (ℕ-discrete (find ms x) (child-of ms m))
   where
-    pick : (u : Union m ms) → Dec (Same ms x (u .child)) → Same (m ∷ ms) x y
-    pick u (yes s) = find-under m ms u x s ∙ sym (find-under m ms u y (sym e ∙ s))
-    pick u (no h) = root-other m ms u x h ∙ e ∙ sym (root-other m ms u y (λ s. h (e ∙ s)))
-
-    go : Union m ms → Same (m ∷ ms) x y
-    go u = pick u (same? ms x (u .child))
+    go : Dec (find ms x ≡ child-of ms m) → Same (m ∷ ms) x y
+    go (yes s) = find-child m ms x s ∙ sym (find-child m ms y (sym e ∙ s))
+    go (no h) = find-kept m ms x h ∙ e ∙ sym (find-kept m ms y (λ s. h (e ∙ s)))
 
 -- the sides are joined
 pub same-sides : (m : Merge) (ms : List Merge) → Same (m ∷ ms) (m .a) (m .b)
-same-sides m ms = go (union-of m ms)
+same-sides m ms = go (roots m ms)
   where
-    joined : (u : Union m ms) → BothSides m (u .child) (u .root) → Same (m ∷ ms) (m .a) (m .b)
-    joined u (inl (p, q)) = find-under m ms u (m .a) (ap (find ms) (sym p)) ∙ sym (find-over m ms u (m .b) (ap (find ms) (sym q)))
-    joined u (inr (p, q)) = find-over m ms u (m .a) (ap (find ms) (sym q)) ∙ sym (find-under m ms u (m .b) (ap (find ms) (sym p)))
-
-    go : Union m ms → Same (m ∷ ms) (m .a) (m .b)
-    go u = joined u (u .sides)
+    go : Roots m ms (child-of ms m) (root-of ms m) → Same (m ∷ ms) (m .a) (m .b)
+    go (inl (p, q)) = find-child m ms (m .a) (sym p) ∙ sym (find-root m ms (m .b) (sym q))
+    go (inr (p, q)) = find-root m ms (m .a) (sym q) ∙ sym (find-child m ms (m .b) (sym p))
 
 -- what was not equal before goes over the new sides
 pub same-split : (m : Merge) (ms : List Merge) (x y : ℕ) → Same (m ∷ ms) x y → Same ms x y ⊎ Across m ms x y
-same-split m ms x y e = go (union-of m ms)
+same-split m ms x y e = go (ℕ-discrete (find ms x) (child-of ms m)) (ℕ-discrete (find ms y) (child-of ms m))
   where
-    pick : (u : Union m ms) → Dec (Same ms x (u .child)) → Dec (Same ms y (u .child)) → Same ms x y ⊎ Across m ms x y
-    pick u (yes s) (yes t) = inl (s ∙ sym t)
-    pick u (yes s) (no k) = inr (across m ms x y (u .child) (u .root) (u .sides) s (sym (find-under m ms u x s) ∙ e ∙ root-other m ms u y k))
-    pick u (no h) (yes t) =
-        inr (across m ms x y (u .root) (u .child) (turned-sides m (u .child) (u .root) (u .sides)) (sym (root-other m ms u x h) ∙ e ∙ find-under m ms u y t) (sym t))
-    pick u (no h) (no k) = inl (sym (root-other m ms u x h) ∙ e ∙ root-other m ms u y k)
+    over : (c r : ℕ) → Roots m ms c r → find ms x ≡ c → r ≡ find ms y → Across m ms x y
+    over c r (inl (p, q)) s t = inl (s ∙ p, sym q ∙ t)
+    over c r (inr (p, q)) s t = inr (s ∙ p, sym q ∙ t)
 
-    go : Union m ms → Same ms x y ⊎ Across m ms x y
-    go u = pick u (same? ms x (u .child)) (same? ms y (u .child))
+    back : (c r : ℕ) → Roots m ms c r → Roots m ms r c
+    back c r (inl (p, q)) = inr (q, p)
+    back c r (inr (p, q)) = inl (q, p)
+
+    go : Dec (find ms x ≡ child-of ms m) → Dec (find ms y ≡ child-of ms m) → Same ms x y ⊎ Across m ms x y
+    go (yes s) (yes t) = inl (s ∙ sym t)
+    go (yes s) (no k) = inr (over (child-of ms m) (root-of ms m) (roots m ms) s (sym (find-child m ms x s) ∙ e ∙ find-kept m ms y k))
+    go (no h) (yes t) =
+        let r = sym (find-kept m ms x h) ∙ e ∙ find-child m ms y t in
+        inr (over (root-of ms m) (child-of ms m) (back (child-of ms m) (root-of ms m) (roots m ms)) r (sym t))
+    go (no h) (no k) = inl (sym (find-kept m ms x h) ∙ e ∙ find-kept m ms y k)
 
 -- ---- suffixes: the merges of some time before
 

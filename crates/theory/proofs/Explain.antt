@@ -1,9 +1,9 @@
 -- Explanations: each leaf labels a merge, and the leaves together force the equality that they explain.
-use Prim.Native.Nat.{ℕ, zero, suc, _<_}
+use Prim.Native.Nat.{ℕ, zero, suc, _≤_, _<_}
 use mathlib.Core.Path.{_≡_, refl, sym, subst, ap, ap₂, _∙_}
 use mathlib.Core.Logic.{_⊎_, inl, inr, _↔_}
 use mathlib.Core.Bool.{Bool, true, false, cond, _&&_, _||_}
-use mathlib.Core.List.{List, [], _∷_, _++_, map, foldl}
+use mathlib.Core.List.{List, [], _∷_, _++_, map, foldl, append-assoc, append-nil}
 use native.Mathlib.Omega.{arith}
 use lib.Dec.{T, eqb, eqb→eq, eqb-refl}
 use lib.ListN.{length}
@@ -12,9 +12,10 @@ use Rattle.core.specs.Lists.{any}
 use Rattle.core.proofs.Lists.{In, any-in, T-and, T-both}
 use Rattle.theory.specs.Types.{EqJust, Asserted, Congruence, Interface, EqLeaf, AssertedLeaf, InterfaceLeaf, same-leaf}
 use Rattle.theory.specs.EqEngine.{Merge, Step, find, are-equal, merge, pop-merges, pairs-of, path, Explained, same-pair, visit, cite, expand-edge, explain-rec, explain, firsts-after, firsts}
-pub use Rattle.theory.specs.Memory.Table.{Justified}
+pub use Rattle.theory.specs.Memory.Replay.{Justified}
 pub use Rattle.theory.specs.Memory.Answer.{Labels, Cites}
-use Rattle.theory.proofs.Members.{T-or, T-left, in-left, in-right, in-either, in-any}
+use Rattle.theory.specs.Memory.Answer.{has-leaf, with-leaf, Cited}
+use Rattle.theory.proofs.Members.{T-or, T-left, in-left, in-right, in-either, in-any, Apart, apart-length}
 use Rattle.theory.proofs.Classes.{Same, same?, same-alone, same-kept, same-suffix, equal-same, Suffix, suffix-self, suffix-tail, in-suffix, pop-suffix}
 use Rattle.theory.proofs.Forest.{Leads, Along, path-over, Joins, PathOf, path-of, path-age}
 
@@ -389,7 +390,7 @@ firsts-empty (l ∷ ls) e = absurd (subst (λ (ks : List EqLeaf). In l ks) e (fi
 
 -- ---- how many leaves
 
-pub label-leaf : EqJust → EqLeaf
+label-leaf : EqJust → EqLeaf
 label-leaf (Asserted l) = AssertedLeaf l
 label-leaf (Congruence ps) = AssertedLeaf 0
 label-leaf (Interface h g) = InterfaceLeaf h g
@@ -400,11 +401,67 @@ labels-leaf (Asserted n) l e = e
 labels-leaf (Congruence ps) l e = absurd e
 labels-leaf (Interface h g) l e = e
 
-pub cites-in : (ms : List Merge) (l : EqLeaf) → Cites ms l → In l (map (λ (m : Merge). label-leaf (m .just)) ms)
+cites-in : (ms : List Merge) (l : EqLeaf) → Cites ms l → In l (map (λ (m : Merge). label-leaf (m .just)) ms)
 cites-in [] l (m, i, c) = absurd i
 cites-in (n ∷ ms) l (m, inl e, c) = inl (labels-leaf (m .just) l c ∙ ap (λ (k : Merge). label-leaf (k .just)) e)
 cites-in (n ∷ ms) l (m, inr i, c) = inr (cites-in ms l (m, i, c))
 
-pub map-length : (ms : List Merge) → length (map (λ (m : Merge). label-leaf (m .just)) ms) ≡ length ms
+map-length : (ms : List Merge) → length (map (λ (m : Merge). label-leaf (m .just)) ms) ≡ length ms
 map-length [] = refl
 map-length (m ∷ ms) = ap suc (map-length ms)
+
+-- different leaves that are one other or label merges
+pub few-leaves : (ms : List Merge) (other : EqLeaf) (ls : List EqLeaf) → Apart ls → Cited ms other ls → length ls ≤ suc (length ms)
+few-leaves ms other ls a f =
+    let h = apart-length ls (other ∷ map (λ (m : Merge). label-leaf (m .just)) ms) a (λ l i. go l (f l i)) in
+    omega (arith, map-length ms)
+  where
+    go : (l : EqLeaf) → (l ≡ other) ⊎ Cites ms l → In l (other ∷ map (λ (m : Merge). label-leaf (m .just)) ms)
+    go l (inl e) = inl e
+    go l (inr c) = inr (cites-in ms l c)
+
+-- ---- first occurrences, with one leaf more
+
+cond-swap : (a b r : Bool) → cond a true (cond b true r) ≡ cond b true (cond a true r)
+cond-swap true true r = refl
+cond-swap true false r = refl
+cond-swap false true r = refl
+cond-swap false false r = refl
+
+any-move : (p : EqLeaf → Bool) (xs : List EqLeaf) (k : EqLeaf) (ys : List EqLeaf) → any p (xs ++ (k ∷ ys)) ≡ any p ((k ∷ xs) ++ ys)
+unfolding any
+any-move p [] k ys = refl
+any-move p (x ∷ xs) k ys = ap (cond (p x) true) (any-move p xs k ys) ∙ cond-swap (p x) (p k) (any p (xs ++ ys))
+
+cons-cond : (k : EqLeaf) (b : Bool) (xs ys : List EqLeaf) → k ∷ cond b xs ys ≡ cond b (k ∷ xs) (k ∷ ys)
+cons-cond k true xs ys = refl
+cons-cond k false xs ys = refl
+
+append-cond : (us : List EqLeaf) (b : Bool) (xs : List EqLeaf) (l : EqLeaf) →
+    cond b (us ++ xs) ((us ++ xs) ++ (l ∷ [])) ≡ us ++ cond b xs (xs ++ (l ∷ []))
+append-cond us true xs l = refl
+append-cond us false xs l = append-assoc us xs (l ∷ [])
+
+-- one leaf more is kept where it stands neither among the first occurrences nor among those seen before
+firsts-more : (ls seen : List EqLeaf) (l : EqLeaf) → let us = firsts-after seen ls in
+    firsts-after seen (ls ++ (l ∷ [])) ≡ cond (has-leaf l (seen ++ us)) us (us ++ (l ∷ []))
+unfolding firsts-after
+firsts-more [] seen l = ap (λ (us : List EqLeaf). cond (has-leaf l us) [] (l ∷ [])) (sym (append-nil seen))
+firsts-more (k ∷ ls) seen l =
+    go (has-leaf k seen) (firsts-after seen ls) (firsts-after (k ∷ seen) ls) (firsts-more ls seen l) (firsts-more ls (k ∷ seen) l)
+  where
+    go : (b : Bool) (us vs : List EqLeaf) {xs ys : List EqLeaf} → xs ≡ cond (has-leaf l (seen ++ us)) us (us ++ (l ∷ [])) →
+        ys ≡ cond (has-leaf l ((k ∷ seen) ++ vs)) vs (vs ++ (l ∷ [])) →
+        let ws = cond b us (k ∷ vs) in cond b xs (k ∷ ys) ≡ cond (has-leaf l (seen ++ ws)) ws (ws ++ (l ∷ []))
+    go true us vs e f = e
+    go false us vs e f =
+        ap (λ (ws : List EqLeaf). k ∷ ws) f
+        ∙ cons-cond k (has-leaf l ((k ∷ seen) ++ vs)) vs (vs ++ (l ∷ []))
+        ∙ ap (λ (b : Bool). cond b (k ∷ vs) (k ∷ vs ++ (l ∷ []))) (sym (any-move (same-leaf l) seen k vs))
+
+pub pushed-firsts : {us vs : List EqLeaf} (seen ls : List EqLeaf) (l : EqLeaf) → us ≡ seen ++ firsts-after seen ls → vs ≡ with-leaf l us →
+    vs ≡ seen ++ firsts-after seen (ls ++ (l ∷ []))
+pushed-firsts seen ls l e q =
+    q ∙ ap (with-leaf l) e
+    ∙ append-cond seen (has-leaf l (seen ++ firsts-after seen ls)) (firsts-after seen ls) l
+    ∙ ap (λ (ws : List EqLeaf). seen ++ ws) (sym (firsts-more ls seen l))

@@ -13,8 +13,8 @@ use lib.ListN.{length}
 use borrow.Author.Tests.{eq-eqb, ne-eqb}
 use Rattle.core.specs.Lists.{first, mem}
 use Rattle.core.proofs.Lists.{In, any-in}
-pub use Rattle.theory.specs.Memory.Table.{end}
-pub use Rattle.theory.specs.Memory.Steps.{On}
+pub use Rattle.theory.specs.Memory.Replay.{end}
+pub use Rattle.theory.specs.Memory.Replay.{On}
 use Rattle.theory.specs.EqEngine.{Merge, Step, classes, find, are-equal, before, turned, nodes, common, rehung, way, path}
 use Rattle.theory.proofs.Members.{in-left, in-right, in-either, in-any, Apart}
 use Rattle.theory.proofs.Classes.{Same, same-alone, same?, BothSides, turned-sides, unequal, Across, same-split, same-kept, same-sides, Suffix, same-suffix}

@@ -94,3 +94,13 @@ module _ {A : Type 0} where
       go : (z : A) → In z xs → (z ≡ x) ⊎ In z (without x ys (f x (inl refl)) .others) → In z (without x ys (f x (inl refl)) .others)
       go z i (inl q) = absurd (h (subst (λ (v : A). In v xs) q i))
       go z i (inr j) = j
+
+  -- one more element that is new
+  pub apart-last : (xs : List A) (y : A) → Apart xs → (In y xs → ⊥) → Apart (xs ++ (y ∷ []))
+  apart-last [] y a h = (λ i. i, tt)
+  apart-last (x ∷ xs) y (g, a) h = (λ i. go (in-either x xs (y ∷ []) i), apart-last xs y a (λ i. h (inr i)))
+    where
+      go : In x xs ⊎ In x (y ∷ []) → ⊥
+      go (inl i) = g i
+      go (inr (inl e)) = h (inl (sym e))
+      go (inr (inr i)) = i

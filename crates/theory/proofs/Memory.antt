@@ -1,24 +1,19 @@
--- The engine's table. Nodes: up to the root of a class; Puts: one word written; Log, Pairs: what the log says; Walks: up the forest;
--- Turning: a way turned; Shorter, Growing: a sound table with fewer merges or one more; Merging, KindWords, Joining, Copying: the
--- steps of a merge; Undoing, Popping: merges taken back; Marks, Leaves, Explaining: explanations; Clearing: an empty table.
-pub mod Nodes
-pub mod Puts
+-- The engine's table. EngineStores: the laws of stores at its regions; Log: merges and argument pairs; Walks: up the classes and up the
+-- forest; SoundTables: when another table is sound; Clearing: an empty table; Turning: a way turned; Merging: the steps of one merge;
+-- Joining: labels; Undoing: merges taken back.
+pub mod EngineStores
 pub mod Log
-pub mod Pairs
 pub mod Walks
-pub mod Turning
-pub mod KindWords
-pub mod Shorter
-pub mod Merging
-pub mod Growing
-pub mod Joining
-pub mod Copying
-pub mod Undoing
-pub mod Popping
-pub mod Marks
-pub mod Leaves
-pub mod Explaining
+pub mod SoundTables
 pub mod Clearing
+pub mod Turning
+pub mod Merging
+pub mod Joining
+pub mod Undoing
+-- Explanations. Leaves: the answer table; Marks: pairs expanded; Explaining: the steps of an explanation.
+pub mod Leaves
+pub mod Marks
+pub mod Explaining
 -- The registry.
 pub mod Registering
 pub mod Registers

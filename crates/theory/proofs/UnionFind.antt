@@ -8,69 +8,17 @@ use native.Mathlib.Omega.{arith}
 use native.Mathlib.Decide.{ℕ-discrete}
 use lib.Dec.{eqb, leb}
 use borrow.Author.Tests.{eq-eqb, ne-eqb}
-use Rattle.theory.specs.EqEngine.{Merge, Classes, under, child, root, union, classes, find, are-equal}
-use Rattle.theory.specs.Memory.Table.{child-of, root-of, parent}
-use Rattle.theory.proofs.Classes.{unequal, find-alone}
+use Rattle.theory.specs.EqEngine.{Merge, find, are-equal}
+use Rattle.theory.specs.Memory.Replay.{child-of, root-of, parent}
+use Rattle.theory.proofs.Classes.{find-alone, find-more, find-child, find-kept, roots-apart}
 use Rattle.theory.proofs.Forest.{Joins}
-use Rattle.theory.proofs.Sizes.{find-find, Within, find-within}
-
--- ---- one merge
-
--- the two roots are those of the two sides, and the classes are those with the one put under the other
-record Chosen (m : Merge) (ms : List Merge) (child root : ℕ) : Type 0 where
-  is-under : classes (m ∷ ms) ≡ under (classes ms) child root
-  rooted : ((child ≡ find ms (m .a)) × (root ≡ find ms (m .b))) ⊎ ((child ≡ find ms (m .b)) × (root ≡ find ms (m .a)))
-
-choose : (m : Merge) (ms : List Merge) (b : Bool) → union (classes ms) (m .a) (m .b) ≡ under (classes ms) (cond b (find ms (m .b)) (find ms (m .a))) (cond b (find ms (m .a)) (find ms (m .b))) → Chosen m ms (cond b (find ms (m .b)) (find ms (m .a))) (cond b (find ms (m .a)) (find ms (m .b)))
-unfolding classes
-choose m ms true e = record { is-under = e; rooted = inr (refl, refl) }
-choose m ms false e = record { is-under = e; rooted = inl (refl, refl) }
-
-chosen : (m : Merge) (ms : List Merge) → Chosen m ms (child-of ms m) (root-of ms m)
-unfolding child-of root-of find union child root
-chosen m ms = choose m ms (leb (classes ms .size (classes ms .find (m .b))) (classes ms .size (classes ms .find (m .a)))) refl
-
-pub find-more : (m : Merge) (ms : List Merge) (x : ℕ) → find (m ∷ ms) x ≡ cond (eqb (find ms x) (child-of ms m)) (root-of ms m) (find ms x)
-unfolding find under
-find-more m ms x = ap (λ (c : Classes). c .find x) (chosen m ms .is-under)
-
-pub size-more : (m : Merge) (ms : List Merge) (r : ℕ) → classes (m ∷ ms) .size r ≡ cond (eqb r (root-of ms m)) (classes ms .size (child-of ms m) + classes ms .size (root-of ms m)) (classes ms .size r)
-unfolding under
-size-more m ms r = ap (λ (c : Classes). c .size r) (chosen m ms .is-under)
-
--- both are roots, and two different ones where the merge joined two classes
-child-rooted : (m : Merge) (ms : List Merge) → find ms (child-of ms m) ≡ child-of ms m
-child-rooted m ms = go (chosen m ms .rooted)
-  where
-    go : ((child-of ms m ≡ find ms (m .a)) × (root-of ms m ≡ find ms (m .b))) ⊎ ((child-of ms m ≡ find ms (m .b)) × (root-of ms m ≡ find ms (m .a))) → find ms (child-of ms m) ≡ child-of ms m
-    go (inl (p, q)) = ap (find ms) p ∙ find-find ms (m .a) ∙ sym p
-    go (inr (p, q)) = ap (find ms) p ∙ find-find ms (m .b) ∙ sym p
-
-root-rooted : (m : Merge) (ms : List Merge) → find ms (root-of ms m) ≡ root-of ms m
-root-rooted m ms = go (chosen m ms .rooted)
-  where
-    go : ((child-of ms m ≡ find ms (m .a)) × (root-of ms m ≡ find ms (m .b))) ⊎ ((child-of ms m ≡ find ms (m .b)) × (root-of ms m ≡ find ms (m .a))) → find ms (root-of ms m) ≡ root-of ms m
-    go (inl (p, q)) = ap (find ms) q ∙ find-find ms (m .b) ∙ sym q
-    go (inr (p, q)) = ap (find ms) q ∙ find-find ms (m .a) ∙ sym q
-
-pub roots-apart : (m : Merge) (ms : List Merge) → are-equal ms (m .a) (m .b) ≡ false → child-of ms m ≡ root-of ms m → ⊥
-roots-apart m ms j e = unequal ms (m .a) (m .b) j (go (chosen m ms .rooted))
-  where
-    go : ((child-of ms m ≡ find ms (m .a)) × (root-of ms m ≡ find ms (m .b))) ⊎ ((child-of ms m ≡ find ms (m .b)) × (root-of ms m ≡ find ms (m .a))) → find ms (m .a) ≡ find ms (m .b)
-    go (inl (p, q)) = sym p ∙ e ∙ q
-    go (inr (p, q)) = sym q ∙ sym e ∙ p
+use Rattle.theory.proofs.Sizes.{child-rooted, root-rooted, Within, root-within}
 
 -- ---- how far a node is from its root
 
 unfoldable pub depth : List Merge → ℕ → ℕ
 depth [] x = 0
 depth (m ∷ ms) x = cond (eqb (find ms x) (child-of ms m)) (suc (depth ms x)) (depth ms x)
-
-find-child : (m : Merge) (ms : List Merge) (x : ℕ) → find ms x ≡ child-of ms m → find (m ∷ ms) x ≡ root-of ms m
-find-child m ms x e = find-more m ms x ∙ ap (λ (b : Bool). cond b (root-of ms m) (find ms x)) (eq-eqb (find ms x) (child-of ms m) e)
-
-find-kept : (m : Merge) (ms : List Merge) (x : ℕ) → (find ms x ≡ child-of ms m → ⊥) → find (m ∷ ms) x ≡ find ms x
-find-kept m ms x n = find-more m ms x ∙ ap (λ (b : Bool). cond b (root-of ms m) (find ms x)) (ne-eqb (find ms x) (child-of ms m) n)
 
 depth-child : (m : Merge) (ms : List Merge) (x : ℕ) → find ms x ≡ child-of ms m → depth (m ∷ ms) x ≡ suc (depth ms x)
 unfolding depth
@@ -160,18 +108,6 @@ child-parent m ms js = go (up ms js (child-of ms m))
     go : Up ms (child-of ms m) → parent ms (child-of ms m) ≡ child-of ms m
     go (inl (p, f)) = p
     go (inr (n, f, l)) = let d = root-depth ms js (child-of ms m) (child-rooted m ms) in absurd (omega arith)
-
--- the roots of a merge of nodes are nodes
-module _ (n : ℕ) (m : Merge) (ms : List Merge) (w : Within n ms) (h : (m .a < n) × (m .b < n)) where
-  both-within : (x y : ℕ) → ((x ≡ find ms (m .a)) × (y ≡ find ms (m .b))) ⊎ ((x ≡ find ms (m .b)) × (y ≡ find ms (m .a))) → (x < n) × (y < n)
-  both-within x y (inl (p, q)) = let a = find-within n ms w (m .a) (h .0) in let b = find-within n ms w (m .b) (h .1) in (omega arith, omega arith)
-  both-within x y (inr (p, q)) = let a = find-within n ms w (m .a) (h .0) in let b = find-within n ms w (m .b) (h .1) in (omega arith, omega arith)
-
-  pub child-within : child-of ms m < n
-  child-within = both-within (child-of ms m) (root-of ms m) (chosen m ms .rooted) .0
-
-  pub root-within : root-of ms m < n
-  root-within = both-within (child-of ms m) (root-of ms m) (chosen m ms .rooted) .1
 
 -- a node's parent is a node
 pub parent-within : (n : ℕ) (ms : List Merge) → Within n ms → (x : ℕ) → x < n → parent ms x < n

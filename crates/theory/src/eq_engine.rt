@@ -1,28 +1,37 @@
 // The equality engine on a lent table: classes as a union-find without path compression, the proof forest, merges with their
 // levels, and explanations, as in the source. A node is its term.
 use crate::types::EqJust;
+use crate::types::EqLeaf;
+use crate::types::TheoryJust;
 use crate::types::push_leaf;
+use core::ids::Lit;
 use core::ids::TermId;
-use core::table::get;
-use core::table::put;
-ghost use Prim.Native.Nat.{ℕ, suc, _+_, _<_, _≤_};
+use core::limits::MAX_PAIRS;
+use core::limits::MAX_TERMS;
+use core::table::get_at;
+use core::table::put_at;
+ghost use Prim.Native.Nat.{suc, _+_, _<_, _≤_};
 ghost use mathlib.Core.Path.{_≡_};
 ghost use mathlib.Core.Bool.{true, false, cond, _&&_};
-ghost use mathlib.Core.List.{[], _∷_, _++_};
-ghost use lib.Dec.{eqb, leb};
-ghost use lib.ListN.{length, set};
+ghost use mathlib.Core.List.{[], _∷_};
+ghost use lib.Dec.{eqb};
+ghost use lib.ListN.{length};
 ghost use Rattle.core.specs.Lists.{zip};
 ghost use Rattle.theory.specs.Types.{Congruence};
-ghost use Rattle.theory.specs.EqEngine.{child, root, find, are-equal, merge, pop-merges, pairs-of, pairs-in-force, before, common, way, same-pair, explain, firsts-after};
-ghost use Rattle.theory.specs.Memory.Table.{merges#, parent-word, size-word, left-word, right-word, pair-at, label, just-at, merges-below, merges, end, just-meaning, EqualPairs, level, EngineSound, Engine};
-ghost use Rattle.theory.specs.Memory.Answer.{leaves, AnswerSound};
-ghost use Rattle.theory.specs.Memory.Steps.{On, Rerooted, Spliced, United, Logged, Joinable, HoldsLabel, Copied, Separated, newest-above};
-ghost use Rattle.theory.specs.Memory.Explaining.{expand-label, expand-steps, expand-pairs, expand-new, pairs-from, age, pairs-age, steps-age, Explaining, Goes, MarksPair, EqualPair};
+ghost use Rattle.theory.specs.EqEngine.{child, root, find, are-equal, merge, pairs-in-force, before, common, way, same-pair};
+ghost use Rattle.core.specs.Limits.{max-terms, max-pairs, max-levels};
+ghost use Rattle.core.specs.Memory.Words.{put};
+ghost use Rattle.theory.specs.Memory.Replay.{IsNode, end};
+ghost use Rattle.theory.specs.Memory.Table.{engine-size, PARENT, SIZE, FPARENT, merges#, size-word, parent-word, pair-at, label, just-at, merges, just-meaning, level, EngineSound, Engine, TwoNodes, Merges, Congruent, Pops};
+ghost use Rattle.theory.specs.Memory.Steps.{Upward, Rerooted, Spliced, TwoClasses, united, Entry, logged, Joinable, HoldsLabel, PairRoom, Copied, Separable, separated, Undoes, newest-above, Drops};
+ghost use Rattle.theory.specs.Memory.Explaining.{MARKS, NewPair, Way, Label, Pairs, up-to, pairs-from, is-pair, Explaining, Goes, EqualNodes, EqualPair, PairsEqual, MarksPair, Markable, Explainable, Explains};
 
-// ---- the layout of the table (specs/Table.antt)
+// ---- the layout of the table (specs/Memory/Table.antt)
 
 // How many merges are in force, and the level.
-const COUNT: usize = 0;
+const COUNTS: usize = 0;
+
+const MERGES: usize = 0;
 
 const LEVEL: usize = 1;
 
@@ -51,42 +60,45 @@ const FROOT: usize = 9280;
 
 const AFTER: usize = 10304;
 
-// Two of these words of the newest merge, counted from the number of merges.
-const NEWEST_LABEL: usize = 6207;
-
-const NEWEST_AFTER: usize = 10303;
-
 // For each argument pair: its two nodes.
 const LEFT: usize = 11328;
 
 const RIGHT: usize = 13376;
 
+// A label's word holds the level of its merge, its kind and its theory.
+const KIND_UNIT: usize = 65536;
+
+const LEVEL_UNIT: usize = 262144;
+
+// The marks of one explanation: for each argument pair whether it has been expanded.
+const MARKS: usize = 0;
+
 // ---- classes
 
 // Up the parents to the root of a class.
 fn root(t: &[u32], node: usize) -> usize
-    requires { ⌜ EngineSound (now t) × (node < 1024) ⌝ }
-    ensures { λ r. ⌜ (r ≡ find (merges (now (t .entry))) node) × (r < 1024) ⌝ }
+    requires { ⌜ EngineSound (now t) × IsNode node ⌝ }
+    ensures { λ r. ⌜ (r ≡ find (merges (now (t .entry))) node) × IsNode r ⌝ }
 {
     let mut n = node;
-    let mut up = get(t, PARENT + n);
+    let mut up = get_at(t, PARENT, n);
     while up != n {
         n = up;
-        up = get(t, PARENT + n);
+        up = get_at(t, PARENT, n);
     }
     n
 }
 
 // Class representative.
 pub fn find(t: &[u32], n: TermId) -> TermId
-    requires { ⌜ EngineSound (now t) × (n .0 < 1024) ⌝ }
-    ensures { λ r. ⌜ (r .0 ≡ find (merges (now (t .entry))) (n .0)) × (r .0 < 1024) ⌝ }
+    requires { ⌜ EngineSound (now t) × IsNode (n .0) ⌝ }
+    ensures { λ r. ⌜ (r .0 ≡ find (merges (now (t .entry))) (n .0)) × IsNode (r .0) ⌝ }
 {
     TermId(root(t, n.0 as usize) as u32)
 }
 
 pub fn are_equal(t: &[u32], a: TermId, b: TermId) -> bool
-    requires { ⌜ EngineSound (now t) × (a .0 < 1024) × (b .0 < 1024) ⌝ }
+    requires { ⌜ TwoNodes (now t) (a .0) (b .0) ⌝ }
     ensures { λ r. ⌜ r ≡ are-equal (merges (now (t .entry))) (a .0) (b .0) ⌝ }
 {
     let x = a.0 as usize;
@@ -96,23 +108,23 @@ pub fn are_equal(t: &[u32], a: TermId, b: TermId) -> bool
 
 // One node alone: its own parent, in the forest too, in a class of one.
 fn alone(t: &mut [u32], n: usize)
-    requires { ⌜ (16384 ≤ length (now t)) × (n < 1024) ⌝ }
-    ensures { λ _. ⌜ now (t .exit) ≡ set (set (set (now (t .entry)) (64 + n) n) (1088 + n) 1) (2112 + n) n ⌝ }
+    requires { ⌜ (engine-size ≤ length (now t)) × IsNode n ⌝ }
+    ensures { λ _. ⌜ now (t .exit) ≡ put (put (put (now (t .entry)) PARENT n n) SIZE n 1) FPARENT n n ⌝ }
 {
-    put(t, PARENT + n, n);
-    put(t, SIZE + n, 1);
-    put(t, FPARENT + n, n);
+    put_at(t, PARENT, n, n);
+    put_at(t, SIZE, n, 1);
+    put_at(t, FPARENT, n, n);
 }
 
 // Whatever the table held, no merge is in force now, at level 0.
 pub fn clear(t: &mut [u32])
-    requires { ⌜ 16384 ≤ length (now t) ⌝ }
+    requires { ⌜ engine-size ≤ length (now t) ⌝ }
     ensures { λ _. ⌜ Engine (now (t .exit)) [] 0 ⌝ }
 {
-    put(t, COUNT, 0);
-    put(t, LEVEL, 0);
+    put_at(t, COUNTS, MERGES, 0);
+    put_at(t, COUNTS, LEVEL, 0);
     let mut n = 0;
-    while n < 1024 {
+    while n < MAX_TERMS {
         alone(t, n);
         n += 1;
     }
@@ -123,98 +135,98 @@ pub fn clear(t: &mut [u32])
 // How many pushes are open.
 pub fn level(t: &[u32]) -> usize
     requires { ⌜ EngineSound (now t) ⌝ }
-    ensures { λ r. ⌜ (r ≡ level (now (t .entry))) × (r ≤ 64) ⌝ }
+    ensures { λ r. ⌜ (r ≡ level (now (t .entry))) × (r ≤ max-levels) ⌝ }
 {
-    get(t, LEVEL)
+    get_at(t, COUNTS, LEVEL)
 }
 
 pub fn push(t: &mut [u32])
-    requires { ⌜ EngineSound (now t) × (level (now t) < 64) ⌝ }
+    requires { ⌜ EngineSound (now t) × (level (now t) < max-levels) ⌝ }
     ensures { λ _. ⌜ Engine (now (t .exit)) (merges (now (t .entry))) (suc (level (now (t .entry)))) ⌝ }
 {
-    let n = get(t, LEVEL);
-    put(t, LEVEL, n + 1);
+    let n = get_at(t, COUNTS, LEVEL);
+    put_at(t, COUNTS, LEVEL, n + 1);
 }
 
 // ---- the proof forest
 
 // Forest root of a node, distinct from the class representative.
 fn forest_root(t: &[u32], node: usize) -> usize
-    requires { ⌜ EngineSound (now t) × (node < 1024) ⌝ }
-    ensures { λ r. ⌜ (r ≡ end node (way (merges (now (t .entry))) node)) × (r < 1024) ⌝ }
+    requires { ⌜ EngineSound (now t) × IsNode node ⌝ }
+    ensures { λ r. ⌜ (r ≡ end node (way (merges (now (t .entry))) node)) × IsNode r ⌝ }
 {
     let mut n = node;
-    let mut up = get(t, FPARENT + n);
+    let mut up = get_at(t, FPARENT, n);
     while up != n {
         n = up;
-        up = get(t, FPARENT + n);
+        up = get_at(t, FPARENT, n);
     }
     n
 }
 
 // Turns the way from a node up to top, a node above it: the node becomes a root.
 fn reroot_forest(t: &mut [u32], node: usize, top: usize)
-    requires { ⌜ EngineSound (now t) × (node < 1024) × On top node (way (merges (now t)) node) ⌝ }
+    requires { ⌜ Upward (now t) node top ⌝ }
     ensures { λ _. ⌜ Rerooted (now (t .entry)) (now (t .exit)) node (before top (way (merges (now (t .entry))) node)) ⌝ }
 {
     let mut prev = node;
-    let mut edge = get(t, FEDGE + node);
-    let mut cur = get(t, FPARENT + node);
+    let mut edge = get_at(t, FEDGE, node);
+    let mut cur = get_at(t, FPARENT, node);
     while prev != top {
-        let next = get(t, FPARENT + cur);
-        let next_edge = get(t, FEDGE + cur);
-        put(t, FPARENT + cur, prev);
-        put(t, FEDGE + cur, edge);
+        let next = get_at(t, FPARENT, cur);
+        let next_edge = get_at(t, FEDGE, cur);
+        put_at(t, FPARENT, cur, prev);
+        put_at(t, FEDGE, cur, edge);
         prev = cur;
         edge = next_edge;
         cur = next;
     }
-    put(t, FPARENT + node, node);
+    put_at(t, FPARENT, node, node);
 }
 
 // How many argument pairs are in force: the newest merge says it.
 pub fn pairs_in_force(t: &[u32]) -> usize
     requires { ⌜ EngineSound (now t) ⌝ }
-    ensures { λ r. ⌜ (r ≡ pairs-in-force (merges (now (t .entry)))) × (r ≤ 2048) ⌝ }
+    ensures { λ r. ⌜ (r ≡ pairs-in-force (merges (now (t .entry)))) × (r ≤ max-pairs) ⌝ }
 {
-    let n = get(t, COUNT);
+    let n = get_at(t, COUNTS, MERGES);
     if n == 0 {
         return 0;
     }
-    get(t, NEWEST_AFTER + n)
+    get_at(t, AFTER, n - 1)
 }
 
 // ---- merging
 
 // One new forest edge joins the two terms: the tree of a is turned to hang from a under b.
 fn splice(t: &mut [u32], a: usize, b: usize, i: usize)
-    requires { ⌜ EngineSound (now t) × (a < 1024) × (b < 1024) × (i < 1024) ⌝ }
+    requires { ⌜ TwoNodes (now t) a b × (i < max-terms) ⌝ }
     ensures { λ _. ⌜ Spliced (now (t .entry)) (now (t .exit)) a b i ⌝ }
 {
     let r = forest_root(t, a);
     reroot_forest(t, a, r);
-    put(t, FPARENT + a, b);
-    put(t, FEDGE + a, i);
-    put(t, FROOT + i, r);
+    put_at(t, FPARENT, a, b);
+    put_at(t, FEDGE, a, i);
+    put_at(t, FROOT, i, r);
 }
 
 // The class of root child goes under the root.
 fn put_under(t: &mut [u32], child: usize, root: usize, i: usize)
-    requires { ⌜ (16384 ≤ length (now t)) × (child < 1024) × (root < 1024) × (i < 1024) × (size-word (now t) child + size-word (now t) root < 4294967296) ⌝ }
-    ensures { λ _. ⌜ United (now (t .entry)) (now (t .exit)) child root i ⌝ }
+    requires { ⌜ TwoClasses (now t) child root i ⌝ }
+    ensures { λ _. ⌜ now (t .exit) ≡ united (now (t .entry)) child root i ⌝ }
 {
-    let size = get(t, SIZE + child) + get(t, SIZE + root);
-    put(t, PARENT + child, root);
-    put(t, SIZE + root, size);
-    put(t, CHILD + i, child);
+    let size = get_at(t, SIZE, child) + get_at(t, SIZE, root);
+    put_at(t, PARENT, child, root);
+    put_at(t, SIZE, root, size);
+    put_at(t, CHILD, i, child);
 }
 
 // The smaller class goes under the larger; on a tie the first side's root stays.
 fn union(t: &mut [u32], ra: usize, rb: usize, i: usize)
-    requires { ⌜ (16384 ≤ length (now t)) × (ra < 1024) × (rb < 1024) × (i < 1024) × (size-word (now t) ra + size-word (now t) rb < 4294967296) ⌝ }
-    ensures { λ _. ⌜ United (now (t .entry)) (now (t .exit)) (child (size-word (now (t .entry))) ra rb) (root (size-word (now (t .entry))) ra rb) i ⌝ }
+    requires { ⌜ TwoClasses (now t) ra rb i ⌝ }
+    ensures { λ _. ⌜ now (t .exit) ≡ united (now (t .entry)) (child (size-word (now (t .entry))) ra rb) (root (size-word (now (t .entry))) ra rb) i ⌝ }
 {
-    if get(t, SIZE + rb) <= get(t, SIZE + ra) {
+    if get_at(t, SIZE, rb) <= get_at(t, SIZE, ra) {
         put_under(t, rb, ra, i);
     } else {
         put_under(t, ra, rb, i);
@@ -223,23 +235,23 @@ fn union(t: &mut [u32], ra: usize, rb: usize, i: usize)
 
 // The words of a merge in the log, but for its roots.
 fn log(t: &mut [u32], i: usize, a: usize, b: usize, word: usize, value: usize, after: usize)
-    requires { ⌜ (16384 ≤ length (now t)) × (i < 1024) × (a < 1024) × (b < 1024) × (word < 4294967296) × (value < 4294967296) × (after ≤ 2048) ⌝ }
-    ensures { λ _. ⌜ Logged (now (t .entry)) (now (t .exit)) i a b word value after ⌝ }
+    requires { ⌜ (engine-size ≤ length (now t)) × Entry i a b word value after ⌝ }
+    ensures { λ _. ⌜ now (t .exit) ≡ logged (now (t .entry)) i a b word value after ⌝ }
 {
-    put(t, SIDE_A + i, a);
-    put(t, SIDE_B + i, b);
-    put(t, LABEL + i, word);
-    put(t, VALUE + i, value);
-    put(t, AFTER + i, after);
+    put_at(t, SIDE_A, i, a);
+    put_at(t, SIDE_B, i, b);
+    put_at(t, LABEL, i, word);
+    put_at(t, VALUE, i, value);
+    put_at(t, AFTER, i, after);
 }
 
 // Joins two classes under a label of the present level.
 fn join(t: &mut [u32], a: usize, b: usize, kind: usize, theory: usize, value: usize, after: usize)
-    requires { ⌜ EngineSound (now t) × Joinable (now t) a b kind theory value after ⌝ }
+    requires { ⌜ Joinable (now t) a b kind theory value after ⌝ }
     ensures { λ _. ⌜ Engine (now (t .exit)) (record { a = a; b = b; just = label (now (t .entry)) kind theory value after; level = level (now (t .entry)) } ∷ merges (now (t .entry))) (level (now (t .entry))) ⌝ }
 {
-    let i = get(t, COUNT);
-    let level = get(t, LEVEL);
+    let i = get_at(t, COUNTS, MERGES);
+    let level = get_at(t, COUNTS, LEVEL);
     let ra = root(t, a);
     let rb = root(t, b);
     splice(t, a, b, i);
@@ -249,11 +261,11 @@ fn join(t: &mut [u32], a: usize, b: usize, kind: usize, theory: usize, value: us
         i,
         a,
         b,
-        262144 * level + 65536 * kind + theory,
+        LEVEL_UNIT * level + KIND_UNIT * kind + theory,
         value,
         after,
     );
-    put(t, COUNT, i + 1);
+    put_at(t, COUNTS, MERGES, i + 1);
 }
 
 // A label without pairs, as the log holds it.
@@ -282,8 +294,8 @@ fn label_words(j: EqJust) -> LabelWords
 
 // Joins the classes of two terms under a label; within one class it does nothing.
 pub fn merge(t: &mut [u32], a: TermId, b: TermId, j: EqJust)
-    requires { ⌜ EngineSound (now t) × (a .0 < 1024) × (b .0 < 1024) ⌝ }
-    ensures { λ _. ⌜ Engine (now (t .exit)) (merge (merges (now (t .entry))) (level (now (t .entry))) (a .0) (b .0) (just-meaning j)) (level (now (t .entry))) × (are-equal (merges (now (t .entry))) (a .0) (b .0) ≡ true → now (t .exit) ≡ now (t .entry)) ⌝ }
+    requires { ⌜ TwoNodes (now t) (a .0) (b .0) ⌝ }
+    ensures { λ _. ⌜ Merges (now (t .entry)) (now (t .exit)) (a .0) (b .0) (just-meaning j) ⌝ }
 {
     if are_equal(t, a, b) {
         return;
@@ -300,21 +312,21 @@ pub fn merge(t: &mut [u32], a: TermId, b: TermId, j: EqJust)
 
 // The numbers of two lists become argument pairs from start on.
 fn copy_pairs(t: &mut [u32], start: usize, xs: &[u32], ys: &[u32])
-    requires { ⌜ (16384 ≤ length (now t)) × (length (now xs) ≡ length (now ys)) × (start + length (now xs) ≤ 2048) ⌝ }
+    requires { ⌜ PairRoom (now t) start (now xs) (now ys) ⌝ }
     ensures { λ _. ⌜ Copied (now (t .entry)) (now (t .exit)) start (now (xs .entry)) (now (ys .entry)) ⌝ }
 {
     let mut i = 0;
     while i < xs.len() {
-        put(t, LEFT + start + i, get(xs, i));
-        put(t, RIGHT + start + i, get(ys, i));
+        put_at(t, LEFT, start + i, get_at(xs, 0, i));
+        put_at(t, RIGHT, start + i, get_at(ys, 0, i));
         i += 1;
     }
 }
 
 // Like `merge`, but the label is all argument pairs of the two applications, in order. Within one class no pairs are taken.
 pub fn merge_congruence(t: &mut [u32], a: TermId, b: TermId, xs: &[u32], ys: &[u32])
-    requires { ⌜ EngineSound (now t) × (a .0 < 1024) × (b .0 < 1024) × (length (now xs) ≡ length (now ys)) × EqualPairs (merges (now t)) (zip (now xs) (now ys)) × (pairs-in-force (merge (merges (now t)) (level (now t)) (a .0) (b .0) (Congruence (zip (now xs) (now ys)))) ≤ 2048) ⌝ }
-    ensures { λ _. ⌜ Engine (now (t .exit)) (merge (merges (now (t .entry))) (level (now (t .entry))) (a .0) (b .0) (Congruence (zip (now (xs .entry)) (now (ys .entry))))) (level (now (t .entry))) × (are-equal (merges (now (t .entry))) (a .0) (b .0) ≡ true → now (t .exit) ≡ now (t .entry)) ⌝ }
+    requires { ⌜ Congruent (now t) (a .0) (b .0) (now xs) (now ys) ⌝ }
+    ensures { λ _. ⌜ Merges (now (t .entry)) (now (t .exit)) (a .0) (b .0) (Congruence (zip (now (xs .entry)) (now (ys .entry)))) ⌝ }
 {
     if are_equal(t, a, b) {
         return;
@@ -331,44 +343,44 @@ pub fn merge_congruence(t: &mut [u32], a: TermId, b: TermId, xs: &[u32], ys: &[u
 
 // The class of root child, which was under another, is its own again.
 fn separate(t: &mut [u32], child: usize)
-    requires { ⌜ (16384 ≤ length (now t)) × (child < 1024) × (parent-word (now t) child < 1024) × (size-word (now t) child ≤ size-word (now t) (parent-word (now t) child)) ⌝ }
-    ensures { λ _. ⌜ Separated (now (t .entry)) (now (t .exit)) child (parent-word (now (t .entry)) child) ⌝ }
+    requires { ⌜ Separable (now t) child ⌝ }
+    ensures { λ _. ⌜ now (t .exit) ≡ separated (now (t .entry)) child (parent-word (now (t .entry)) child) ⌝ }
 {
-    let root = get(t, PARENT + child);
-    let both = get(t, SIZE + root);
-    let rest = both - get(t, SIZE + child);
-    put(t, SIZE + root, rest);
-    put(t, PARENT + child, child);
+    let root = get_at(t, PARENT, child);
+    let both = get_at(t, SIZE, root);
+    let rest = both - get_at(t, SIZE, child);
+    put_at(t, SIZE, root, rest);
+    put_at(t, PARENT, child, child);
 }
 
 // The newest merge is taken back: the way from the old root of the first side's tree is turned again.
 fn undo(t: &mut [u32])
     requires { ⌜ EngineSound (now t) × (0 < merges# (now t)) ⌝ }
-    ensures { λ _. ⌜ EngineSound (now (t .exit)) × (suc (merges# (now (t .exit))) ≡ merges# (now (t .entry))) × (merges (now (t .exit)) ≡ merges-below (now (t .entry)) (merges# (now (t .exit)))) × (level (now (t .exit)) ≡ level (now (t .entry))) ⌝ }
+    ensures { λ _. ⌜ Undoes (now (t .entry)) (now (t .exit)) ⌝ }
 {
-    let i = get(t, COUNT) - 1;
-    let a = get(t, SIDE_A + i);
-    let child = get(t, CHILD + i);
-    let r = get(t, FROOT + i);
+    let i = get_at(t, COUNTS, MERGES) - 1;
+    let a = get_at(t, SIDE_A, i);
+    let child = get_at(t, CHILD, i);
+    let r = get_at(t, FROOT, i);
     reroot_forest(t, r, a);
     separate(t, child);
-    put(t, COUNT, i);
+    put_at(t, COUNTS, MERGES, i);
 }
 
 fn newest_above(t: &[u32], level: usize) -> bool
     requires { ⌜ EngineSound (now t) ⌝ }
     ensures { λ r. ⌜ r ≡ newest-above level (merges (now (t .entry))) ⌝ }
 {
-    let n = get(t, COUNT);
+    let n = get_at(t, COUNTS, MERGES);
     if n == 0 {
         return false;
     }
-    level < get(t, NEWEST_LABEL + n) / 262144
+    level < get_at(t, LABEL, n - 1) / LEVEL_UNIT
 }
 
 fn undo_above(t: &mut [u32], to: usize)
     requires { ⌜ EngineSound (now t) ⌝ }
-    ensures { λ _. ⌜ EngineSound (now (t .exit)) × (merges (now (t .exit)) ≡ pop-merges to (merges (now (t .entry)))) × (newest-above to (merges (now (t .exit))) ≡ false) × (level (now (t .exit)) ≡ level (now (t .entry))) ⌝ }
+    ensures { λ _. ⌜ Drops (now (t .entry)) (now (t .exit)) to ⌝ }
 {
     while newest_above(t, to) {
         undo(t);
@@ -378,36 +390,36 @@ fn undo_above(t: &mut [u32], to: usize)
 // Back to a level: classes, sizes, forest and pairs as they were. At or above the present level nothing changes.
 pub fn pop(t: &mut [u32], to: usize)
     requires { ⌜ EngineSound (now t) ⌝ }
-    ensures { λ _. ⌜ EngineSound (now (t .exit)) × (merges (now (t .exit)) ≡ pop-merges to (merges (now (t .entry)))) × (level (now (t .exit)) ≡ cond (leb (level (now (t .entry))) to) (level (now (t .entry))) to) × (level (now (t .entry)) ≤ to → now (t .exit) ≡ now (t .entry)) ⌝ }
+    ensures { λ _. ⌜ Pops (now (t .entry)) (now (t .exit)) to ⌝ }
 {
-    if get(t, LEVEL) <= to {
+    if get_at(t, COUNTS, LEVEL) <= to {
         return;
     }
     undo_above(t, to);
-    put(t, LEVEL, to);
+    put_at(t, COUNTS, LEVEL, to);
 }
 
 // ---- explanation
 
 // How many edges lie between a node and the root of its tree in the proof forest.
 fn forest_depth(t: &[u32], node: usize) -> usize
-    requires { ⌜ EngineSound (now t) × (node < 1024) ⌝ }
+    requires { ⌜ EngineSound (now t) × IsNode node ⌝ }
     ensures { λ r. ⌜ r ≡ length (way (merges (now (t .entry))) node) ⌝ }
 {
     let mut n = node;
     let mut d = 0;
-    let mut up = get(t, FPARENT + n);
+    let mut up = get_at(t, FPARENT, n);
     while up != n {
         n = up;
         d += 1;
-        up = get(t, FPARENT + n);
+        up = get_at(t, FPARENT, n);
     }
     d
 }
 
 // The nearest common ancestor of two equal nodes: the deeper one goes up, at one depth the first, until both are one.
 fn forest_nca(t: &[u32], a: usize, b: usize) -> usize
-    requires { ⌜ EngineSound (now t) × (a < 1024) × (b < 1024) × (are-equal (merges (now t)) a b ≡ true) ⌝ }
+    requires { ⌜ TwoNodes (now t) a b × (are-equal (merges (now t)) a b ≡ true) ⌝ }
     ensures { λ r. ⌜ r ≡ common a (way (merges (now (t .entry))) a) b (way (merges (now (t .entry))) b) ⌝ }
 {
     let mut x = a;
@@ -416,10 +428,10 @@ fn forest_nca(t: &[u32], a: usize, b: usize) -> usize
     let mut dy = forest_depth(t, b);
     while x != y {
         if dx < dy {
-            y = get(t, FPARENT + y);
+            y = get_at(t, FPARENT, y);
             dy -= 1;
         } else {
-            x = get(t, FPARENT + x);
+            x = get_at(t, FPARENT, x);
             dx -= 1;
         }
     }
@@ -448,19 +460,19 @@ fn same_pair(x: usize, y: usize, a: usize, b: usize) -> bool
 
 // Marks argument pair j where it is the pair of a and b.
 fn mark_pair(t: &[u32], a: usize, b: usize, j: usize, marks: &mut [u32])
-    requires { ⌜ (16384 ≤ length (now t)) × (j < 2048) × (2048 ≤ length (now marks)) ⌝ }
-    ensures { λ _. ⌜ now (marks .exit) ≡ cond (same-pair (left-word (now (t .entry)) j) (right-word (now (t .entry)) j) (a, b)) (set (now (marks .entry)) j 1) (now (marks .entry)) ⌝ }
+    requires { ⌜ Markable (now t) (now marks) j ⌝ }
+    ensures { λ _. ⌜ now (marks .exit) ≡ cond (is-pair (now (t .entry)) j (a, b)) (put (now (marks .entry)) MARKS j 1) (now (marks .entry)) ⌝ }
 {
-    let x = get(t, LEFT + j);
-    let y = get(t, RIGHT + j);
+    let x = get_at(t, LEFT, j);
+    let y = get_at(t, RIGHT, j);
     if same_pair(x, y, a, b) {
-        put(marks, j, 1);
+        put_at(marks, MARKS, j, 1);
     }
 }
 
 // Marks each argument pair in force that is the pair of a and b.
 fn mark_pairs(t: &[u32], a: usize, b: usize, marks: &mut [u32])
-    requires { ⌜ EngineSound (now t) × (2048 ≤ length (now marks)) ⌝ }
+    requires { ⌜ EngineSound (now t) × (max-pairs ≤ length (now marks)) ⌝ }
     ensures { λ _. ⌜ MarksPair (now (t .entry)) a b (now (marks .entry)) (now (marks .exit)) ⌝ }
 {
     let n = pairs_in_force(t);
@@ -473,8 +485,9 @@ fn mark_pairs(t: &[u32], a: usize, b: usize, marks: &mut [u32])
 
 // Explains two equal nodes whose pair has not been expanded yet: the first up to the nearest common ancestor, then the second.
 fn explain_rec(t: &[u32], a: usize, b: usize, marks: &mut [u32], out: &mut [u32])
-    requires { ⌜ Explaining (now t) (now marks) (now out) × (a < 1024) × (b < 1024) × (are-equal (merges (now t)) a b ≡ true) ⌝ }
-    ensures { λ _. ⌜ Goes (now (t .entry)) (now (marks .entry)) (now (out .entry)) (now (marks .exit)) (now (out .exit)) (suc (age (merges (now (t .entry))) a b)) (expand-new (merges (now (t .entry))) a b) ⌝ }
+    requires { ⌜ Explaining (now t) (now marks) (now out) × EqualNodes (now t) a b ⌝ }
+    ensures { λ _. ⌜ Goes (now (t .entry)) (now (marks .entry)) (now (out .entry)) (now (marks .exit)) (now (out .exit))
+        (NewPair a b) ⌝ }
 {
     if a == b {
         return;
@@ -487,37 +500,46 @@ fn explain_rec(t: &[u32], a: usize, b: usize, marks: &mut [u32], out: &mut [u32]
 
 // Expands the edges from a node up to one above it.
 fn expand_way(t: &[u32], node: usize, top: usize, marks: &mut [u32], out: &mut [u32])
-    requires { ⌜ Explaining (now t) (now marks) (now out) × (node < 1024) × On top node (way (merges (now t)) node) ⌝ }
-    ensures { λ _. ⌜ Goes (now (t .entry)) (now (marks .entry)) (now (out .entry)) (now (marks .exit)) (now (out .exit)) (steps-age (merges (now (t .entry))) (before top (way (merges (now (t .entry))) node))) (expand-steps (merges (now (t .entry))) (before top (way (merges (now (t .entry))) node))) ⌝ }
+    requires { ⌜ Explaining (now t) (now marks) (now out) × Upward (now t) node top ⌝ }
+    ensures { λ _. ⌜ Goes (now (t .entry)) (now (marks .entry)) (now (out .entry)) (now (marks .exit)) (now (out .exit))
+        (Way (up-to (now (t .entry)) node top)) ⌝ }
 {
     let mut n = node;
     while n != top {
-        expand_edge(t, get(t, FEDGE + n), marks, out);
-        n = get(t, FPARENT + n);
+        expand_edge(t, get_at(t, FEDGE, n), marks, out);
+        n = get_at(t, FPARENT, n);
     }
 }
 
 // Expands the label of merge i: its leaf, or the pairs of a congruence.
 fn expand_edge(t: &[u32], i: usize, marks: &mut [u32], out: &mut [u32])
     requires { ⌜ Explaining (now t) (now marks) (now out) × (i < merges# (now t)) ⌝ }
-    ensures { λ _. ⌜ Goes (now (t .entry)) (now (marks .entry)) (now (out .entry)) (now (marks .exit)) (now (out .exit)) (pairs-age (merges (now (t .entry))) (pairs-of (just-at (now (t .entry)) i))) (expand-label (merges (now (t .entry))) (just-at (now (t .entry)) i)) ⌝ }
+    ensures { λ _. ⌜ Goes (now (t .entry)) (now (marks .entry)) (now (out .entry)) (now (marks .exit)) (now (out .exit))
+        (Label (just-at (now (t .entry)) i)) ⌝ }
 {
-    let word = get(t, LABEL + i);
-    let value = get(t, VALUE + i);
-    let kind = word / 65536 % 4;
+    let word = get_at(t, LABEL, i);
+    let value = get_at(t, VALUE, i);
+    let kind = word / KIND_UNIT % 4;
     if kind == 0 {
-        push_leaf(out, 0, value);
+        push_leaf(out, EqLeaf::Asserted(Lit(value as u32)));
     } else if kind == 1 {
-        expand_pairs(t, value, get(t, AFTER + i), marks, out);
+        expand_pairs(t, value, get_at(t, AFTER, i), marks, out);
     } else {
-        push_leaf(out, 1 + word % 65536, value);
+        push_leaf(
+            out,
+            EqLeaf::Interface(TheoryJust {
+                theory: (word % KIND_UNIT) as u16,
+                tag: value as u32,
+            }),
+        );
     }
 }
 
 // Explains the argument pairs from one number up to another in turn.
 fn expand_pairs(t: &[u32], from: usize, to: usize, marks: &mut [u32], out: &mut [u32])
-    requires { ⌜ Explaining (now t) (now marks) (now out) × (from ≤ to) × ((j : ℕ) → from ≤ j → j < to → EqualPair (now t) j) ⌝ }
-    ensures { λ _. ⌜ Goes (now (t .entry)) (now (marks .entry)) (now (out .entry)) (now (marks .exit)) (now (out .exit)) (pairs-age (merges (now (t .entry))) (pairs-from (now (t .entry)) from to)) (expand-pairs (merges (now (t .entry))) (pairs-from (now (t .entry)) from to)) ⌝ }
+    requires { ⌜ Explaining (now t) (now marks) (now out) × PairsEqual (now t) from to ⌝ }
+    ensures { λ _. ⌜ Goes (now (t .entry)) (now (marks .entry)) (now (out .entry)) (now (marks .exit)) (now (out .exit))
+        (Pairs (pairs-from (now (t .entry)) from to)) ⌝ }
 {
     let mut k = from;
     while k < to {
@@ -529,20 +551,21 @@ fn expand_pairs(t: &[u32], from: usize, to: usize, marks: &mut [u32], out: &mut 
 // Explains argument pair j, unless it has been expanded.
 fn expand_pair(t: &[u32], j: usize, marks: &mut [u32], out: &mut [u32])
     requires { ⌜ Explaining (now t) (now marks) (now out) × EqualPair (now t) j ⌝ }
-    ensures { λ _. ⌜ Goes (now (t .entry)) (now (marks .entry)) (now (out .entry)) (now (marks .exit)) (now (out .exit)) (pairs-age (merges (now (t .entry))) (pair-at (now (t .entry)) j ∷ [])) (expand-pairs (merges (now (t .entry))) (pair-at (now (t .entry)) j ∷ [])) ⌝ }
+    ensures { λ _. ⌜ Goes (now (t .entry)) (now (marks .entry)) (now (out .entry)) (now (marks .exit)) (now (out .exit))
+        (Pairs (pair-at (now (t .entry)) j ∷ [])) ⌝ }
 {
-    if get(marks, j) == 0 {
-        explain_rec(t, get(t, LEFT + j), get(t, RIGHT + j), marks, out);
+    if get_at(marks, MARKS, j) == 0 {
+        explain_rec(t, get_at(t, LEFT, j), get_at(t, RIGHT, j), marks, out);
     }
 }
 
 // Appends the leaves that the equality of two terms rests on, each once.
 pub fn explain(t: &[u32], a: TermId, b: TermId, out: &mut [u32])
-    requires { ⌜ EngineSound (now t) × (a .0 < 1024) × (b .0 < 1024) × (are-equal (merges (now t)) (a .0) (b .0) ≡ true) × AnswerSound (merges (now t)) (now out) ⌝ }
-    ensures { λ _. ⌜ AnswerSound (merges (now (t .entry))) (now (out .exit)) × (leaves (now (out .exit)) ≡ leaves (now (out .entry)) ++ firsts-after (leaves (now (out .entry))) (explain (merges (now (t .entry))) (a .0) (b .0))) ⌝ }
+    requires { ⌜ Explainable (now t) (a .0) (b .0) (now out) ⌝ }
+    ensures { λ _. ⌜ Explains (now (t .entry)) (a .0) (b .0) (now (out .entry)) (now (out .exit)) ⌝ }
 {
     let x = a.0 as usize;
     let y = b.0 as usize;
-    let mut marks = [0u32; 2048];
+    let mut marks = [0u32; MAX_PAIRS];
     explain_rec(t, x, y, &mut marks, out);
 }

@@ -1,11 +1,13 @@
--- Laws of the numbers that stand for operations and roles.
-use Prim.Native.Nat.{ℕ, zero, suc, _+_, _-_, _≤_, _<_}
+-- Laws of the numbers that stand for operations and roles, and of sorts packed four to a word.
+use Prim.Native.Nat.{ℕ, zero, suc, _+_, _-_, _*_, _/_, _%_, _≤_, _<_}
 use mathlib.Core.Path.{_≡_, refl, sym, ap, _∙_, subst}
-use mathlib.Core.List.{List}
+use mathlib.Core.List.{List, [], _∷_}
+use native.Mathlib.Numerals.{add-one}
 use native.Mathlib.Omega.{arith}
-use lib.ListN.{length}
-use Rattle.core.specs.Term.{Role, Constructor, Tester, Selector, Function, Eq, Uninterpreted}
-use Rattle.core.specs.Memory.Table.{op-of, role-of, member-role, context}
+use lib.ListN.{length, getD}
+use Rattle.core.specs.Term.{Constructor, Tester, Selector, Function, Eq, Uninterpreted}
+use Rattle.core.specs.Limits.{max-sorts, max-params}
+use Rattle.core.specs.Memory.Table.{digit, packed, packed-words, op-of, role-of, member-role, context, AllBelow}
 use Rattle.core.specs.Context.{symbol, sort-of, result-of}
 use Rattle.core.specs.declared.ids.SymbolId.{SymbolId}
 use Rattle.core.specs.Memory.Codes.{op-meaning, OpBelow, RoleBelow, OpAt}
@@ -21,36 +23,26 @@ unfolding op-of
 op-of-pred zero n = absurd (n refl)
 op-of-pred (suc w) n = let e : suc w - 1 ≡ w = omega arith in ap Uninterpreted e
 
-member-at : (c d : ℕ) (k : ℕ) → d ≡ k → member-role c k ≡ member-role c d
-member-at c d k e = ap (member-role c) (sym e)
-
 pub role-of-zero : (s w : ℕ) → w ≡ 0 → Function ≡ role-of s w
 unfolding role-of
 role-of-zero s w e = rw e
 
-pub role-of-ctor : (s w : ℕ) → (w ≡ 0 → ⊥) → s ≡ w - 1 → Constructor ≡ role-of s w
-unfolding role-of member-role
-role-of-ctor s zero n e = absurd (n refl)
-role-of-ctor s (suc c) n e = let d : s - c ≡ 0 = omega arith in member-at c (s - c) 0 d
-
-pub role-of-tester : (s w : ℕ) → (w ≡ 0 → ⊥) → s - (w - 1) ≡ 1 → Tester (w - 1) ≡ role-of s w
-unfolding role-of member-role
-role-of-tester s zero n e = absurd (n refl)
-role-of-tester s (suc c) n e =
-    let p : suc c - 1 ≡ c = omega arith in
-    let d : s - c ≡ 1 = omega arith in
-    ap Tester p ∙ member-at c (s - c) 1 d
-
-selector-at : (s c x : ℕ) → x ≡ c → x ≤ s → (s ≡ x → ⊥) → (s - x ≡ 1 → ⊥) → Selector x (s - x - 2) ≡ member-role c (s - c)
-unfolding member-role
-selector-at s c x e l a b =
-    subst (λ (y : ℕ). Selector x (s - x - 2) ≡ member-role y (s - y)) e
-    (let d : s - x ≡ suc (suc (s - x - 2)) = omega arith in member-at x (s - x) (suc (suc (s - x - 2))) d)
-
-pub role-of-selector : (s w : ℕ) → (w ≡ 0 → ⊥) → w - 1 ≤ s → (s ≡ w - 1 → ⊥) → (s - (w - 1) ≡ 1 → ⊥) → Selector (w - 1) (s - (w - 1) - 2) ≡ role-of s w
+-- symbol s is member d of constructor c
+pub role-of-member : (s w c d : ℕ) → w ≡ c + 1 → s ≡ c + d → role-of s w ≡ member-role c d
 unfolding role-of
-role-of-selector s zero n l a b = absurd (n refl)
-role-of-selector s (suc c) n l a b = selector-at s c (suc c - 1) (omega arith) l a b
+role-of-member s w c d e q = let p : s - c ≡ d = omega arith in ap (role-of s) (e ∙ add-one c) ∙ ap (member-role c) p
+
+pub ctor-role : (c : ℕ) → role-of c (c + 1) ≡ Constructor
+unfolding member-role
+ctor-role c = role-of-member c (c + 1) c 0 refl (omega arith)
+
+pub tester-role : (c : ℕ) → role-of (c + 1) (c + 1) ≡ Tester c
+unfolding member-role
+tester-role c = role-of-member (c + 1) (c + 1) c 1 refl refl
+
+pub selector-role : (c i : ℕ) → role-of (c + 2 + i) (c + 1) ≡ Selector c i
+unfolding member-role
+selector-role c i = role-of-member (c + 2 + i) (c + 1) c (suc (suc i)) refl (omega arith)
 
 -- a declared symbol stays below a larger bound
 pub op-below : (m n : ℕ) (r : Op.Op) → m ≤ n → OpBelow m r → OpBelow n r
@@ -67,14 +59,59 @@ role-below m n DtRole.the-variants.Function h b = tt
 
 -- ---- an operation that a match has found
 
-pub symbol-below : (t : List ℕ) (x : ℕ) (r : Op.Op) (f : SymbolId) → OpAt t x r → r ≡ Op.the-variants.Uninterpreted f → f .0 < length (context t .symbols)
+pub symbol-below : {t : List ℕ} {x : ℕ} {r : Op.Op} {f : SymbolId} → OpAt t x r → r ≡ Op.the-variants.Uninterpreted f →
+    f .0 < length (context t .symbols)
 unfolding OpBelow
-symbol-below t x r f o e = subst (OpBelow (length (context t .symbols))) e (o .declared)
+symbol-below {t} o e = subst (OpBelow (length (context t .symbols))) e (o .declared)
 
-pub eq-sort : (t : List ℕ) (x : ℕ) (r : Op.Op) → OpAt t x r → r ≡ Op.the-variants.Eq → 0 ≡ sort-of (context t) x
+pub eq-sort : {t : List ℕ} {x : ℕ} {r : Op.Op} → OpAt t x r → r ≡ Op.the-variants.Eq → 0 ≡ sort-of (context t) x
 unfolding sort-of result-of op-meaning
-eq-sort t x r o e = ap (result-of (context t)) (sym (ap op-meaning e) ∙ o .is)
+eq-sort {t} o e = ap (result-of (context t)) (sym (ap op-meaning e) ∙ o .is)
 
-pub symbol-sort : (t : List ℕ) (x : ℕ) (r : Op.Op) (f : SymbolId) (q : ℕ) → OpAt t x r → r ≡ Op.the-variants.Uninterpreted f → q ≡ symbol (context t) (f .0) .result → q ≡ sort-of (context t) x
+pub symbol-sort : {t : List ℕ} {x : ℕ} {r : Op.Op} {f : SymbolId} {q : ℕ} → OpAt t x r → r ≡ Op.the-variants.Uninterpreted f →
+    q ≡ symbol (context t) (f .0) .result → q ≡ sort-of (context t) x
 unfolding sort-of result-of op-meaning
-symbol-sort t x r f q o e p = p ∙ ap (result-of (context t)) (sym (ap op-meaning e) ∙ o .is)
+symbol-sort {t} o e p = p ∙ ap (result-of (context t)) (sym (ap op-meaning e) ∙ o .is)
+
+-- ---- four sorts in a word
+
+-- past its end a list gives 0
+pub each-below : (xs : List ℕ) (n : ℕ) → 0 < n → AllBelow n xs → (i : ℕ) → getD xs i 0 < n
+each-below [] n p a i = p
+each-below (x ∷ xs) n p a zero = a 0 (omega arith)
+each-below (x ∷ xs) n p a (suc i) = each-below xs n p (λ j l. a (suc j) (omega arith)) i
+
+module _ (xs : List ℕ) (a : AllBelow max-sorts xs) where
+  digit-of : (q d : ℕ) → d < 4 → digit (packed xs q) d ≡ getD xs (4 * q + d) 0
+  unfolding digit packed
+  digit-of q d h =
+      let e = each-below xs max-sorts (omega arith) a in
+      let p₀ = e (4 * q) in
+      let p₁ = e (4 * q + 1) in
+      let p₂ = e (4 * q + 2) in
+      let p₃ = e (4 * q + 3) in
+      go d h p₀ p₁ p₂ p₃
+    where
+      go : (d : ℕ) → d < 4 → getD xs (4 * q) 0 < 64 → getD xs (4 * q + 1) 0 < 64 → getD xs (4 * q + 2) 0 < 64 →
+          getD xs (4 * q + 3) 0 < 64 → digit (packed xs q) d ≡ getD xs (4 * q + d) 0
+      go zero h p₀ p₁ p₂ p₃ = let z : 4 * q + 0 ≡ 4 * q = omega arith in rw z (omega arith)
+      go (suc zero) h p₀ p₁ p₂ p₃ = omega arith
+      go (suc (suc zero)) h p₀ p₁ p₂ p₃ = omega arith
+      go (suc (suc (suc zero))) h p₀ p₁ p₂ p₃ = omega arith
+      go (suc (suc (suc (suc d)))) h p₀ p₁ p₂ p₃ = absurd (omega arith)
+
+  word-of : (q : ℕ) → q < 4 → getD (packed-words xs) q 0 ≡ packed xs q
+  unfolding packed-words
+  word-of zero h = refl
+  word-of (suc zero) h = refl
+  word-of (suc (suc zero)) h = refl
+  word-of (suc (suc (suc zero))) h = refl
+  word-of (suc (suc (suc (suc q)))) h = absurd (omega arith)
+
+  -- number i of a list, out of the words that hold it
+  pub digit-packed : (i : ℕ) → i < max-params → digit (getD (packed-words xs) (i / 4) 0) (i % 4) ≡ getD xs i 0
+  digit-packed i h =
+      let e : 4 * (i / 4) + i % 4 ≡ i = omega arith in
+      ap (λ (w : ℕ). digit w (i % 4)) (word-of (i / 4) (omega arith))
+      ∙ digit-of (i / 4) (i % 4) (omega arith)
+      ∙ ap (λ (j : ℕ). getD xs j 0) e

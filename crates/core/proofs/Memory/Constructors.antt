@@ -1,21 +1,20 @@
 -- Constructors of a datatype, and question 10, by the words of the table.
-use Prim.Native.Nat.{ℕ, zero, suc, _+_, _-_, _*_, _≤_, _<_}
-use mathlib.Core.Path.{_≡_, refl, sym, ap, ap₂, _∙_, subst}
-use mathlib.Core.Bool.{Bool, true, false, cond, not, _&&_, true≢false}
-use mathlib.Core.List.{List, [], _∷_}
+use Prim.Native.Nat.{ℕ, zero, suc, _+_, _-_, _≤_, _<_}
+use mathlib.Core.Path.{_≡_, refl, sym, ap, ap₂, _∙_}
+use mathlib.Core.Bool.{Bool, true, false, not, _&&_}
+use mathlib.Core.List.{List}
 use native.Mathlib.Omega.{arith}
-use borrow.Author.Tests.{eq-eqb, ne-eqb}
-use lib.Dec.{T, eqb}
-use lib.ListN.{length, getD}
+use borrow.Author.Tests.{ne-eqb}
+use lib.Dec.{eqb}
 use Rattle.core.specs.Lists.{keep, every, any, range}
-use Rattle.core.specs.Term.{Role, Symbol}
-use Rattle.core.specs.Context.{Context, is-constructor, is-datatype-sort, symbol, builds, dt-constructors, has-plain-fields, grounded, all-grounded, places}
-use Rattle.core.specs.Memory.Table.{word, words, sorts#, symbols#, terms#, offset, params-at, arity-word, role-of, member-role, context, ContextSound, NextConstructor}
-use borrow.Author.Count.{below-more}
-use Rattle.core.proofs.Lists.{In, at-in, in-at, T-true, true-T, any-none, any-some, every-all, every-not, in-keep, keep-in, in-range, range-in}
-use Rattle.core.proofs.Memory.Words.{length-words, words-at, sorts-length, symbols-length, role-is, result-is, params-are, datatype-word}
-use Rattle.core.proofs.Memory.Codes.{role-of-ctor}
-use Rattle.core.proofs.Memory.Intern.{places-are}
+use Rattle.core.specs.Context.{is-constructor, is-datatype-sort, symbol, builds, dt-constructors, has-plain-fields, grounded, all-grounded}
+use Rattle.core.specs.Memory.Words.{at, counted}
+use Rattle.core.specs.Memory.Table.{SORT, OWNER, RESULT, ARITY, sorts#, symbols#, role-of, member-role, param-at, context, ContextSound, NextConstructor}
+use Rattle.core.proofs.Lists.{and-no}
+use Rattle.core.proofs.Memory.Codes.{ctor-role}
+use Rattle.core.proofs.Memory.Counted.{counted-range}
+use Rattle.core.proofs.Memory.Searching.{NoneFrom, any-found, any-missing, every-by-any, any-kept}
+use Rattle.core.proofs.Memory.Views.{sorts-length, symbols-length, datatype-word, role-is, result-is, params-are}
 
 -- ---- constructors
 
@@ -25,142 +24,117 @@ member-not c zero n = absurd (n refl)
 member-not c (suc zero) n = refl
 member-not c (suc (suc i)) n = refl
 
-role-not : (s w : ℕ) → w ≤ suc s → (w ≡ s + 1 → ⊥) → is-constructor (role-of s w) ≡ false
+role-not : (s w : ℕ) → w ≤ s + 1 → (w ≡ s + 1 → ⊥) → is-constructor (role-of s w) ≡ false
 unfolding is-constructor role-of
 role-not s zero l n = refl
 role-not s (suc c) l n = member-not c (s - c) (omega arith)
 
-pub not-constructor : (t : List ℕ) (dt s w : ℕ) → ContextSound t → s < symbols# t → w ≡ word t (128 + s) → (w ≡ s + 1 → ⊥) → false ≡ builds (context t) dt s
-unfolding builds
-not-constructor t dt s w z h e n =
-    let o = z .owner s h in
-    sym
-    (ap (λ (b : Bool). b && eqb (symbol (context t) s .result) dt)
-    (ap is-constructor (sym (role-is t s h)) ∙ role-not s (word t (128 + s)) o (λ q. n (e ∙ q))))
+module _ (t : List ℕ) (dt s w : ℕ) (h : s < symbols# t) (e : w ≡ at t OWNER s) where
+  pub not-constructor : ContextSound t → (w ≡ s + 1 → ⊥) → false ≡ builds (context t) dt s
+  unfolding builds
+  not-constructor z n =
+      sym
+      (ap (λ (b : Bool). b && eqb (symbol (context t) s .result) dt)
+      (ap is-constructor (sym (role-is t s h)) ∙ role-not s (at t OWNER s) (z .symbols s h .owner) (λ q. n (e ∙ q))))
 
-pub builds-by-result : (t : List ℕ) (dt s w r : ℕ) → s < symbols# t → w ≡ word t (128 + s) → w ≡ s + 1 → r ≡ word t (640 + s) → eqb r dt ≡ builds (context t) dt s
-unfolding builds is-constructor
-builds-by-result t dt s w r h e q p =
-    let c : is-constructor (symbol (context t) s .role) ≡ true =
-    ap is-constructor (sym (role-is t s h) ∙ sym (role-of-ctor s (word t (128 + s)) (omega arith) (omega arith))) in
-    ap (λ (x : ℕ). eqb x dt) (result-is t s r h p) ∙ ap (λ (b : Bool). b && eqb (symbol (context t) s .result) dt) (sym c)
+  pub builds-by-result : (r : ℕ) → w ≡ s + 1 → r ≡ at t RESULT s → eqb r dt ≡ builds (context t) dt s
+  unfolding builds is-constructor
+  builds-by-result r q p =
+      let c : is-constructor (symbol (context t) s .role) ≡ true =
+      ap is-constructor (sym (role-is t s h) ∙ ap (role-of s) (sym e ∙ q) ∙ ctor-role s) in
+      ap (λ (x : ℕ). eqb x dt) (p ∙ result-is t s h) ∙ ap (λ (b : Bool). b && eqb (symbol (context t) s .result) dt) (sym c)
 
--- no constructor of dt from `from` up to s
-pub record Seeking (t : List ℕ) (dt from s : ℕ) : Type 0 where
-  pub after : from ≤ s
-  pub between : (k : ℕ) → from ≤ k → k < s → builds (context t) dt k ≡ false
+module _ (t : List ℕ) (dt : ℕ) {from s n : ℕ} (e : n ≡ symbols# t) (a : from ≤ s) (w : NoneFrom (builds (context t) dt) from s) where
+  pub seek-found : s < n → true ≡ builds (context t) dt s → NextConstructor t dt from s
+  seek-found h b = let l = symbols-length t in record { after = a; within = omega arith; between = w; here = λ l. sym b }
 
-pub seek-first : (t : List ℕ) (dt from : ℕ) → Seeking t dt from from
-seek-first t dt from = record { after = omega arith; between = λ k l h. absurd (omega arith) }
+  pub seek-none : s ≤ n → n ≤ s → NextConstructor t dt from s
+  seek-none h l = let m = symbols-length t in record { after = a; within = omega arith; between = w; here = λ g. absurd (omega arith) }
 
-pub seek-next : (t : List ℕ) (dt from s : ℕ) → Seeking t dt from s → builds (context t) dt s ≡ false → Seeking t dt from (s + 1)
-seek-next t dt from s k e = record {
-  after = let a = k .after in omega arith;
-  between = λ j l h. below-more (λ (x : ℕ). from ≤ x → builds (context t) dt x ≡ false) s (λ x g f. k .between x f g) (λ f. e) j h l;
-}
+-- ---- question 10: fields
 
-pub seek-found : (t : List ℕ) (dt from s n : ℕ) → n ≡ symbols# t → Seeking t dt from s → s < n → true ≡ builds (context t) dt s → NextConstructor t dt from s
-seek-found t dt from s n e k h b = let l = symbols-length t in record { after = k .after; within = omega arith; between = k .between; here = λ l. sym b }
+-- field i of symbol s is no plain one
+abbrev pub DatatypeField : List ℕ → ℕ → ℕ → Bool
+DatatypeField t s i = not (not (is-datatype-sort (context t) (param-at t s i)))
 
-pub seek-none : (t : List ℕ) (dt from s n : ℕ) → n ≡ symbols# t → Seeking t dt from s → s ≤ n → n ≤ s → NextConstructor t dt from s
-seek-none t dt from s n e k h l = let m = symbols-length t in record { after = k .after; within = omega arith; between = k .between; here = λ g. absurd (omega arith) }
+pub field-word : (t : List ℕ) (s i : ℕ) {p r : ℕ} → p ≡ param-at t s i → p < sorts# t → r ≡ at t SORT p →
+    is-datatype-sort (context t) (param-at t s i) ≡ eqb r 1
+field-word t s i {p} {r} e h w = ap (is-datatype-sort (context t)) (sym e) ∙ sym (datatype-word t p r h w)
 
--- ---- fields
+module _ (t : List ℕ) (s n : ℕ) (h : s < symbols# t) (e : n ≡ at t ARITY s) where
+  abbrev field-test : ℕ → Bool
+  field-test f = not (not (is-datatype-sort (context t) f))
 
-pub param-is : (t : List ℕ) (s i : ℕ) → s < symbols# t → i < arity-word t s → In (word t (params-at s + i)) (symbol (context t) s .params)
-param-is t s i h l =
-    subst (In (word t (params-at s + i))) (sym (params-are t s h))
-    (subst (λ (x : ℕ). In x (words t (params-at s) (arity-word t s))) (words-at t (params-at s) (arity-word t s) i l)
-    (at-in (words t (params-at s) (arity-word t s)) i (rw length-words l)))
+  plain-fields : not (any field-test (counted (param-at t s) n)) ≡ has-plain-fields (context t) s
+  unfolding has-plain-fields
+  plain-fields =
+      sym (every-by-any (λ f. not (is-datatype-sort (context t) f)) (counted (param-at t s) n))
+      ∙ ap (every (λ f. not (is-datatype-sort (context t) f))) (ap (counted (param-at t s)) e ∙ sym (params-are t s h))
 
--- the fields below i are of other sorts
-abbrev pub PlainBelow : List ℕ → ℕ → ℕ → Type 0
-PlainBelow t s i = (k : ℕ) → k < i → is-datatype-sort (context t) (word t (params-at s + k)) ≡ false
+  pub field-is-datatype : (i : ℕ) → i < n → is-datatype-sort (context t) (param-at t s i) ≡ true → false ≡ has-plain-fields (context t) s
+  field-is-datatype i l d = sym (ap not (any-found field-test (param-at t s) n i l (ap (λ (b : Bool). not (not b)) d))) ∙ plain-fields
 
-pub field-is-datatype : (t : List ℕ) (s i n p r : ℕ) → ContextSound t → s < symbols# t → n ≡ word t (1152 + s) → i < n → p ≡ word t (8192 + 16 * s + i) → r ≡ word t (64 + p) → r ≡ 1 → false ≡ has-plain-fields (context t) s
-unfolding has-plain-fields
-field-is-datatype t s i n p r z h e l q w o =
-    let d = z .param s h i (omega arith) in
-    let b : is-datatype-sort (context t) p ≡ true = sym (datatype-word t p r (omega arith) w) ∙ eq-eqb r 1 o in
-    sym
-    (every-not (λ f. not (is-datatype-sort (context t) f)) (symbol (context t) s .params) (word t (params-at s + i)) (param-is t s i h (omega arith))
-    (ap not (ap (is-datatype-sort (context t)) (sym q) ∙ b)))
-
-pub field-is-plain : (t : List ℕ) (s i n p r : ℕ) → ContextSound t → s < symbols# t → n ≡ word t (1152 + s) → i < n → p ≡ word t (8192 + 16 * s + i) → r ≡ word t (64 + p) → (r ≡ 1 → ⊥) → is-datatype-sort (context t) (word t (params-at s + i)) ≡ false
-field-is-plain t s i n p r z h e l q w o =
-    let d = z .param s h i (omega arith) in
-    ap (is-datatype-sort (context t)) (sym q) ∙ sym (datatype-word t p r (omega arith) w) ∙ ne-eqb r 1 o
-
-pub fields-are-plain : (t : List ℕ) (s n i : ℕ) → s < symbols# t → n ≡ word t (1152 + s) → n ≤ i → PlainBelow t s i → true ≡ has-plain-fields (context t) s
-unfolding has-plain-fields
-fields-are-plain t s n i h e l b =
-    sym
-    (every-all (λ f. not (is-datatype-sort (context t) f)) (symbol (context t) s .params)
-    (λ f m. plain f (in-at (words t (params-at s) (arity-word t s)) f (subst (In f) (params-are t s h) m))))
-  where
-    plain : (f : ℕ) → (j : ℕ) × (j < length (words t (params-at s) (arity-word t s))) × (getD (words t (params-at s) (arity-word t s)) j 0 ≡ f) → not (is-datatype-sort (context t) f) ≡ true
-    plain f (j, g, q) =
-        let g′ : j < arity-word t s = subst (λ (x : ℕ). j < x) (length-words t (params-at s) (arity-word t s)) g in
-        ap not (ap (is-datatype-sort (context t)) (sym (sym (words-at t (params-at s) (arity-word t s) j g′) ∙ q)) ∙ b j (omega arith))
+  pub fields-are-plain : (i : ℕ) → n ≤ i → NoneFrom (DatatypeField t s) 0 i → true ≡ has-plain-fields (context t) s
+  fields-are-plain i l w = sym (ap not (any-missing field-test (param-at t s) n (λ k a b. w k a (omega arith)))) ∙ plain-fields
 
 -- ---- datatypes
 
--- no symbol below i is a constructor of dt with no datatype field
-abbrev pub UngroundedBelow : List ℕ → ℕ → ℕ → Type 0
-UngroundedBelow t dt i = (k : ℕ) → k < i → builds (context t) dt k ≡ true → has-plain-fields (context t) k ≡ false
+-- symbol s builds dt and has no datatype field
+unfoldable pub Grounds : List ℕ → ℕ → ℕ → Bool
+Grounds t dt s = builds (context t) dt s && has-plain-fields (context t) s
 
-pub grounded-by : (t : List ℕ) (dt s n : ℕ) → n ≡ symbols# t → s < n → true ≡ builds (context t) dt s → true ≡ has-plain-fields (context t) s → true ≡ grounded (context t) dt
-unfolding grounded dt-constructors
-grounded-by t dt s n e h b p =
-    let l = symbols-length t in
-    sym
-    (any-some (has-plain-fields (context t)) (keep (builds (context t) dt) (range 0 (length (context t .symbols)))) s
-    (in-keep (builds (context t) dt) (range 0 (length (context t .symbols))) s (in-range 0 (length (context t .symbols)) s (omega arith) (omega arith)) (true-T (builds (context t) dt s) (sym b)))
-    (sym p))
+pub not-built : (t : List ℕ) (dt s : ℕ) (r : Bool) → r ≡ builds (context t) dt s → r ≡ false → Grounds t dt s ≡ false
+unfolding Grounds
+not-built t dt s r e q = ap (λ (b : Bool). b && has-plain-fields (context t) s) (sym e ∙ q)
 
-pub not-grounded : (t : List ℕ) (dt s n : ℕ) → n ≡ symbols# t → n ≤ s → UngroundedBelow t dt s → false ≡ grounded (context t) dt
-unfolding grounded dt-constructors
-not-grounded t dt s n e h u =
-    let l = symbols-length t in
-    sym
-    (any-none (has-plain-fields (context t)) (keep (builds (context t) dt) (range 0 (length (context t .symbols))))
-    (λ x i.
-    let (j, b) = keep-in (builds (context t) dt) (range 0 (length (context t .symbols))) x i in
-    let r = range-in 0 (length (context t .symbols)) x j in
-    u x (omega arith) (T-true (builds (context t) dt x) b)))
+pub not-plain : (t : List ℕ) (dt s : ℕ) (r : Bool) → r ≡ has-plain-fields (context t) s → r ≡ false → Grounds t dt s ≡ false
+unfolding Grounds
+not-plain t dt s r e q = ap (λ (b : Bool). builds (context t) dt s && b) (sym e ∙ q) ∙ and-no (builds (context t) dt s)
 
--- the datatypes below i are grounded
-abbrev pub GroundedBelow : List ℕ → ℕ → Type 0
-GroundedBelow t i = (k : ℕ) → k < i → is-datatype-sort (context t) k ≡ true → grounded (context t) k ≡ true
+module _ (t : List ℕ) (dt n : ℕ) (e : n ≡ symbols# t) where
+  grounded-is : any (Grounds t dt) (counted (λ i. i) n) ≡ grounded (context t) dt
+  unfolding grounded dt-constructors Grounds
+  grounded-is =
+      ap (any (Grounds t dt)) (counted-range n)
+      ∙ sym (any-kept (builds (context t) dt) (has-plain-fields (context t)) (range 0 n))
+      ∙ ap (λ (m : ℕ). any (has-plain-fields (context t)) (keep (builds (context t) dt) (range 0 m))) (e ∙ sym (symbols-length t))
 
-pub one-not-grounded : (t : List ℕ) (s n r : ℕ) → n ≡ sorts# t → s < n → r ≡ word t (64 + s) → r ≡ 1 → grounded (context t) s ≡ false → false ≡ all-grounded (context t)
-unfolding all-grounded
-one-not-grounded t s n r e h w o g =
-    let l = sorts-length t in
-    let d : is-datatype-sort (context t) s ≡ true = sym (datatype-word t s r (omega arith) w) ∙ eq-eqb r 1 o in
-    sym
-    (every-not (grounded (context t)) (keep (is-datatype-sort (context t)) (range 0 (length (context t .sorts)))) s
-    (in-keep (is-datatype-sort (context t)) (range 0 (length (context t .sorts))) s (in-range 0 (length (context t .sorts)) s (omega arith) (omega arith)) (true-T (is-datatype-sort (context t) s) d)) g)
+  pub grounded-by : (s : ℕ) → s < n → true ≡ builds (context t) dt s → true ≡ has-plain-fields (context t) s →
+      true ≡ grounded (context t) dt
+  unfolding Grounds
+  grounded-by s h b p = sym (any-found (Grounds t dt) (λ i. i) n s h (sym (ap₂ (λ (x y : Bool). x && y) b p))) ∙ grounded-is
 
-pub each-grounded : (t : List ℕ) (s n : ℕ) → n ≡ sorts# t → n ≤ s → GroundedBelow t s → true ≡ all-grounded (context t)
-unfolding all-grounded
-each-grounded t s n e h g =
-    let l = sorts-length t in
-    sym
-    (every-all (grounded (context t)) (keep (is-datatype-sort (context t)) (range 0 (length (context t .sorts))))
-    (λ x i.
-    let (j, b) = keep-in (is-datatype-sort (context t)) (range 0 (length (context t .sorts))) x i in
-    let r = range-in 0 (length (context t .sorts)) x j in
-    g x (omega arith) (T-true (is-datatype-sort (context t) x) b)))
+  pub not-grounded : (s : ℕ) → n ≤ s → NoneFrom (Grounds t dt) 0 s → false ≡ grounded (context t) dt
+  not-grounded s h w = sym (any-missing (Grounds t dt) (λ i. i) n (λ k a b. w k a (omega arith))) ∙ grounded-is
 
-pub other-sort : (t : List ℕ) (s r : ℕ) → s < sorts# t → r ≡ word t (64 + s) → (r ≡ 1 → ⊥) → is-datatype-sort (context t) s ≡ true → grounded (context t) s ≡ true
-other-sort t s r h w o d = absurd (true≢false (sym d ∙ sym (datatype-word t s r h w) ∙ ne-eqb r 1 o))
+-- sort s is a datatype that is not grounded
+unfoldable pub Ungrounded : List ℕ → ℕ → Bool
+Ungrounded t s = is-datatype-sort (context t) s && not (grounded (context t) s)
 
--- ---- argument places
+pub other-sort : (t : List ℕ) (s r : ℕ) → s < sorts# t → r ≡ at t SORT s → (r ≡ 1 → ⊥) → Ungrounded t s ≡ false
+unfolding Ungrounded
+other-sort t s r h e n = ap (λ (b : Bool). b && not (grounded (context t) s)) (sym (datatype-word t s r h e) ∙ ne-eqb r 1 n)
 
-pub place-word : (t : List ℕ) (n r : ℕ) → ContextSound t → n ≡ terms# t → r ≡ word t (2688 + n) → (r ≡ places (context t)) × (r ≤ 4096)
-place-word t n r z e w =
-    let p = places-are t z in
-    let q : r ≡ offset t (terms# t) = w ∙ ap (offset t) e in
-    let f = z .places-fit in
-    (q ∙ sym p, omega arith)
+pub is-grounded : (t : List ℕ) (s : ℕ) (r : Bool) → r ≡ grounded (context t) s → not r ≡ false → Ungrounded t s ≡ false
+unfolding Ungrounded
+is-grounded t s r e q =
+    ap (λ (b : Bool). is-datatype-sort (context t) s && b) (sym (ap not e) ∙ q) ∙ and-no (is-datatype-sort (context t) s)
+
+module _ (t : List ℕ) (n : ℕ) (e : n ≡ sorts# t) where
+  all-grounded-is : not (any (Ungrounded t) (counted (λ i. i) n)) ≡ all-grounded (context t)
+  unfolding all-grounded Ungrounded
+  all-grounded-is =
+      ap not
+      (ap (any (Ungrounded t)) (counted-range n)
+      ∙ sym (any-kept (is-datatype-sort (context t)) (λ s. not (grounded (context t) s)) (range 0 n)))
+      ∙ sym (every-by-any (grounded (context t)) (keep (is-datatype-sort (context t)) (range 0 n)))
+      ∙ ap (λ (m : ℕ). every (grounded (context t)) (keep (is-datatype-sort (context t)) (range 0 m))) (e ∙ sym (sorts-length t))
+
+  pub one-not-grounded : (s : ℕ) → s < n → is-datatype-sort (context t) s ≡ true → grounded (context t) s ≡ false →
+      false ≡ all-grounded (context t)
+  unfolding Ungrounded
+  one-not-grounded s h d g =
+      sym (ap not (any-found (Ungrounded t) (λ i. i) n s h (ap₂ (λ (x y : Bool). x && not y) d g))) ∙ all-grounded-is
+
+  pub each-grounded : (s : ℕ) → n ≤ s → NoneFrom (Ungrounded t) 0 s → true ≡ all-grounded (context t)
+  each-grounded s h w = sym (ap not (any-missing (Ungrounded t) (λ i. i) n (λ k a b. w k a (omega arith)))) ∙ all-grounded-is

@@ -1,16 +1,16 @@
 -- Search loops: a loop goes up from a number and stops at the first that passes a test. One invariant, none below i passes, and what it
 -- says of a counted list: whether any or every entry passes, and which is the first.
 use Prim.Native.Nat.{ℕ, zero, suc, _+_, _-_, _≤_, _<_}
-use mathlib.Core.Path.{_≡_, refl, sym, ap, ap₂, _∙_}
-use mathlib.Core.Bool.{Bool, true, false, cond, not, _&&_, _||_}
+use mathlib.Core.Path.{_≡_, refl, sym, ap, _∙_}
+use mathlib.Core.Bool.{Bool, true, false, cond, not, _&&_}
 use mathlib.Core.List.{List, [], _∷_, map}
-use mathlib.Core.Option.{Option, none, some}
+use mathlib.Core.Option.{none, some}
 use native.Mathlib.Nat.{zero-add, add-zero, add-suc, suc-add}
 use native.Mathlib.Omega.{arith}
 use borrow.Author.Count.{below-more}
 use Rattle.core.specs.Lists.{keep, every, any, place-from, range}
 use Rattle.core.specs.Memory.Words.{counted}
-use Rattle.core.proofs.Lists.{cond-same, cond-both}
+use Rattle.core.proofs.Lists.{cond-both}
 
 -- none of the numbers from one on up to i passes
 abbrev pub NoneFrom : (ℕ → Bool) → ℕ → ℕ → Type 0
@@ -98,6 +98,7 @@ module _ {A : Type 0} where
   any-kept p q [] = refl
   any-kept p q (x ∷ xs) = go (p x) (any-kept p q xs)
     where
-      go : (b : Bool) → any q (keep p xs) ≡ any (λ y. p y && q y) xs → any q (cond b (x ∷ keep p xs) (keep p xs)) ≡ cond (b && q x) true (any (λ y. p y && q y) xs)
+      go : (b : Bool) → any q (keep p xs) ≡ any (λ y. p y && q y) xs →
+          any q (cond b (x ∷ keep p xs) (keep p xs)) ≡ cond (b && q x) true (any (λ y. p y && q y) xs)
       go true h = ap (λ (r : Bool). cond (q x) true r) h
       go false h = h

@@ -3,7 +3,7 @@
 use Prim.Native.Nat.{ℕ, _+_, _≤_, _<_}
 use mathlib.Core.Path.{_≡_, refl, sym, ap, _∙_, subst}
 use mathlib.Core.Logic.{_⊎_, inl, inr}
-use mathlib.Core.Bool.{Bool, true, false, cond, _||_, _&&_}
+use mathlib.Core.Bool.{Bool, true, false, cond, _||_}
 use mathlib.Core.List.{List, [], _∷_}
 use native.Mathlib.Decide.{ℕ-discrete}
 use native.Mathlib.Omega.{arith}
@@ -11,8 +11,8 @@ use borrow.Author.Tests.{eq-eqb, ne-eqb, eqb-true}
 use lib.Dec.{T, eqb, leb, leb→le}
 use lib.ListN.{length, getD, length-set}
 use lib.Seq.{getD-set-same, getD-set-other, length-sets, sets}
-use Rattle.core.specs.Memory.Words.{at, put, put-all, apart, clear-of, one-of, Kept}
-use Rattle.core.proofs.Lists.{T-and, getD-sets-in, getD-sets-out}
+use Rattle.core.specs.Memory.Words.{at, put, put-all, apart, clear-of, one-of, among, Kept}
+use Rattle.core.proofs.Lists.{T-and, T-both, getD-sets-in, getD-sets-out}
 
 pub length-put : (t : List ℕ) (b x v : ℕ) → length (put t b x v) ≡ length t
 unfolding put
@@ -25,6 +25,17 @@ length-put-all t b x vs = length-sets t (b + x) vs
 pub other-place : (t : List ℕ) (b x y v : ℕ) → (y ≡ x → ⊥) → at (put t b x v) b y ≡ at t b y
 unfolding at put
 other-place t b x y v d = getD-set-other t (b + x) (b + y) v 0 (λ e. d (omega arith))
+
+pub earlier : (t : List ℕ) (b x y v : ℕ) → y < x → at (put t b x v) b y ≡ at t b y
+earlier t b x y v h = other-place t b x y v (omega arith)
+
+pub later : (t : List ℕ) (b x y v : ℕ) → x < y → at (put t b x v) b y ≡ at t b y
+later t b x y v h = other-place t b x y v (omega arith)
+
+-- a run of stores leaves what stands before it
+pub all-before : (t : List ℕ) (b x : ℕ) (vs : List ℕ) (k : ℕ) → k < x → at (put-all t b x vs) b k ≡ at t b k
+unfolding at put-all
+all-before t b x vs k h = getD-sets-out t (b + x) vs (b + k) 0 (inl (omega arith))
 
 module _ (room : ℕ → ℕ) where
   -- the places of regions that lie apart are ordered
@@ -45,7 +56,8 @@ module _ (room : ℕ → ℕ) where
       differ (inr l) e = omega arith
 
   -- and so does a run of stores
-  pub all-other : (t : List ℕ) (b c x y : ℕ) (vs : List ℕ) → T (apart room b c) → x < room b → y + length vs ≤ room c → at (put-all t c y vs) b x ≡ at t b x
+  pub all-other : (t : List ℕ) (b c x y : ℕ) (vs : List ℕ) → T (apart room b c) → x < room b → y + length vs ≤ room c →
+      at (put-all t c y vs) b x ≡ at t b x
   unfolding at put-all
   all-other t b c x y vs a h k = getD-sets-out t (c + y) vs (b + x) 0 (outside (ordered b c a))
     where
@@ -61,15 +73,22 @@ module _ (room : ℕ → ℕ) where
       let (here, there) = T-and (apart room b w) (clear-of room b ws) a in
       go (eqb c w) refl here (clear-apart b c ws there) m
     where
-      go : (d : Bool) → eqb c w ≡ d → T (apart room b w) → (T (one-of c ws) → T (apart room b c)) → T (cond d true (one-of c ws)) → T (apart room b c)
+      go : (d : Bool) → eqb c w ≡ d → T (apart room b w) → (T (one-of c ws) → T (apart room b c)) → T (cond d true (one-of c ws)) →
+          T (apart room b c)
       go true e h f n = subst (λ (k : ℕ). T (apart room b k)) (sym (eqb-true c w e)) h
       go false e h f n = f n
 
   pub kept-none : (ws t : List ℕ) → Kept room ws t t
   kept-none ws t = record { long = refl; rest = λ b x a h. refl }
 
-  pub kept-then : (ws t u v : List ℕ) → Kept room ws t u → Kept room ws u v → Kept room ws t v
-  kept-then ws t u v p q = record { long = q .long ∙ p .long; rest = λ b x a h. q .rest b x a h ∙ p .rest b x a h }
+  clear-fewer : (b : ℕ) (ws vs : List ℕ) → T (among ws vs) → T (clear-of room b vs) → T (clear-of room b ws)
+  clear-fewer b [] vs m a = tt
+  clear-fewer b (w ∷ ws) vs m a =
+      let (here, there) = T-and (one-of w vs) (among ws vs) m in
+      T-both (apart room b w) (clear-of room b ws) (clear-apart b w vs a here) (clear-fewer b ws vs there a)
+
+  pub kept-more : (ws vs t u : List ℕ) → T (among ws vs) → Kept room ws t u → Kept room vs t u
+  kept-more ws vs t u m p = record { long = p .long; rest = λ b x a h. p .rest b x (clear-fewer b ws vs m a) h }
 
   pub kept-put : (ws t u : List ℕ) (c y v : ℕ) → T (one-of c ws) → y < room c → Kept room ws t u → Kept room ws t (put u c y v)
   kept-put ws t u c y v m k p = record {
@@ -77,12 +96,20 @@ module _ (room : ℕ → ℕ) where
     rest = λ b x a h. other-region u b c x y v (clear-apart b c ws a m) h k ∙ p .rest b x a h;
   }
 
+  pub kept-put-all : (ws t u : List ℕ) (c y : ℕ) (vs : List ℕ) → T (one-of c ws) → y + length vs ≤ room c → Kept room ws t u →
+      Kept room ws t (put-all u c y vs)
+  kept-put-all ws t u c y vs m k p = record {
+    long = length-put-all u c y vs ∙ p .long;
+    rest = λ b x a h. all-other u b c x y vs (clear-apart b c ws a m) h k ∙ p .rest b x a h;
+  }
+
   module _ (size : ℕ) where
     pub same-place : (t : List ℕ) (b x v : ℕ) → T (leb (b + room b) size) → size ≤ length t → x < room b → at (put t b x v) b x ≡ v
     unfolding at put
     same-place t b x v f l h = let m = leb→le (b + room b) size f in getD-set-same t (b + x) v 0 (omega arith)
 
-    pub same-region : (t : List ℕ) (b x y v : ℕ) → T (leb (b + room b) size) → size ≤ length t → x < room b → at (put t b x v) b y ≡ cond (eqb y x) v (at t b y)
+    pub same-region : (t : List ℕ) (b x y v : ℕ) → T (leb (b + room b) size) → size ≤ length t → x < room b →
+        at (put t b x v) b y ≡ cond (eqb y x) v (at t b y)
     same-region t b x y v f l h = go (ℕ-discrete y x)
       where
         go : Dec (y ≡ x) → at (put t b x v) b y ≡ cond (eqb y x) v (at t b y)
@@ -92,16 +119,14 @@ module _ (room : ℕ → ℕ) where
     pub put-long : (t : List ℕ) (b x v : ℕ) → size ≤ length t → size ≤ length (put t b x v)
     put-long t b x v l = let e = length-put t b x v in omega arith
 
-    -- a run of stores: its own words, and those of its region before and behind it
-    pub all-same : (t : List ℕ) (b x : ℕ) (vs : List ℕ) (k : ℕ) → T (leb (b + room b) size) → size ≤ length t → x + length vs ≤ room b → k < length vs → at (put-all t b x vs) b (x + k) ≡ at vs 0 k
+    pub put-all-long : (t : List ℕ) (b x : ℕ) (vs : List ℕ) → size ≤ length t → size ≤ length (put-all t b x vs)
+    put-all-long t b x vs l = let e = length-put-all t b x vs in omega arith
+
+    -- a run of stores: its own words
+    pub all-same : (t : List ℕ) (b x : ℕ) (vs : List ℕ) (k : ℕ) → T (leb (b + room b) size) → size ≤ length t → x + length vs ≤ room b →
+        k < length vs → at (put-all t b x vs) b (x + k) ≡ getD vs k 0
     unfolding at put-all
     all-same t b x vs k f l h g =
         let m = leb→le (b + room b) size f in
         let e : b + (x + k) ≡ b + x + k = omega arith in
-        let z : k ≡ 0 + k = omega arith in
-        ap (λ (i : ℕ). getD (sets t (b + x) vs) i 0) e ∙ getD-sets-in t (b + x) vs k 0 g (omega arith) ∙ ap (λ (i : ℕ). getD vs i 0) z
-
-    pub all-outside : (t : List ℕ) (b x : ℕ) (vs : List ℕ) (k : ℕ) → (k < x) ⊎ (x + length vs ≤ k) → at (put-all t b x vs) b k ≡ at t b k
-    unfolding at put-all
-    all-outside t b x vs k (inl h) = getD-sets-out t (b + x) vs (b + k) 0 (inl (omega arith))
-    all-outside t b x vs k (inr h) = getD-sets-out t (b + x) vs (b + k) 0 (inr (omega arith))
+        ap (λ (i : ℕ). getD (sets t (b + x) vs) i 0) e ∙ getD-sets-in t (b + x) vs k 0 g (omega arith)

@@ -1,7 +1,7 @@
 -- What the code's enums mean in the definition.
 use Prim.Native.Nat.{ℕ, _<_}
 use mathlib.Core.Bool.{Bool, true, false, cond}
-use lib.ListN.{length, getD}
+use lib.ListN.{length}
 use mathlib.Core.Path.{_≡_}
 use mathlib.Core.List.{List}
 use Rattle.core.specs.Term as Term
@@ -54,10 +54,6 @@ made-answer m = cond (terms-fit (m .context)) (Made.the-variants.At (record { 0 
 -- no room changes nothing
 unfoldable pub made-context : Context → Context.Made → Context
 made-context cx m = cond (terms-fit (m .context)) (m .context) cx
-
--- every number of a list is below n
-abbrev pub AllBelow : ℕ → List ℕ → Type 0
-AllBelow n xs = (j : ℕ) → j < length xs → getD xs j 0 < n
 
 -- t is the table before, u the table after
 pub record MkApp (t : List ℕ) (o : Term.Op) (args : List ℕ) (r : Made.Made) (u : List ℕ) : Type 0 where

@@ -42,6 +42,11 @@ abbrev pub one-of : ℕ → List ℕ → Bool
 one-of c [] = false
 one-of c (w ∷ ws) = cond (eqb c w) true (one-of c ws)
 
+-- each of some regions is one of others
+abbrev pub among : List ℕ → List ℕ → Bool
+among [] vs = true
+among (w ∷ ws) vs = one-of w vs && among ws vs
+
 -- u is t but for words of some regions
 pub record Kept (room : ℕ → ℕ) (written t u : List ℕ) : Type 0 where
   pub long : length u ≡ length t

@@ -4,7 +4,7 @@ use native.Mathlib.Omega.{arith}
 use mathlib.Core.List.{List, [], _∷_}
 use lib.ListN.{take}
 use borrow.Author.Needs.{needs}
-use Rattle.core.specs.Memory.Codes.{AllBelow}
+use Rattle.core.specs.Memory.Table.{AllBelow}
 use Rattle.core_main.proofs.with_lists.Statement.{statement}
 use Rattle.core_main.proofs.with_lists.Tie as tie
 

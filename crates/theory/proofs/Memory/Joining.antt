@@ -1,44 +1,58 @@
 -- Two classes joined under a given label, or one class left as it is.
 use Prim.Native.Nat.{ℕ, suc, _+_, _-_, _≤_, _<_}
 use mathlib.Core.Path.{_≡_, refl, sym, subst, ap, ap₂, _∙_}
-use mathlib.Core.Bool.{Bool, true, false, cond}
+use mathlib.Core.Bool.{Bool, true, false, cond, true≢false}
 use mathlib.Core.List.{List, [], _∷_, map}
 use native.Mathlib.Omega.{arith}
-use native.Mathlib.Nat.{add-zero}
+use native.Mathlib.Nat.{add-zero, zero-add}
+use borrow.Author.Count.{below-more}
+use borrow.Author.Tests.{ne-eqb}
+use lib.Dec.{eqb, lit<}
 use lib.ListN.{length}
+use Rattle.core.specs.Limits.{max-terms, max-pairs}
 use Rattle.core.specs.Lists.{In, range, zip}
-use Rattle.core.specs.Memory.Table.{word}
+use Rattle.core.specs.Memory.Words.{at, put, Kept}
+use Rattle.core.proofs.Memory.Stores.{kept-none, kept-put}
 use Rattle.theory.specs.Types.{EqJust, Asserted, Congruence, Interface}
 use Rattle.theory.specs.declared.types.EqJust as Given
 use Rattle.theory.specs.declared.eq_engine.LabelWords as LabelWords
 use Rattle.theory.specs.EqEngine.{Merge, are-equal, merge, pairs-of, pairs-in-force, way}
-use Rattle.theory.specs.Memory.Table.{merges#, level-word, left-word, right-word, label, begins, merges, just-meaning, EqualPairs, EngineSound}
-use Rattle.theory.specs.Memory.Steps.{SameLog, Joinable, HoldsLabel, Copied}
-use Rattle.theory.proofs.Memory.Pairs.{pairs-more, after-within}
-use Rattle.theory.proofs.Memory.Shorter.{edge-kept, Shortened, shorter-sound, shorter-merges}
+use Rattle.theory.specs.Memory.Replay.{IsNode, EqualPairs}
+use Rattle.theory.specs.Memory.Table.{engine-size, COUNTS, MERGES, LEVEL, PARENT, SIZE, LEFT, RIGHT, engine-room, merges#, level-word, left-word, right-word, pair-at, kind-unit, label, begins, merges, just-meaning, EngineSound, Engine, TwoNodes, Merges, Congruent}
+use Rattle.theory.specs.Memory.Steps.{SamePairs, SameLog, Joinable, HoldsLabel, PairRoom, Copied}
+use Rattle.theory.proofs.Memory.EngineStores.{stores}
+use Rattle.theory.proofs.Memory.Log.{pairs-more, after-within}
+use Rattle.theory.proofs.Memory.SoundTables.{edge-kept, Shortened, shorter-sound, shorter-merges}
 
 -- ---- the list
-
--- what a merge asks of the table after it
-abbrev pub Merged : List ℕ → List ℕ → ℕ → ℕ → EqJust → Type 0
-Merged t u a b j = EngineSound u × (merges u ≡ merge (merges t) (level-word t) a b j) × (level-word u ≡ level-word t)
 
 merge-one : (ms : List Merge) (l a b : ℕ) (j : EqJust) → are-equal ms a b ≡ true → merge ms l a b j ≡ ms
 unfolding merge
 merge-one ms l a b j e = ap (λ (d : Bool). cond d ms (record { a = a; b = b; just = j; level = l } ∷ ms)) e
 
-merge-two : (ms : List Merge) (l a b : ℕ) (j : EqJust) → are-equal ms a b ≡ false → merge ms l a b j ≡ record { a = a; b = b; just = j; level = l } ∷ ms
+merge-two : {ms : List Merge} {a b : ℕ} (l : ℕ) (j : EqJust) → are-equal ms a b ≡ false → merge ms l a b j ≡ record { a = a; b = b; just = j; level = l } ∷ ms
 unfolding merge
-merge-two ms l a b j e = ap (λ (d : Bool). cond d ms (record { a = a; b = b; just = j; level = l } ∷ ms)) e
+merge-two {ms} {a} {b} l j e = ap (λ (d : Bool). cond d ms (record { a = a; b = b; just = j; level = l } ∷ ms)) e
 
 -- within one class nothing changes
-pub merged-one : (t : List ℕ) (a b : ℕ) (j : EqJust) → EngineSound t → are-equal (merges t) a b ≡ true → Merged t t a b j
-merged-one t a b j z e = (z, sym (merge-one (merges t) (level-word t) a b j e), refl)
+pub merged-one : {t : List ℕ} {a b : ℕ} {r : Bool} (j : EqJust) → TwoNodes t a b → r ≡ are-equal (merges t) a b → r ≡ true → Merges t t a b j
+merged-one {t} {a} {b} j s p e = record {
+  engine = record { sound = s .sound; log = sym (merge-one (merges t) (level-word t) a b j (sym p ∙ e)); at-level = refl };
+  unchanged = λ q. refl;
+}
 
 -- what a join ensures, as a merge
-merged-two : (t u : List ℕ) (a b : ℕ) (i j : EqJust) → are-equal (merges t) a b ≡ false → i ≡ j → EngineSound u × (merges u ≡ record { a = a; b = b; just = i; level = level-word t } ∷ merges t) × (level-word u ≡ level-word t) → Merged t u a b j
-merged-two t u a b i j e q (z, m, l) =
-    (z, m ∙ ap (λ (k : EqJust). record { a = a; b = b; just = k; level = level-word t } ∷ merges t) q ∙ sym (merge-two (merges t) (level-word t) a b j e), l)
+merged-two : {t u : List ℕ} {a b : ℕ} (i j : EqJust) → are-equal (merges t) a b ≡ false → i ≡ j → Engine u (record { a = a; b = b; just = i; level = level-word t } ∷ merges t) (level-word t) → Merges t u a b j
+merged-two {t} {u} {a} {b} i j e q g = record {
+  engine = record {
+    sound = g .sound;
+    log =
+        g .log ∙ ap (λ (k : EqJust). record { a = a; b = b; just = k; level = level-word t } ∷ merges t) q
+        ∙ sym (merge-two (level-word t) j e);
+    at-level = g .at-level;
+  };
+  unchanged = λ r. absurd (true≢false (sym r ∙ e));
+}
 
 -- ---- a label without pairs
 
@@ -46,49 +60,108 @@ module _ (t : List ℕ) (n : ℕ) where
   -- what the words of such a label are
   record Plain (j : Given.EqJust) (kind h v : ℕ) : Type 0 where
     known : kind < 3
-    theory : h < 65536
+    theory : h < kind-unit
     value : v < 4294967296
     start : begins kind v n ≡ n
     none : pairs-of (label t kind h v n) ≡ []
     is : label t kind h v n ≡ just-meaning j
 
   plain : (j : Given.EqJust) (w : LabelWords.LabelWords) → HoldsLabel j w → Plain j (w .kind) (w .theory) (w .value)
-  unfolding HoldsLabel label begins pairs-of just-meaning
-  plain (Given.the-variants.Asserted l) w (p, q, r, b) = record {
-    known = omega arith;
-    theory = omega arith;
-    value = b;
-    start = ap (λ (k : ℕ). begins k (w .value) n) p;
-    none = ap (λ (k : ℕ). pairs-of (label t k (w .theory) (w .value) n)) p;
-    is = ap (λ (k : ℕ). label t k (w .theory) (w .value) n) p ∙ ap Asserted r;
-  }
-  plain (Given.the-variants.Interface k) w (p, q, r, d, b) = record {
-    known = omega arith;
-    theory = d;
-    value = b;
-    start = ap (λ (i : ℕ). begins i (w .value) n) p;
-    none = ap (λ (i : ℕ). pairs-of (label t i (w .theory) (w .value) n)) p;
-    is = ap (λ (i : ℕ). label t i (w .theory) (w .value) n) p ∙ ap₂ Interface q r;
-  }
+  unfolding label begins pairs-of just-meaning
+  plain (Given.the-variants.Asserted l) w s =
+      let k = s .kind in
+      let h = s .theory in
+      record {
+        known = omega arith;
+        theory = omega arith;
+        value = s .fits;
+        start = ap (λ (i : ℕ). begins i (w .value) n) k;
+        none = ap (λ (i : ℕ). pairs-of (label t i (w .theory) (w .value) n)) k;
+        is = ap (λ (i : ℕ). label t i (w .theory) (w .value) n) k ∙ ap Asserted (s .value);
+      }
+  plain (Given.the-variants.Interface g) w s =
+      let k = s .kind in
+      record {
+        known = omega arith;
+        theory = s .known;
+        value = s .fits;
+        start = ap (λ (i : ℕ). begins i (w .value) n) k;
+        none = ap (λ (i : ℕ). pairs-of (label t i (w .theory) (w .value) n)) k;
+        is = ap (λ (i : ℕ). label t i (w .theory) (w .value) n) k ∙ ap₂ Interface (s .theory) (s .value);
+      }
 
-pub joinable-label : (t : List ℕ) (a b n : ℕ) (j : Given.EqJust) (w : LabelWords.LabelWords) → a < 1024 → b < 1024 → are-equal (merges t) a b ≡ false → n ≡ pairs-in-force (merges t) → n ≤ 2048 → HoldsLabel j w → Joinable t a b (w .kind) (w .theory) (w .value) n
-joinable-label t a b n j w na nb two p top h =
-    let c = plain t n j w h in
-    let s = c .start in
+module _ {t : List ℕ} {a b : ℕ} {r : Bool} (n : ℕ) (j : Given.EqJust) (w : LabelWords.LabelWords) (h : HoldsLabel j w) (q : r ≡ are-equal (merges t) a b) (two : r ≡ false) where
+  pub joinable-label : TwoNodes t a b → n ≡ pairs-in-force (merges t) → n ≤ max-pairs → Joinable t a b (w .kind) (w .theory) (w .value) n
+  joinable-label s p top =
+      let c = plain t n j w h in
+      let start = c .start in
+      record {
+        sound = s .sound;
+        nodes = (s .first, s .second);
+        two = sym q ∙ two;
+        known = c .known;
+        theory = c .theory;
+        value = c .value;
+        start = start ∙ p;
+        ordered = omega arith;
+        fit = top;
+        pairs = λ x i. absurd (subst (λ (ps : List (ℕ × ℕ)). In x ps) (c .none) i);
+      }
+
+  pub merged-label : {u : List ℕ} → Engine u (record { a = a; b = b; just = label t (w .kind) (w .theory) (w .value) n; level = level-word t } ∷ merges t) (level-word t) → Merges t u a b (just-meaning j)
+  merged-label = merged-two (label t (w .kind) (w .theory) (w .value) n) (just-meaning j) (sym q ∙ two) (plain t n j w h .is)
+
+-- ---- argument pairs written one after the other
+
+-- the first i pairs are written
+pub record CopyingPairs (t₀ t : List ℕ) (start : ℕ) (xs ys : List ℕ) (i : ℕ) : Type 0 where
+  pub within : i ≤ length xs
+  pub room : PairRoom t₀ start xs ys
+  pub long : engine-size ≤ length t
+  pub kept : Kept engine-room (LEFT ∷ RIGHT ∷ []) t₀ t
+  pub older : SamePairs t₀ t start
+  pub new : (j : ℕ) → j < i → (left-word t (start + j) ≡ at xs 0 j) × (right-word t (start + j) ≡ at ys 0 j)
+
+pub copying-first : {t : List ℕ} {start : ℕ} {xs ys : List ℕ} → PairRoom t start xs ys → CopyingPairs t t start xs ys 0
+copying-first {t} r = record {
+  within = omega arith;
+  room = r;
+  long = r .long;
+  kept = kept-none engine-room (LEFT ∷ RIGHT ∷ []) t;
+  older = λ j h. (refl, refl);
+  new = λ j h. absurd (omega arith);
+}
+
+pub copying-next : {t₀ t u v : List ℕ} {start : ℕ} {xs ys : List ℕ} {i x y : ℕ} → CopyingPairs t₀ t start xs ys i → i < length xs → x ≡ at xs 0 i → y ≡ at ys 0 i → u ≡ put t LEFT (start + i) x → v ≡ put u RIGHT (start + i) y → CopyingPairs t₀ v start xs ys (i + 1)
+copying-next {t₀} {t} {u} {v} {start} {xs} {ys} {i} {x} {y} c h p q e g =
+    let l = c .long in
+    let ws = LEFT ∷ RIGHT ∷ [] in
     record {
-      nodes = (na, nb);
-      two = two;
-      known = c .known;
-      theory = c .theory;
-      value = c .value;
-      start = c .start ∙ p;
-      ordered = omega arith;
-      fit = top;
-      pairs = λ q i. absurd (subst (λ (ps : List (ℕ × ℕ)). In q ps) (c .none) i);
+      within = omega arith;
+      room = c .room;
+      long = search (g, e, stores);
+      kept = rw (g, e)
+          (kept-put engine-room ws t₀ (put t LEFT (start + i) x) RIGHT (start + i) y tt here
+          (kept-put engine-room ws t₀ t LEFT (start + i) x tt here (c .kept)));
+      older = λ j b. let a = there j (omega arith) in let d = c .older j b in (a .0 ∙ d .0, a .1 ∙ d .1);
+      new = below-more (λ j. (left-word v (start + j) ≡ at xs 0 j) × (right-word v (start + j) ≡ at ys 0 j)) i
+          (λ j b. let a = there (start + j) (omega arith) in let d = c .new j b in (a .0 ∙ d .0, a .1 ∙ d .1))
+          (let k = here in search (g, e, p, q, stores));
     }
+  where
+    here : start + i < max-pairs
+    here = let f = c .room .fit in omega arith
 
-pub merged-label : (t u : List ℕ) (a b n : ℕ) (j : Given.EqJust) (w : LabelWords.LabelWords) → are-equal (merges t) a b ≡ false → HoldsLabel j w → EngineSound u × (merges u ≡ record { a = a; b = b; just = label t (w .kind) (w .theory) (w .value) n; level = level-word t } ∷ merges t) × (level-word u ≡ level-word t) → Merged t u a b (just-meaning j)
-merged-label t u a b n j w e h r = merged-two t u a b (label t (w .kind) (w .theory) (w .value) n) (just-meaning j) e (plain t n j w h .is) r
+    there : (j : ℕ) → j < start + i → (left-word v j ≡ left-word t j) × (right-word v j ≡ right-word t j)
+    there j b =
+        let k = here in
+        let l = c .long in
+        let w : j < max-pairs = omega arith in
+        let d : eqb j (start + i) ≡ false = ne-eqb j (start + i) (omega arith) in
+        search (g, e, d, stores)
+
+pub copying-done : {t₀ t : List ℕ} {start : ℕ} {xs ys : List ℕ} {i : ℕ} → CopyingPairs t₀ t start xs ys i → length xs ≤ i → Copied t₀ t start xs ys
+copying-done c h = record { kept = c .kept; older = c .older; new = λ j k. c .new j (omega arith) }
 
 -- ---- a label of pairs
 
@@ -99,105 +172,107 @@ zip-length (x ∷ xs) [] e = absurd (omega arith)
 zip-length (x ∷ xs) (y ∷ ys) e = ap suc (zip-length xs ys (omega arith))
 
 -- a merge whose pairs fit leaves room for them
-pub pairs-room : (ms : List Merge) (l a b start : ℕ) (xs ys : List ℕ) → are-equal ms a b ≡ false → pairs-in-force (merge ms l a b (Congruence (zip xs ys))) ≤ 2048 → length xs ≡ length ys → start ≡ pairs-in-force ms → start + length xs ≤ 2048
+pub pairs-room : {t : List ℕ} {a b start : ℕ} {xs ys : List ℕ} {r : Bool} → Congruent t a b xs ys → r ≡ are-equal (merges t) a b → r ≡ false → start ≡ pairs-in-force (merges t) → PairRoom t start xs ys
 unfolding pairs-of
-pairs-room ms l a b start xs ys two f e p =
-    let q = ap pairs-in-force (merge-two ms l a b (Congruence (zip xs ys)) two) ∙ pairs-more (record { a = a; b = b; just = Congruence (zip xs ys); level = l }) ms in
-    let z = zip-length xs ys e in
-    omega arith
+pairs-room {t} {a} {b} {start} {xs} {ys} s q two p =
+    let j = Congruence (zip xs ys) in
+    let l = level-word t in
+    let more = ap pairs-in-force (merge-two l j (sym q ∙ two)) ∙ pairs-more (record { a = a; b = b; just = j; level = l }) (merges t) in
+    let n = zip-length xs ys (s .same-count) in
+    let f = s .fit in
+    record { long = s .nodes .sound .long; same-count = s .same-count; fit = omega arith }
 
 -- and pairs for which there is room fit
-pub room-pairs : (ms : List Merge) (l a b : ℕ) (xs ys : List ℕ) → length xs ≡ length ys → pairs-in-force ms + length xs ≤ 2048 → pairs-in-force (merge ms l a b (Congruence (zip xs ys))) ≤ 2048
+pub room-pairs : (ms : List Merge) (l a b : ℕ) (xs ys : List ℕ) → length xs ≡ length ys → pairs-in-force ms + length xs ≤ max-pairs → pairs-in-force (merge ms l a b (Congruence (zip xs ys))) ≤ max-pairs
 unfolding merge pairs-of
 room-pairs ms l a b xs ys e f = go (are-equal ms a b)
   where
-    go : (d : Bool) → pairs-in-force (cond d ms (record { a = a; b = b; just = Congruence (zip xs ys); level = l } ∷ ms)) ≤ 2048
+    go : (d : Bool) → pairs-in-force (cond d ms (record { a = a; b = b; just = Congruence (zip xs ys); level = l } ∷ ms)) ≤ max-pairs
     go true = omega arith
     go false = omega (arith, zip-length xs ys e, pairs-more (record { a = a; b = b; just = Congruence (zip xs ys); level = l }) ms)
 
 -- pairs by their places
-module _ (f g : ℕ → ℕ) where
-  zip-words : (xs ys : List ℕ) (k : ℕ) → length xs ≡ length ys → ((j : ℕ) → j < length xs → (f (k + j) ≡ word xs j) × (g (k + j) ≡ word ys j)) → map (λ j. (f j, g j)) (range k (length xs)) ≡ zip xs ys
-  unfolding zip range
-  zip-words [] ys k e h = refl
-  zip-words (x ∷ xs) [] k e h = absurd (omega arith)
-  zip-words (x ∷ xs) (y ∷ ys) k e h =
-      let a = h 0 (omega arith) in
-      ap₂ (λ (p : ℕ × ℕ) (ps : List (ℕ × ℕ)). p ∷ ps)
-      (ap₂ (λ (p q : ℕ). (p, q)) (ap f (sym (add-zero k)) ∙ a .0) (ap g (sym (add-zero k)) ∙ a .1))
-      (zip-words xs ys (suc k) (omega arith) (λ j l.
-      let q : suc k + j ≡ k + suc j = omega arith in
-      let b = h (suc j) (omega arith) in
-      (ap f q ∙ b .0, ap g q ∙ b .1)))
+zip-words : (f g : ℕ → ℕ) (xs ys : List ℕ) (k : ℕ) → length xs ≡ length ys → ((j : ℕ) → j < length xs → (f (k + j) ≡ at xs 0 j) × (g (k + j) ≡ at ys 0 j)) → map (λ j. (f j, g j)) (range k (length xs)) ≡ zip xs ys
+unfolding zip range at
+zip-words f g [] ys k e h = refl
+zip-words f g (x ∷ xs) [] k e h = absurd (omega arith)
+zip-words f g (x ∷ xs) (y ∷ ys) k e h =
+    let a = h 0 (omega arith) in
+    ap₂ (λ (p : ℕ × ℕ) (ps : List (ℕ × ℕ)). p ∷ ps)
+    (ap₂ (λ (p q : ℕ). (p, q)) (ap f (sym (add-zero k)) ∙ a .0) (ap g (sym (add-zero k)) ∙ a .1))
+    (zip-words f g xs ys (suc k) (omega arith) (λ j l.
+    let q : suc k + j ≡ k + suc j = omega arith in
+    let b = h (suc j) (omega arith) in
+    (ap f q ∙ b .0 ∙ shift x xs j, ap g q ∙ b .1 ∙ shift y ys j)))
+  where
+    shift : (x : ℕ) (xs : List ℕ) (j : ℕ) → at (x ∷ xs) 0 (suc j) ≡ at xs 0 j
+    shift x xs j = rw (zero-add (suc j), zero-add j)
 
-module _ (t u : List ℕ) (start : ℕ) (xs ys : List ℕ) (z : EngineSound t) (p : start ≡ pairs-in-force (merges t)) (c : Copied t u start xs ys) where
+module _ {t u : List ℕ} {start : ℕ} {xs ys : List ℕ} {a b : ℕ} {r : Bool} (s : Congruent t a b xs ys) (p : start ≡ pairs-in-force (merges t)) (c : Copied t u start xs ys) (q : r ≡ are-equal (merges t) a b) (two : r ≡ false) where
+  z : EngineSound t
+  z = s .nodes .sound
+
   same-log : SameLog t u (merges# t)
-  same-log =
-      let f = z .fewer in
-      record {
-        entries = λ i h. record {
-          a = c .before (4160 + i) (omega arith);
-          b = c .before (5184 + i) (omega arith);
-          kind = c .before (6208 + i) (omega arith);
-          value = c .before (7232 + i) (omega arith);
-          child = c .before (8256 + i) (omega arith);
-          froot = c .before (9280 + i) (omega arith);
-          after = c .before (10304 + i) (omega arith);
-        };
-        pairs = λ i h j l. let r = after-within t i z h in c .older j (omega arith);
-      }
+  unfolding z
+  same-log = record {
+    entries = λ i h. let f = z .fewer in let w : i < max-terms = omega arith in search (c .kept .rest, tt);
+    pairs = λ i h j l. let n = after-within t i z h in c .older j (omega arith);
+  }
+
+  level-kept : level-word u ≡ level-word t
+  level-kept = c .kept .rest COUNTS LEVEL tt (lit< tt)
 
   shortened : Shortened t u (merges# t)
-  unfolding merges
-  shortened = record {
-    long = let l = z .long in let k = c .long in omega arith;
-    fewer = omega arith;
-    count = c .before 0 (omega arith);
-    log = same-log;
-    levels-fit = let e = c .before 1 (omega arith) in let f = z .levels-fit in omega arith;
-    levels = λ i h. let e = c .before 1 (omega arith) in let f = z .levels i h in omega arith;
-    parents = λ x h. c .before (64 + x) (omega arith) ∙ z .parents x h;
-    sizes = λ x h. c .before (1088 + x) (omega arith) ∙ z .sizes x h;
-    forest = λ x h.
-        edge-kept t u x (way (merges t) x) same-log (let e = c .before 0 (omega arith) in omega arith)
-        (c .before (2112 + x) (omega arith)) (c .before (3136 + x) (omega arith)) (z .forest x h);
-  }
+  unfolding merges z
+  shortened =
+      let count : merges# u ≡ merges# t = c .kept .rest COUNTS MERGES tt (lit< tt) in
+      let l = level-kept in
+      record {
+        long = let k = c .kept .long in let m = z .long in omega arith;
+        fewer = omega arith;
+        count = count;
+        log = same-log;
+        levels-fit = let f = z .levels-fit in omega arith;
+        levels = λ i h. let f = z .levels i h in omega arith;
+        parents = λ x h. c .kept .rest PARENT x tt h ∙ z .parents x h;
+        sizes = λ x h. c .kept .rest SIZE x tt h ∙ z .sizes x h;
+        forest = λ x h. edge-kept (way (merges t) x) same-log (omega arith) (search (c .kept .rest, tt)) (z .forest x h);
+      }
 
   -- more pairs behind those in force change nothing
-  pub copied-sound : EngineSound u
-  copied-sound = shorter-sound t u (merges# t) z shortened
+  copied-merges : merges u ≡ merges t
+  unfolding merges z
+  copied-merges = shorter-merges z shortened
 
-  pub copied-merges : merges u ≡ merges t
-  unfolding merges
-  copied-merges = shorter-merges t u (merges# t) z shortened
-
-  label-is : (n : ℕ) → n ≡ start + length xs → length xs ≡ length ys → label u 1 0 start n ≡ Congruence (zip xs ys)
+  label-is : (n : ℕ) → n ≡ start + length xs → label u 1 0 start n ≡ Congruence (zip xs ys)
   unfolding label
-  label-is n e l =
+  label-is n e =
       let d : n - start ≡ length xs = omega arith in
-      ap Congruence (
-      ap (λ (k : ℕ). map (λ j. (left-word u j, right-word u j)) (range start k)) d
-      ∙ zip-words (left-word u) (right-word u) xs ys start l (c .new))
+      ap Congruence
+      (ap (λ (k : ℕ). map (pair-at u) (range start k)) d ∙ zip-words (left-word u) (right-word u) xs ys start (s .same-count) (c .new))
 
-  pub joinable-pairs : (a b n : ℕ) → a < 1024 → b < 1024 → are-equal (merges t) a b ≡ false → n ≡ start + length xs → length xs ≡ length ys → n ≤ 2048 → EqualPairs (merges t) (zip xs ys) → Joinable u a b 1 0 start n
-  unfolding begins pairs-of
-  joinable-pairs a b n na nb two e l f q = record {
-    nodes = (na, nb);
-    two = ap (λ (ms : List Merge). are-equal ms a b) copied-merges ∙ two;
-    known = omega arith;
-    theory = omega arith;
-    value = omega arith;
-    start = p ∙ ap pairs-in-force (sym copied-merges);
-    ordered = omega arith;
-    fit = f;
-    pairs = subst (λ (j : EqJust). EqualPairs (merges u) (pairs-of j)) (sym (label-is n e l)) (subst (λ (ms : List Merge). EqualPairs ms (zip xs ys)) (sym copied-merges) q);
-  }
+  pub joinable-pairs : {n : ℕ} → n ≡ start + length xs → PairRoom t start xs ys → Joinable u a b 1 0 start n
+  unfolding begins pairs-of z
+  joinable-pairs {n} e room =
+      let f = room .fit in
+      record {
+        sound = shorter-sound z shortened;
+        nodes = (s .nodes .first, s .nodes .second);
+        two = ap (λ (ms : List Merge). are-equal ms a b) copied-merges ∙ sym q ∙ two;
+        known = omega arith;
+        theory = omega arith;
+        value = omega arith;
+        start = p ∙ ap pairs-in-force (sym copied-merges);
+        ordered = omega arith;
+        fit = omega arith;
+        pairs = subst (λ (j : EqJust). EqualPairs (merges u) (pairs-of j)) (sym (label-is n e))
+            (subst (λ (ms : List Merge). EqualPairs ms (zip xs ys)) (sym copied-merges) (s .equal));
+      }
 
-  pub merged-pairs : (v : List ℕ) (a b n : ℕ) → are-equal (merges t) a b ≡ false → n ≡ start + length xs → length xs ≡ length ys → EngineSound v × (merges v ≡ record { a = a; b = b; just = label u 1 0 start n; level = level-word u } ∷ merges u) × (level-word v ≡ level-word u) → Merged t v a b (Congruence (zip xs ys))
-  merged-pairs v a b n two e l (s, m, k) =
-      let q = c .before 1 (omega arith) in
-      merged-two t v a b (label u 1 0 start n) (Congruence (zip xs ys)) two (label-is n e l) (
-        s,
-        m ∙ ap₂ (λ (lv : ℕ) (ms : List Merge). record { a = a; b = b; just = label u 1 0 start n; level = lv } ∷ ms) q copied-merges,
-        k ∙ q,
-      )
+  pub merged-pairs : {v : List ℕ} {n : ℕ} → n ≡ start + length xs → Engine v (record { a = a; b = b; just = label u 1 0 start n; level = level-word u } ∷ merges u) (level-word u) → Merges t v a b (Congruence (zip xs ys))
+  merged-pairs {v} {n} e g =
+      merged-two (label u 1 0 start n) (Congruence (zip xs ys)) (sym q ∙ two) (label-is n e) (record {
+        sound = g .sound;
+        log = g .log ∙ ap₂ (λ (l : ℕ) (ms : List Merge). record { a = a; b = b; just = label u 1 0 start n; level = l } ∷ ms) level-kept copied-merges;
+        at-level = g .at-level ∙ level-kept;
+      })

@@ -1,18 +1,19 @@
 -- The marks of the argument pairs that an explanation has expanded.
-use Prim.Native.Nat.{ℕ, _+_, _-_, _≤_, _<_}
-use mathlib.Core.Path.{_≡_, refl, sym, subst, ap, ap₂, _∙_}
+use Prim.Native.Nat.{ℕ, _+_, _≤_, _<_}
+use mathlib.Core.Path.{_≡_, refl, sym, ap, ap₂, _∙_}
 use mathlib.Core.Bool.{Bool, true, false, cond, _&&_, _||_}
 use mathlib.Core.List.{List}
 use native.Mathlib.Omega.{arith}
 use borrow.Author.Count.{below-more}
 use borrow.Author.Tests.{eq-eqb, ne-eqb}
 use lib.Dec.{eqb}
-use lib.ListN.{length, set, length-set}
-use lib.Seq.{getD-set-same, getD-set-other}
-use Rattle.core.specs.Memory.Table.{word}
+use lib.ListN.{length}
+use lib.Seq.{getD-set-same}
+use Rattle.core.specs.Memory.Words.{at, put}
+use Rattle.core.proofs.Memory.Stores.{length-put, other-place}
 use Rattle.theory.specs.EqEngine.{pairs-in-force, same-pair}
 use Rattle.theory.specs.Memory.Table.{left-word, right-word, merges}
-use Rattle.theory.specs.Memory.Explaining.{marked, MarksPair}
+use Rattle.theory.specs.Memory.Explaining.{MARKS, marked, is-pair, MarksPair}
 
 pub both-first : (x y a b : ℕ) → x ≡ a → eqb y b ≡ (eqb x a && eqb y b)
 both-first x y a b p = sym (ap (λ (u : Bool). u && eqb y b) (eq-eqb x a p))
@@ -20,69 +21,60 @@ both-first x y a b p = sym (ap (λ (u : Bool). u && eqb y b) (eq-eqb x a p))
 pub both-not : (x y a b : ℕ) → (x ≡ a → ⊥) → false ≡ (eqb x a && eqb y b)
 both-not x y a b p = sym (ap (λ (u : Bool). u && eqb y b) (ne-eqb x a p))
 
-pub same-pair-yes : (x y a b : ℕ) (r : Bool) → r ≡ (eqb x a && eqb y b) → r ≡ true → true ≡ same-pair x y (a, b)
+-- a test r of the first order, then a test s of the other
+pub same-pair-first : (x y a b : ℕ) (r : Bool) → r ≡ (eqb x a && eqb y b) → r ≡ true → true ≡ same-pair x y (a, b)
 unfolding same-pair
-same-pair-yes x y a b r p q = sym (ap (λ (u : Bool). u || (eqb x b && eqb y a)) (sym p ∙ q))
+same-pair-first x y a b r p q = sym (ap (λ (u : Bool). u || (eqb x b && eqb y a)) (sym p ∙ q))
 
-pub same-pair-other : (x y a b : ℕ) (r s : Bool) → r ≡ (eqb x a && eqb y b) → r ≡ false → s ≡ (eqb x b && eqb y a) → s ≡ same-pair x y (a, b)
+pub same-pair-other : (x y a b : ℕ) (r s : Bool) → r ≡ (eqb x a && eqb y b) → r ≡ false → s ≡ (eqb x b && eqb y a) →
+    s ≡ same-pair x y (a, b)
 unfolding same-pair
 same-pair-other x y a b r s p q e = e ∙ sym (ap (λ (u : Bool). u || (eqb x b && eqb y a)) (sym p ∙ q))
 
--- the mark of one pair
-pub mark-one : (t ks ls : List ℕ) (a b j x y : ℕ) (r : Bool) → x ≡ left-word t j → y ≡ right-word t j → r ≡ same-pair x y (a, b) → r ≡ true → ls ≡ set ks j 1 → ls ≡ cond (same-pair (left-word t j) (right-word t j) (a, b)) (set ks j 1) ks
-mark-one t ks ls a b j x y r p q e f g =
-    g ∙ sym (ap (λ (b′ : Bool). cond b′ (set ks j 1) ks) (sym (ap₂ (λ (u v : ℕ). same-pair u v (a, b)) p q) ∙ sym e ∙ f))
+-- a test r of the nodes x and y of argument pair j, and one store or none
+module _ (t ks : List ℕ) (a b j x y : ℕ) (r : Bool) (p : x ≡ left-word t j) (q : y ≡ right-word t j) (e : r ≡ same-pair x y (a, b)) where
+  tested : r ≡ is-pair t j (a, b)
+  tested = e ∙ ap₂ (λ (u v : ℕ). same-pair u v (a, b)) p q
 
-pub mark-none : (t ks : List ℕ) (a b j x y : ℕ) (r : Bool) → x ≡ left-word t j → y ≡ right-word t j → r ≡ same-pair x y (a, b) → r ≡ false → ks ≡ cond (same-pair (left-word t j) (right-word t j) (a, b)) (set ks j 1) ks
-mark-none t ks a b j x y r p q e f =
-    sym (ap (λ (b′ : Bool). cond b′ (set ks j 1) ks) (sym (ap₂ (λ (u v : ℕ). same-pair u v (a, b)) p q) ∙ sym e ∙ f))
+  pub mark-one : (ls : List ℕ) → r ≡ true → ls ≡ put ks MARKS j 1 → ls ≡ cond (is-pair t j (a, b)) (put ks MARKS j 1) ks
+  mark-one ls h g = g ∙ sym (ap (λ (c : Bool). cond c (put ks MARKS j 1) ks) (sym tested ∙ h))
+
+  pub mark-none : r ≡ false → ks ≡ cond (is-pair t j (a, b)) (put ks MARKS j 1) ks
+  mark-none h = sym (ap (λ (c : Bool). cond c (put ks MARKS j 1) ks) (sym tested ∙ h))
+
+record Stored (b : Bool) (ks ls : List ℕ) (j : ℕ) : Type 0 where
+  long : length ls ≡ length ks
+  rest : (i : ℕ) → (i ≡ j → ⊥) → at ls MARKS i ≡ at ks MARKS i
+  mark : marked (at ls MARKS j) ≡ cond b true (marked (at ks MARKS j))
+
+store : (b : Bool) (ks : List ℕ) (j : ℕ) → j < length ks → Stored b ks (cond b (put ks MARKS j 1) ks) j
+unfolding marked at put
+store true ks j h =
+    record { long = length-put ks MARKS j 1; rest = λ i. other-place ks MARKS j i 1; mark = ap marked (getD-set-same ks (MARKS + j) 1 0 (omega arith)) }
+store false ks j h = record { long = refl; rest = λ i d. refl; mark = refl }
 
 -- the pairs below j are marked as they should be, the others as they were
-pub record Marking (t : List ℕ) (a b : ℕ) (ks ls : List ℕ) (n j : ℕ) : Type 0 where
+pub record Marking (t : List ℕ) (a b : ℕ) (ks ls : List ℕ) (j : ℕ) : Type 0 where
   pub long : length ls ≡ length ks
-  pub count : n ≡ pairs-in-force (merges t)
-  pub few : n ≤ 2048
-  pub room : 2048 ≤ length ks
-  pub within : j ≤ n
-  pub done : (i : ℕ) → i < j → marked (word ls i) ≡ cond (same-pair (left-word t i) (right-word t i) (a, b)) true (marked (word ks i))
-  pub left-over : (i : ℕ) → j ≤ i → word ls i ≡ word ks i
+  pub done : (i : ℕ) → i < j → marked (at ls MARKS i) ≡ cond (is-pair t i (a, b)) true (marked (at ks MARKS i))
+  pub left-over : (i : ℕ) → j ≤ i → at ls MARKS i ≡ at ks MARKS i
 
-pub marking-first : (t : List ℕ) (a b : ℕ) (ks : List ℕ) (n : ℕ) → (n ≡ pairs-in-force (merges t)) × (n ≤ 2048) → 2048 ≤ length ks → Marking t a b ks ks n 0
-marking-first t a b ks n e l =
-    record { long = refl; count = e .0; few = e .1; room = l; within = omega arith; done = λ i h. absurd (omega arith); left-over = λ i h. refl }
+pub marking-first : (t : List ℕ) (a b : ℕ) (ks : List ℕ) → Marking t a b ks ks 0
+marking-first t a b ks = record { long = refl; done = λ i h. absurd (omega arith); left-over = λ i h. refl }
 
-pub marking-next : (t : List ℕ) (a b : ℕ) (ks ls us : List ℕ) (n j : ℕ) → Marking t a b ks ls n j → j < n → us ≡ cond (same-pair (left-word t j) (right-word t j) (a, b)) (set ls j 1) ls → Marking t a b ks us n (j + 1)
-unfolding marked
-marking-next t a b ks ls us n j c h e = subst (λ (x : List ℕ). Marking t a b ks x n (j + 1)) (sym e) (go (same-pair (left-word t j) (right-word t j) (a, b)) refl)
-  where
-    go : (q : Bool) → same-pair (left-word t j) (right-word t j) (a, b) ≡ q → Marking t a b ks (cond q (set ls j 1) ls) n (j + 1)
-    go true p =
-        let l = c .long in
-        let f = c .few in
-        let r = c .room in
-        record {
-          long = length-set ls j 1 ∙ c .long;
-          count = c .count;
-          few = c .few;
-          room = c .room;
-          within = omega arith;
-          done = below-more (λ i. marked (word (set ls j 1) i) ≡ cond (same-pair (left-word t i) (right-word t i) (a, b)) true (marked (word ks i))) j
-              (λ i g. ap marked (getD-set-other ls j i 1 0 (omega arith)) ∙ c .done i g)
-              (ap marked (getD-set-same ls j 1 0 (omega arith)) ∙ sym (ap (λ (x : Bool). cond x true (marked (word ks j))) p));
-          left-over = λ i g. getD-set-other ls j i 1 0 (omega arith) ∙ c .left-over i (omega arith);
-        }
-    go false p =
-        record {
-          long = c .long;
-          count = c .count;
-          few = c .few;
-          room = c .room;
-          within = omega arith;
-          done = below-more (λ i. marked (word ls i) ≡ cond (same-pair (left-word t i) (right-word t i) (a, b)) true (marked (word ks i))) j
-              (c .done)
-              (ap marked (c .left-over j (omega arith)) ∙ sym (ap (λ (x : Bool). cond x true (marked (word ks j))) p));
-          left-over = λ i g. c .left-over i (omega arith);
-        }
+pub marking-next : {t : List ℕ} {a b : ℕ} {ks ls us : List ℕ} {j : ℕ} → Marking t a b ks ls j → j < length ls →
+    us ≡ cond (is-pair t j (a, b)) (put ls MARKS j 1) ls → Marking t a b ks us (j + 1)
+marking-next {t} {a} {b} {ks} {ls} {us} {j} c h e =
+    let s = rw (← e) at (store (is-pair t j (a, b)) ls j h) in
+    record {
+      long = s .long ∙ c .long;
+      done =
+          below-more (λ i. marked (at us MARKS i) ≡ cond (is-pair t i (a, b)) true (marked (at ks MARKS i))) j
+          (λ i g. ap marked (s .rest i (omega arith)) ∙ c .done i g)
+          (s .mark ∙ ap (λ (w : ℕ). cond (is-pair t j (a, b)) true (marked w)) (c .left-over j (omega arith)));
+      left-over = λ i g. s .rest i (omega arith) ∙ c .left-over i (omega arith);
+    }
 
-pub marking-done : (t : List ℕ) (a b : ℕ) (ks ls : List ℕ) (n j : ℕ) → Marking t a b ks ls n j → n ≤ j → MarksPair t a b ks ls
-marking-done t a b ks ls n j c h = let e = c .count in record { each = λ i g. c .done i (omega arith) }
+pub marking-done : {t : List ℕ} {a b : ℕ} {ks ls : List ℕ} {n j : ℕ} → n ≡ pairs-in-force (merges t) → Marking t a b ks ls j → n ≤ j →
+    MarksPair t a b ks ls
+marking-done e c h = record { each = λ i g. c .done i (omega arith) }

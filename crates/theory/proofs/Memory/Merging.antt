@@ -1,191 +1,340 @@
--- What the steps of a merge write: the new edge of the forest, the class that goes under, the entry of the log.
-use Prim.Native.Nat.{ℕ, _+_, _≤_, _<_}
-use mathlib.Core.Path.{_≡_, refl, sym, subst, ap, _∙_}
-use mathlib.Core.Logic.{_⊎_, inl, inr}
-use mathlib.Core.Bool.{Bool, cond}
-use mathlib.Core.List.{List, map}
+-- One merge: what its steps write, the new edge of the forest, the class that goes under and the entry of the log, makes a sound table
+-- with that merge in front.
+use Prim.Native.Nat.{ℕ, suc, _+_, _≤_, _<_}
+use mathlib.Core.Path.{_≡_, refl, sym, subst, ap, ap₂, _∙_}
+use mathlib.Core.Logic.{inl, inr}
+use mathlib.Core.Bool.{Bool, true, false, cond}
+use mathlib.Core.List.{List, [], _∷_}
 use native.Mathlib.Omega.{arith}
 use native.Mathlib.Decide.{ℕ-discrete}
-use lib.Dec.{eqb}
-use lib.ListN.{length, set}
-use borrow.Author.Tests.{eq-eqb, ne-eqb, le-leb, lt-leb}
+use native.Mathlib.Numerals.{add-one}
+use borrow.Author.Tests.{ne-eqb, le-leb, lt-leb}
+use lib.Dec.{eqb, leb, lit<}
+use lib.ListN.{length}
+use Rattle.core.specs.Limits.{max-terms, max-pairs}
 use Rattle.core.specs.Lists.{In}
-use Rattle.core.specs.Memory.Table.{word}
-use Rattle.theory.specs.EqEngine.{child, root, Step, before, way}
-use Rattle.theory.specs.Memory.Table.{parent-word, size-word, merges, end, EngineSound}
-use Rattle.theory.specs.Memory.Steps.{On, Rerooted, Spliced, United, Logged}
-use Rattle.theory.proofs.Forest.{before-end, apart}
+use Rattle.core.specs.Memory.Words.{put, Kept}
+use Rattle.core.proofs.Memory.Stores.{kept-more, kept-put}
+use Rattle.theory.specs.EqEngine.{Merge, child, root, classes, find, are-equal, Step, before, way}
+use Rattle.theory.specs.Memory.Replay.{IsNode, child-of, root-of, parent, end, BothSides}
+use Rattle.theory.specs.Memory.Table.{engine-size, COUNTS, MERGES, LEVEL, PARENT, SIZE, FPARENT, FEDGE, FROOT, engine-room, merges#, level-word, parent-word, size-word, fparent-word, fedge-word, a-word, b-word, label-word, value-word, child-word, froot-word, after-word, left-word, right-word, label-code, level-of, kind-of, theory-of, label, begins, just-at, merge-at, pairs-start, merges, FirstEdge, EngineSound, Engine, TwoNodes}
+use Rattle.theory.specs.Memory.Replay.{ups, On}
+use Rattle.theory.specs.Memory.Steps.{SameEntry, SameLog, Upward, SameNode, Turned, Rerooted, Spliced, TwoClasses, united, Entry, logged, Joinable}
+use Rattle.theory.proofs.Members.{in-right}
+use Rattle.theory.proofs.Classes.{turned-sides, size-more}
+use Rattle.theory.proofs.Forest.{Forest, Above, above?, Below, below, before-end, apart, end-on, split, back, first-side, turned-above, other-stays, other-root}
+use Rattle.theory.proofs.Sizes.{find-within, size-bound, child-within, root-within}
+use Rattle.theory.proofs.Memory.EngineStores.{stores}
+use Rattle.theory.proofs.Memory.Log.{level-is, kind-is, theory-is, label-same, merges-length, merges-within, sound-joins}
 use Rattle.theory.proofs.Memory.Walks.{sound-forest, way-within}
 use Rattle.theory.proofs.Memory.Turning.{in-ups}
-use Rattle.theory.proofs.Memory.Puts.{word-put, word-kept, length-put}
+use Rattle.theory.proofs.Memory.SoundTables.{edge-words, Grown, grown-merges, grown-sound}
 
 -- ---- the forest
 
-module _ (t t₁ t₂ t₃ t₄ : List ℕ) (a b i r : ℕ) (z : EngineSound t) (h : a < 1024) (k : i < 1024) (e : r ≡ end a (way (merges t) a)) (c : Rerooted t t₁ a (before r (way (merges t) a))) (e₂ : t₂ ≡ set t₁ (2112 + a) b) (e₃ : t₃ ≡ set t₂ (3136 + a) i) (e₄ : t₄ ≡ set t₃ (9280 + i) r) where
+pub upward-root : {t : List ℕ} {a b r : ℕ} → TwoNodes t a b → r ≡ end a (way (merges t) a) → Upward t a r
+upward-root {t} {a} s e = record { sound = s .sound; is-node = s .first; above = subst (λ (n : ℕ). On n a (way (merges t) a)) (sym e) (end-on (way (merges t) a) a) }
+
+module _ {t t₁ t₂ t₃ t₄ : List ℕ} {a b i r : ℕ} (s : TwoNodes t a b) (k : i < max-terms) (e : r ≡ end a (way (merges t) a)) (c : Rerooted t t₁ a (before r (way (merges t) a))) (e₂ : t₂ ≡ put t₁ FPARENT a b) (e₃ : t₃ ≡ put t₂ FEDGE a i) (e₄ : t₄ ≡ put t₃ FROOT i r) where
   whole : before r (way (merges t) a) ≡ way (merges t) a
-  whole = ap (λ (n : ℕ). before n (way (merges t) a)) e ∙ before-end (way (merges t)) (sound-forest t z) a
+  whole = ap (λ (n : ℕ). before n (way (merges t) a)) e ∙ before-end (way (merges t)) (sound-forest t (s .sound)) a
 
-  -- words that none of the three stores touches
-  far : (n : ℕ) → (n ≡ 2112 + a → ⊥) → (n ≡ 3136 + a → ⊥) → (n ≡ 9280 + i → ⊥) → word t₄ n ≡ word t₁ n
-  far n p q s = word-kept t₃ t₄ (9280 + i) r e₄ n s ∙ word-kept t₂ t₃ (3136 + a) i e₃ n q ∙ word-kept t₁ t₂ (2112 + a) b e₂ n p
+  long₁ : engine-size ≤ length t₁
+  long₁ = let l = c .kept .long in let m = s .sound .long in omega arith
 
-  lengths : (length t₁ ≡ length t) × (length t₂ ≡ length t) × (length t₃ ≡ length t) × (length t₄ ≡ length t)
-  lengths =
-      let l₁ = c .long in
-      let l₂ = length-put t₁ t₂ (2112 + a) b e₂ ∙ l₁ in
-      let l₃ = length-put t₂ t₃ (3136 + a) i e₃ ∙ l₂ in
-      (l₁, l₂, l₃, length-put t₃ t₄ (9280 + i) r e₄ ∙ l₃)
+  same-other : (x : ℕ) → IsNode x → (x ≡ a → ⊥) → SameNode t₁ t₄ x
+  same-other x h d = let l = long₁ in let f = s .first in let q : eqb x a ≡ false = ne-eqb x a d in search (e₄, e₃, e₂, q, stores)
 
   -- a way does not come back to its first node
-  not-first : (s : Step) → In s (way (merges t) a) → s .up ≡ a → ⊥
-  not-first s j q =
-      apart (way (merges t)) (sound-forest t z) (way (merges t) a) a refl .0
-      (subst (λ (n : ℕ). In n (map (λ (x : Step). x .up) (way (merges t) a))) q (in-ups s (way (merges t) a) j))
+  not-first : (x : Step) → In x (way (merges t) a) → x .up ≡ a → ⊥
+  not-first x j q =
+      apart (way (merges t)) (sound-forest t (s .sound)) (way (merges t) a) a refl .0
+      (subst (λ (n : ℕ). In n (ups (way (merges t) a))) q (in-ups x (way (merges t) a) j))
 
   pub spliced : Spliced t t₄ a b i
   spliced =
-      let (l₁, l₂, l₃, l₄) = lengths in
-      let l = z .long in
+      let l = long₁ in
+      let f = s .first in
+      let ws = FPARENT ∷ FEDGE ∷ FROOT ∷ [] in
       record {
-        long = l₄;
-        before = λ n g. far n (λ q. absurd (omega arith)) (λ q. absurd (omega arith)) (λ q. absurd (omega arith)) ∙ c .before n g;
-        behind = λ n g d. far n (λ q. absurd (omega arith)) (λ q. absurd (omega arith)) d ∙ c .behind n g;
-        old-root = word-put t₃ t₄ (9280 + i) r e₄ (omega arith) ∙ e;
-        edge = (
-          word-kept t₃ t₄ (9280 + i) r e₄ (2112 + a) (λ q. absurd (omega arith))
-              ∙ word-kept t₂ t₃ (3136 + a) i e₃ (2112 + a) (λ q. absurd (omega arith))
-              ∙ word-put t₁ t₂ (2112 + a) b e₂ (omega arith),
-          word-kept t₃ t₄ (9280 + i) r e₄ (3136 + a) (λ q. absurd (omega arith)) ∙ word-put t₂ t₃ (3136 + a) i e₃ (omega arith),
-        );
-        turned = λ s j.
-            let o = c .turned s (subst (λ (x : List Step). In s x) (sym whole) j) in
-            let d = not-first s j in
-            let w = way-within t a s z j .1 in (
-              far (2112 + s .up) (λ q. d (omega arith)) (λ q. absurd (omega arith)) (λ q. absurd (omega arith)) ∙ o .0,
-              far (3136 + s .up) (λ q. absurd (omega arith)) (λ q. d (omega arith)) (λ q. absurd (omega arith)) ∙ o .1,
-            );
+        kept = rw (e₄, e₃, e₂)
+            (kept-put engine-room ws t (put (put t₁ FPARENT a b) FEDGE a i) FROOT i r tt k
+            (kept-put engine-room ws t (put t₁ FPARENT a b) FEDGE a i tt f
+            (kept-put engine-room ws t t₁ FPARENT a b tt f (kept-more engine-room (FPARENT ∷ FEDGE ∷ []) ws t t₁ tt (c .kept)))));
+        old-root = let q : froot-word t₄ i ≡ r = search (e₄, e₃, e₂, stores) in q ∙ e;
+        older = λ j h.
+            let w : j < max-terms = omega arith in
+            let q : eqb j i ≡ false = ne-eqb j i (omega arith) in
+            search (e₄, e₃, e₂, q, c .kept .rest, stores);
+        edge = search (e₄, e₃, e₂, stores);
+        turned = λ x j.
+            let o = c .turned x (subst (λ (w : List Step). In x w) (sym whole) j) in
+            let m = same-other (x .up) (way-within t (s .sound) a x j .1) (not-first x j) in
+            record { parent = m .parent ∙ o .parent; edge = m .edge ∙ o .edge };
         others = λ x g n.
-            let o = c .others x g (subst (λ (v : List Step). On x a v → ⊥) (sym whole) n) in (
-              far (2112 + x) (λ q. n (inl (omega arith))) (λ q. absurd (omega arith)) (λ q. absurd (omega arith)) ∙ o .0,
-              far (3136 + x) (λ q. absurd (omega arith)) (λ q. n (inl (omega arith))) (λ q. absurd (omega arith)) ∙ o .1,
-            );
+            let o = c .others x g (subst (λ (w : List Step). On x a w → ⊥) (sym whole) n) in
+            let m = same-other x g (λ q. n (inl q)) in
+            record { parent = m .parent ∙ o .parent; edge = m .edge ∙ o .edge };
       }
 
--- ---- classes
+-- ---- the two roots by the test of their sizes
 
-module _ (t t₁ t₂ t₃ : List ℕ) (child root i n : ℕ) (l : 16384 ≤ length t) (p : child < 1024) (q : root < 1024) (k : i < 1024) (s : n ≡ size-word t child + size-word t root) (e₁ : t₁ ≡ set t (64 + child) root) (e₂ : t₂ ≡ set t₁ (1088 + root) n) (e₃ : t₃ ≡ set t₂ (8256 + i) child) where
-  other : (m : ℕ) → (m ≡ 64 + child → ⊥) → (m ≡ 1088 + root → ⊥) → (m ≡ 8256 + i → ⊥) → word t₃ m ≡ word t m
-  other m a b c = word-kept t₂ t₃ (8256 + i) child e₃ m c ∙ word-kept t₁ t₂ (1088 + root) n e₂ m b ∙ word-kept t t₁ (64 + child) root e₁ m a
-
-  grown : (length t₁ ≡ length t) × (length t₂ ≡ length t) × (length t₃ ≡ length t)
-  grown =
-      let a = length-put t t₁ (64 + child) root e₁ in
-      let b = length-put t₁ t₂ (1088 + root) n e₂ ∙ a in
-      (a, b, length-put t₂ t₃ (8256 + i) child e₃ ∙ b)
-
-  parent-now : (x : ℕ) → x < 1024 → Dec (x ≡ child) → parent-word t₃ x ≡ cond (eqb x child) root (parent-word t x)
-  parent-now x h (yes e) =
-      let (a, b, c) = grown in
-      ap (parent-word t₃) e
-      ∙ word-kept t₂ t₃ (8256 + i) child e₃ (64 + child) (λ r. absurd (omega arith))
-      ∙ word-kept t₁ t₂ (1088 + root) n e₂ (64 + child) (λ r. absurd (omega arith))
-      ∙ word-put t t₁ (64 + child) root e₁ (omega arith)
-      ∙ sym (ap (λ (v : Bool). cond v root (parent-word t x)) (eq-eqb x child e))
-  parent-now x h (no d) =
-      other (64 + x) (λ r. d (omega arith)) (λ r. absurd (omega arith)) (λ r. absurd (omega arith))
-      ∙ sym (ap (λ (v : Bool). cond v root (parent-word t x)) (ne-eqb x child d))
-
-  size-now : (x : ℕ) → x < 1024 → Dec (x ≡ root) → size-word t₃ x ≡ cond (eqb x root) (size-word t child + size-word t root) (size-word t x)
-  size-now x h (yes e) =
-      let (a, b, c) = grown in
-      ap (size-word t₃) e
-      ∙ word-kept t₂ t₃ (8256 + i) child e₃ (1088 + root) (λ r. absurd (omega arith))
-      ∙ word-put t₁ t₂ (1088 + root) n e₂ (omega arith)
-      ∙ s
-      ∙ sym (ap (λ (v : Bool). cond v (size-word t child + size-word t root) (size-word t x)) (eq-eqb x root e))
-  size-now x h (no d) =
-      other (1088 + x) (λ r. absurd (omega arith)) (λ r. d (omega arith)) (λ r. absurd (omega arith))
-      ∙ sym (ap (λ (v : Bool). cond v (size-word t child + size-word t root) (size-word t x)) (ne-eqb x root d))
-
-  pub put-united : United t t₃ child root i
-  put-united =
-      let (a, b, c) = grown in
-      record {
-        long = c;
-        before = λ m h. other m (λ r. absurd (omega arith)) (λ r. absurd (omega arith)) (λ r. absurd (omega arith));
-        behind = λ m h d. other m (λ r. absurd (omega arith)) (λ r. absurd (omega arith)) d;
-        parents = λ x h. parent-now x h (ℕ-discrete x child);
-        sizes = λ x h. size-now x h (ℕ-discrete x root);
-        child-noted = word-put t₂ t₃ (8256 + i) child e₃ (omega arith);
-      }
-
--- the two roots by the test of their sizes
-pub united-second : (t u : List ℕ) (ra rb i x y : ℕ) → x ≡ size-word t rb → y ≡ size-word t ra → x ≤ y → United t u rb ra i → United t u (child (size-word t) ra rb) (root (size-word t) ra rb) i
+pub united-second : (t : List ℕ) (ra rb i : ℕ) {u : List ℕ} {x y : ℕ} → x ≡ size-word t rb → y ≡ size-word t ra → x ≤ y → u ≡ united t rb ra i → u ≡ united t (child (size-word t) ra rb) (root (size-word t) ra rb) i
 unfolding child root
-united-second t u ra rb i x y p q h c =
-    subst (λ (v : Bool). United t u (cond v rb ra) (cond v ra rb) i) (sym (le-leb (size-word t rb) (size-word t ra) (omega arith))) c
+united-second t ra rb i {u} p q h c =
+    subst (λ (v : Bool). u ≡ united t (cond v rb ra) (cond v ra rb) i) (sym (le-leb (size-word t rb) (size-word t ra) (omega arith))) c
 
-pub united-first : (t u : List ℕ) (ra rb i x y : ℕ) → x ≡ size-word t rb → y ≡ size-word t ra → y < x → United t u ra rb i → United t u (child (size-word t) ra rb) (root (size-word t) ra rb) i
+pub united-first : (t : List ℕ) (ra rb i : ℕ) {u : List ℕ} {x y : ℕ} → x ≡ size-word t rb → y ≡ size-word t ra → y < x → u ≡ united t ra rb i → u ≡ united t (child (size-word t) ra rb) (root (size-word t) ra rb) i
 unfolding child root
-united-first t u ra rb i x y p q h c =
-    subst (λ (v : Bool). United t u (cond v rb ra) (cond v ra rb) i) (sym (lt-leb (size-word t rb) (size-word t ra) (omega arith))) c
+united-first t ra rb i {u} p q h c =
+    subst (λ (v : Bool). u ≡ united t (cond v rb ra) (cond v ra rb) i) (sym (lt-leb (size-word t rb) (size-word t ra) (omega arith))) c
 
--- ---- the log
+-- ---- the forest with the new edge
 
-module _ (t t₁ t₂ t₃ t₄ t₅ : List ℕ) (i a b w v e : ℕ) (l : 16384 ≤ length t) (k : i < 1024) (e₁ : t₁ ≡ set t (4160 + i) a) (e₂ : t₂ ≡ set t₁ (5184 + i) b) (e₃ : t₃ ≡ set t₂ (6208 + i) w) (e₄ : t₄ ≡ set t₃ (7232 + i) v) (e₅ : t₅ ≡ set t₄ (10304 + i) e) where
-  apart-from : (m : ℕ) → (m ≡ 4160 + i → ⊥) → (m ≡ 5184 + i → ⊥) → (m ≡ 6208 + i → ⊥) → (m ≡ 7232 + i → ⊥) → (m ≡ 10304 + i → ⊥) → word t₅ m ≡ word t m
-  apart-from m p q r s d =
-      word-kept t₄ t₅ (10304 + i) e e₅ m d ∙ word-kept t₃ t₄ (7232 + i) v e₄ m s ∙ word-kept t₂ t₃ (6208 + i) w e₃ m r
-      ∙ word-kept t₁ t₂ (5184 + i) b e₂ m q ∙ word-kept t t₁ (4160 + i) a e₁ m p
+-- the words of the forest after a splice, in a table where the new merge stands in the log
+module _ {t s u : List ℕ} {m : Merge} (z : EngineSound t) (two : are-equal (merges t) (m .a) (m .b) ≡ false) (c : Spliced t s (m .a) (m .b) (merges# t)) (log : SameLog t u (merges# t)) (count : merges# u ≡ suc (merges# t)) (new : merge-at u (merges# t) ≡ m) (f : (x : ℕ) → IsNode x → SameNode s u x) where
+  W : ℕ → List Step
+  W = way (merges t)
 
-  -- a word that stands in none of the five regions at i
-  clear-of : (m : ℕ) → (m < 4160) ⊎ ((8256 ≤ m) × (m < 10304)) ⊎ (11328 ≤ m) → word t₅ m ≡ word t m
-  clear-of m (inl h) = apart-from m (λ q. absurd (omega arith)) (λ q. absurd (omega arith)) (λ q. absurd (omega arith)) (λ q. absurd (omega arith)) (λ q. absurd (omega arith))
-  clear-of m (inr (inl h)) = apart-from m (λ q. absurd (omega arith)) (λ q. absurd (omega arith)) (λ q. absurd (omega arith)) (λ q. absurd (omega arith)) (λ q. absurd (omega arith))
-  clear-of m (inr (inr h)) = apart-from m (λ q. absurd (omega arith)) (λ q. absurd (omega arith)) (λ q. absurd (omega arith)) (λ q. absurd (omega arith)) (λ q. absurd (omega arith))
+  F : Forest W
+  unfolding W
+  F = sound-forest t z
 
-  -- a word of an older entry, in the region at base
-  older-at : (base j : ℕ) → j < i → (base ≡ 4160) ⊎ (base ≡ 5184) ⊎ (base ≡ 6208) ⊎ (base ≡ 7232) ⊎ (base ≡ 10304) → word t₅ (base + j) ≡ word t (base + j)
-  older-at base j h (inl p) = apart-from (base + j) (λ q. absurd (omega arith)) (λ q. absurd (omega arith)) (λ q. absurd (omega arith)) (λ q. absurd (omega arith)) (λ q. absurd (omega arith))
-  older-at base j h (inr (inl p)) = apart-from (base + j) (λ q. absurd (omega arith)) (λ q. absurd (omega arith)) (λ q. absurd (omega arith)) (λ q. absurd (omega arith)) (λ q. absurd (omega arith))
-  older-at base j h (inr (inr (inl p))) = apart-from (base + j) (λ q. absurd (omega arith)) (λ q. absurd (omega arith)) (λ q. absurd (omega arith)) (λ q. absurd (omega arith)) (λ q. absurd (omega arith))
-  older-at base j h (inr (inr (inr (inl p)))) = apart-from (base + j) (λ q. absurd (omega arith)) (λ q. absurd (omega arith)) (λ q. absurd (omega arith)) (λ q. absurd (omega arith)) (λ q. absurd (omega arith))
-  older-at base j h (inr (inr (inr (inr p)))) = apart-from (base + j) (λ q. absurd (omega arith)) (λ q. absurd (omega arith)) (λ q. absurd (omega arith)) (λ q. absurd (omega arith)) (λ q. absurd (omega arith))
+  new-just : just-at u (merges# t) ≡ m .just
+  unfolding merge-at
+  new-just = ap (λ (x : Merge). x .just) new
 
-  pub put-logged : Logged t t₅ i a b w v e
-  put-logged =
-      let l₁ = length-put t t₁ (4160 + i) a e₁ in
-      let l₂ = length-put t₁ t₂ (5184 + i) b e₂ in
-      let l₃ = length-put t₂ t₃ (6208 + i) w e₃ in
-      let l₄ = length-put t₃ t₄ (7232 + i) v e₄ in
-      let l₅ = length-put t₄ t₅ (10304 + i) e e₅ in
-      record {
-        long = l₅ ∙ l₄ ∙ l₃ ∙ l₂ ∙ l₁;
-        before = λ m h. clear-of m (inl h);
-        older = record {
-          entries = λ j h. record {
-            a = older-at 4160 j h (inl refl);
-            b = older-at 5184 j h (inr (inl refl));
-            kind = older-at 6208 j h (inr (inr (inl refl)));
-            value = older-at 7232 j h (inr (inr (inr (inl refl))));
-            child = clear-of (8256 + j) (inr (inl (omega arith, omega arith)));
-            froot = clear-of (9280 + j) (inr (inl (omega arith, omega arith)));
-            after = older-at 10304 j h (inr (inr (inr (inr refl))));
-          };
-          pairs = λ j h m g. (clear-of (11328 + m) (inr (inr (omega arith))), clear-of (13376 + m) (inr (inr (omega arith))));
-        };
-        pairs = λ m h. clear-of m (inr (inr h));
-        sides = (
-          word-kept t₄ t₅ (10304 + i) e e₅ (4160 + i) (λ q. absurd (omega arith)) ∙ word-kept t₃ t₄ (7232 + i) v e₄ (4160 + i) (λ q. absurd (omega arith))
-              ∙ word-kept t₂ t₃ (6208 + i) w e₃ (4160 + i) (λ q. absurd (omega arith)) ∙ word-kept t₁ t₂ (5184 + i) b e₂ (4160 + i) (λ q. absurd (omega arith))
-              ∙ word-put t t₁ (4160 + i) a e₁ (omega arith),
-          word-kept t₄ t₅ (10304 + i) e e₅ (5184 + i) (λ q. absurd (omega arith)) ∙ word-kept t₃ t₄ (7232 + i) v e₄ (5184 + i) (λ q. absurd (omega arith))
-              ∙ word-kept t₂ t₃ (6208 + i) w e₃ (5184 + i) (λ q. absurd (omega arith)) ∙ word-put t₁ t₂ (5184 + i) b e₂ (omega arith),
-        );
-        kind =
-            word-kept t₄ t₅ (10304 + i) e e₅ (6208 + i) (λ q. absurd (omega arith)) ∙ word-kept t₃ t₄ (7232 + i) v e₄ (6208 + i) (λ q. absurd (omega arith))
-            ∙ word-put t₂ t₃ (6208 + i) w e₃ (omega arith);
-        value = word-kept t₄ t₅ (10304 + i) e e₅ (7232 + i) (λ q. absurd (omega arith)) ∙ word-put t₃ t₄ (7232 + i) v e₄ (omega arith);
-        after = word-put t₄ t₅ (10304 + i) e e₅ (omega arith);
-        roots = (clear-of (8256 + i) (inr (inl (omega arith, omega arith))), clear-of (9280 + i) (inr (inl (omega arith, omega arith))));
-      }
+  -- the first side gets the new edge
+  edge-first : (x : ℕ) → IsNode x → m .a ≡ x → FirstEdge u x (way (m ∷ merges t) x)
+  unfolding W F
+  edge-first x h e =
+      subst (λ (y : ℕ). FirstEdge u y (way (m ∷ merges t) y)) e
+      (subst (FirstEdge u (m .a)) (sym (first-side m (merges t) (two, sound-joins t z) F)) (
+        f (m .a) l .parent ∙ c .edge .0,
+        subst (λ (k : ℕ). k < merges# u) (sym q) (omega arith),
+        ap (just-at u) q ∙ new-just,
+        subst (λ (k : ℕ). BothSides (merge-at u k) (m .a) (m .b)) (sym q)
+            (subst (λ (k : Merge). BothSides k (m .a) (m .b)) (sym new) (inl (refl, refl))),
+      ))
+    where
+      l : IsNode (m .a)
+      l = subst IsNode (sym e) h
+
+      q : fedge-word u (m .a) ≡ merges# t
+      q = f (m .a) l .edge ∙ c .edge .1
+
+  -- the edges above the first side are turned
+  edge-turned : (x : ℕ) → IsNode x → Below W F x (m .a) → FirstEdge u x (way (m ∷ merges t) x)
+  unfolding W F
+  edge-turned x h (v, s′, w, i, p, e) =
+      let first : In s′ (W v) = subst (λ (y : List Step). In s′ y) (sym p) (inl refl) in
+      let o = c .turned s′ (subst (λ (y : List Step). In s′ y) (sym (split W F v (m .a) i)) (in-right s′ (before v (W (m .a))) (W v) first)) in
+      let q : s′ .node ≡ v = F v s′ w p .0 in
+      let (a, b, j, d) = subst (FirstEdge t v) p (z .forest v (subst IsNode q (way-within t z v s′ first .0))) in
+      let k = merge-at t (fedge-word t v) in
+      subst (FirstEdge u x) (sym (ap (way (m ∷ merges t)) (sym e) ∙ turned-above m (merges t) (two, sound-joins t z) F v s′ w i p))
+      (edge-words (back s′) (way (m ∷ merges t) v) log b (omega arith)
+      (f x h .parent ∙ ap (fparent-word s) (sym e) ∙ o .parent)
+      (f x h .edge ∙ ap (fedge-word s) (sym e) ∙ o .edge ∙ ap (fedge-word t) q)
+      j
+      (subst (λ (n : ℕ). BothSides k x n) (sym q) (subst (λ (n : ℕ). BothSides k n v) e (turned-sides k v (s′ .up) d))))
+
+  -- all others stay
+  edge-other : (x : ℕ) → IsNode x → (Above W x (m .a) → ⊥) → (w : List Step) → W x ≡ w → FirstEdge u x (way (m ∷ merges t) x)
+  unfolding W F
+  edge-other x h n [] p =
+      subst (FirstEdge u x) (sym (other-root m (merges t) (two, sound-joins t z) F x n p))
+      (f x h .parent ∙ c .others x h n .parent ∙ subst (FirstEdge t x) p (z .forest x h))
+  edge-other x h n (s′ ∷ w) p =
+      let (a, b, j, d) = subst (FirstEdge t x) p (z .forest x h) in
+      let o = c .others x h n in
+      subst (FirstEdge u x) (sym (other-stays m (merges t) (two, sound-joins t z) F x s′ w n p))
+      (edge-words s′ (way (m ∷ merges t) (s′ .up)) log b (omega arith) (f x h .parent ∙ o .parent ∙ a) (f x h .edge ∙ o .edge) j d)
+
+  spliced-forest : (x : ℕ) → IsNode x → FirstEdge u x (way (m ∷ merges t) x)
+  unfolding W F
+  spliced-forest x h = go (above? W F x (m .a)) (ℕ-discrete (m .a) x)
+    where
+      go : Dec (Above W x (m .a)) → Dec (m .a ≡ x) → FirstEdge u x (way (m ∷ merges t) x)
+      go (no n) d = edge-other x h n (W x) refl
+      go (yes i) (yes e) = edge-first x h e
+      go (yes i) (no n) = edge-turned x h (below W F x (m .a) i n)
+
+-- ---- all steps together
+
+-- what stands in u after the stores of entry n and of the class that goes under
+record Written (s u : List ℕ) (n low high a b w v e : ℕ) : Type 0 where
+  long : engine-size ≤ length u
+  count : merges# u ≡ n + 1
+  level : level-word u ≡ level-word s
+  parents : (x : ℕ) → IsNode x → parent-word u x ≡ cond (eqb x low) high (parent-word s x)
+  sizes : (x : ℕ) → IsNode x → size-word u x ≡ cond (eqb x high) (size-word s low + size-word s high) (size-word s x)
+  nodes : (x : ℕ) → IsNode x → SameNode s u x
+  side-a : a-word u n ≡ a
+  side-b : b-word u n ≡ b
+  label-now : label-word u n ≡ w
+  value-now : value-word u n ≡ v
+  child-now : child-word u n ≡ low
+  froot-now : froot-word u n ≡ froot-word s n
+  after-now : after-word u n ≡ e
+  older : (j : ℕ) → j < n → SameEntry s u j
+  pairs : (j : ℕ) → j < max-pairs → (left-word u j ≡ left-word s j) × (right-word u j ≡ right-word s j)
+
+written : {s u : List ℕ} {n low high a b w v e : ℕ} → engine-size ≤ length s → n < max-terms → IsNode low → IsNode high → u ≡ put (logged (united s low high n) n a b w v e) COUNTS MERGES (n + 1) → Written s u n low high a b w v e
+unfolding united logged
+written {n = n} l k p q f = record {
+  long = search (f, stores);
+  count = search (f, stores);
+  level = search (f, stores);
+  parents = λ x h. search (f, stores);
+  sizes = λ x h. search (f, stores);
+  nodes = λ x h. search (f, stores);
+  side-a = search (f, stores);
+  side-b = search (f, stores);
+  label-now = search (f, stores);
+  value-now = search (f, stores);
+  child-now = search (f, stores);
+  froot-now = search (f, stores);
+  after-now = search (f, stores);
+  older = λ j h. let g : j < max-terms = omega arith in let d : eqb j n ≡ false = ne-eqb j n (omega arith) in search (f, d, stores);
+  pairs = λ j h. search (f, stores);
+}
+
+module _ {t t₁ : List ℕ} {a b kind h v e ra rb : ℕ} (J : Joinable t a b kind h v e) (fa : ra ≡ find (merges t) a) (fb : rb ≡ find (merges t) b) (c : Spliced t t₁ a b (merges# t)) where
+  m : Merge
+  m = record { a = a; b = b; just = label t kind h v e; level = level-word t }
+
+  sizes-then : (x : ℕ) → IsNode x → size-word t₁ x ≡ classes (merges t) .size x
+  sizes-then x l = c .kept .rest SIZE x tt l ∙ J .sound .sizes x l
+
+  root-a : IsNode ra
+  root-a = subst IsNode (sym fa) (find-within max-terms (merges t) (merges-within t (J .sound)) a (J .nodes .0))
+
+  root-b : IsNode rb
+  root-b = subst IsNode (sym fb) (find-within max-terms (merges t) (merges-within t (J .sound)) b (J .nodes .1))
+
+  compared : leb (size-word t₁ rb) (size-word t₁ ra) ≡ leb (classes (merges t) .size (find (merges t) b)) (classes (merges t) .size (find (merges t) a))
+  compared =
+      ap₂ leb (sizes-then rb root-b ∙ ap (λ (k : ℕ). classes (merges t) .size k) fb) (sizes-then ra root-a ∙ ap (λ (k : ℕ). classes (merges t) .size k) fa)
+
+  low-is : child (size-word t₁) ra rb ≡ child-of (merges t) m
+  unfolding child child-of find m
+  low-is = ap (λ (d : Bool). cond d rb ra) compared ∙ ap₂ (cond (leb (classes (merges t) .size (find (merges t) b)) (classes (merges t) .size (find (merges t) a)))) fb fa
+
+  high-is : root (size-word t₁) ra rb ≡ root-of (merges t) m
+  unfolding root root-of find m
+  high-is = ap (λ (d : Bool). cond d ra rb) compared ∙ ap₂ (cond (leb (classes (merges t) .size (find (merges t) b)) (classes (merges t) .size (find (merges t) a)))) fa fb
+
+  low-node : IsNode (child-of (merges t) m)
+  unfolding m
+  low-node = child-within max-terms m (merges t) (merges-within t (J .sound)) (J .nodes)
+
+  high-node : IsNode (root-of (merges t) m)
+  unfolding m
+  high-node = root-within max-terms m (merges t) (merges-within t (J .sound)) (J .nodes)
+
+  module _ {u : List ℕ} (w : Written t₁ u (merges# t) (child-of (merges t) m) (root-of (merges t) m) a b (label-code (level-word t) kind h) v e) where
+    same-log : SameLog t u (merges# t)
+    same-log = record {
+      entries = λ j g.
+          let f = J .sound .fewer in
+          let k : j < max-terms = omega arith in
+          let n = w .older j g in
+          let o = c .older j g in
+          search (n .a, n .b, n .label, n .value, n .child, n .froot, n .after, o, c .kept .rest, tt);
+      pairs = λ i g j k.
+          let l : j < max-pairs = let f = J .sound .entries i g .fit .1 in omega arith in
+          let n = w .pairs j l in
+          search (n .0, n .1, c .kept .rest, tt);
+    }
+
+    code : kind-of (label-word u (merges# t)) ≡ kind
+    code = ap kind-of (w .label-now) ∙ kind-is (level-word t) kind h (J .known) (J .theory)
+
+    just-now : just-at u (merges# t) ≡ label t kind h v e
+    unfolding just-at
+    just-now =
+        ap₂ (λ (k g : ℕ). label u k g (value-word u (merges# t)) (after-word u (merges# t))) code
+        (ap theory-of (w .label-now) ∙ theory-is (level-word t) kind h (J .known) (J .theory))
+        ∙ ap₂ (label u kind h) (w .value-now) (w .after-now)
+        ∙ label-same t u kind h v e (λ j l.
+        let k : j < max-pairs = let f = J .fit in omega arith in
+        let n = w .pairs j k in
+        search (n .0, n .1, c .kept .rest, tt))
+
+    start-now : pairs-start u (merges# t) ≡ begins kind v e
+    unfolding pairs-start
+    start-now =
+        ap (λ (k : ℕ). begins k (value-word u (merges# t)) (after-word u (merges# t))) code ∙ ap₂ (begins kind) (w .value-now) (w .after-now)
+
+    merge-now : merge-at u (merges# t) ≡ m
+    unfolding merge-at m
+    merge-now =
+        let j = just-now in
+        let l : level-of (label-word u (merges# t)) ≡ level-word t = ap level-of (w .label-now) ∙ level-is (level-word t) kind h (J .known) (J .theory) in
+        λ n. record { a = w .side-a n; b = w .side-b n; just = j n; level = l n }
+
+    parents-now : (x : ℕ) → IsNode x → parent-word u x ≡ parent (m ∷ merges t) x
+    unfolding parent
+    parents-now x l = w .parents x l ∙ ap (cond (eqb x (child-of (merges t) m)) (root-of (merges t) m)) (c .kept .rest PARENT x tt l ∙ J .sound .parents x l)
+
+    sizes-now : (x : ℕ) → IsNode x → size-word u x ≡ classes (m ∷ merges t) .size x
+    sizes-now x l =
+        w .sizes x l
+        ∙ ap₂ (cond (eqb x (root-of (merges t) m)))
+        (ap₂ _+_ (sizes-then (child-of (merges t) m) low-node) (sizes-then (root-of (merges t) m) high-node))
+        (sizes-then x l)
+        ∙ sym (size-more m (merges t) x)
+
+    grown : Grown t u m
+    unfolding m
+    grown = record {
+      long = w .long;
+      count = w .count ∙ add-one (merges# t);
+      level = w .level ∙ c .kept .rest COUNTS LEVEL tt (lit< tt);
+      log = same-log;
+      new = merge-now;
+      now = refl;
+      nodes = J .nodes;
+      two = J .two;
+      pairs = J .pairs;
+      child = w .child-now;
+      froot = w .froot-now ∙ c .old-root;
+      start = start-now ∙ J .start;
+      fit = let s = start-now in let r = w .after-now in let o = J .ordered in let f = J .fit in (omega arith, omega arith);
+      parents = parents-now;
+      sizes = sizes-now;
+      forest = spliced-forest (J .sound) (J .two) c same-log (w .count ∙ add-one (merges# t)) merge-now (w .nodes);
+    }
+
+-- the label of the words is the new merge's, at the present level
+pub joined : {t t₁ t₂ t₃ u : List ℕ} {a b kind h v e ra rb i l : ℕ} → Joinable t a b kind h v e → i ≡ merges# t → l ≡ level-word t → ra ≡ find (merges t) a → rb ≡ find (merges t) b → Spliced t t₁ a b i → t₂ ≡ united t₁ (child (size-word t₁) ra rb) (root (size-word t₁) ra rb) i → t₃ ≡ logged t₂ i a b (label-code l kind h) v e → u ≡ put t₃ COUNTS MERGES (i + 1) → Engine u (record { a = a; b = b; just = label t kind h v e; level = level-word t } ∷ merges t) (level-word t)
+unfolding m
+joined {t} {t₁} {t₂} {t₃} {u} {a} {b} {kind} {h} {v} {e} {ra} {rb} {i} {l} J p q fa fb s e₂ e₃ e₄ =
+    let c = subst (Spliced t t₁ a b) p s in
+    let z = J .sound in
+    let long : engine-size ≤ length t₁ = let k = c .kept .long in let n = z .long in omega arith in
+    let n = low-is J fa fb c in
+    let o = high-is J fa fb c in
+    let stored = e₄ ∙ ap (λ (y : List ℕ). put y COUNTS MERGES (i + 1)) (e₃ ∙ ap (λ (y : List ℕ). logged y i a b (label-code l kind h) v e) e₂) in
+    let w : Written t₁ u (merges# t) (child-of (merges t) (m J fa fb c)) (root-of (merges t) (m J fa fb c)) a b (label-code (level-word t) kind h) v e =
+    written long (z .fewer) (low-node J fa fb c) (high-node J fa fb c) (rw (← n, ← o, ← p, ← q) stored) in
+    let g = grown J fa fb c w in
+    record { sound = grown-sound z g; log = grown-merges z g; at-level = g .level }
+
+-- two classes have fewer terms than a word holds
+pub classes-fit : {t t₁ : List ℕ} {a b i ra rb : ℕ} → EngineSound t → i ≡ merges# t → Spliced t t₁ a b i → IsNode ra → IsNode rb → TwoClasses t₁ ra rb i
+classes-fit {t} {t₁} {a} {b} {i} {ra} {rb} z k c h g =
+    let p : size-word t₁ ra ≡ classes (merges t) .size ra = c .kept .rest SIZE ra tt h ∙ z .sizes ra h in
+    let q : size-word t₁ rb ≡ classes (merges t) .size rb = c .kept .rest SIZE rb tt g ∙ z .sizes rb g in
+    let f = z .fewer in
+    let l = merges-length t in
+    let n = c .kept .long in
+    let o = z .long in
+    record {
+      long = omega arith;
+      first = h;
+      second = g;
+      entry = omega arith;
+      fit = omega (arith, size-bound (merges t) (sound-joins t z) ra, size-bound (merges t) (sound-joins t z) rb);
+    }

@@ -1,118 +1,106 @@
--- The registry's table against the list of registrations.
+-- What the words of the registry's table say of the list of registrations.
 use Prim.Native.Nat.{ℕ, zero, suc, _+_, _-_, _≤_, _<_}
-use mathlib.Core.Path.{_≡_, refl, sym, subst, ap, _∙_}
-use mathlib.Core.Logic.{_⊎_, inl, inr}
-use mathlib.Core.Bool.{Bool, true, false, cond, true≢false, false≢true}
-use mathlib.Core.List.{List, [], _∷_, map}
-use mathlib.Core.Option.{none, some}
+use mathlib.Core.Path.{_≡_, refl, sym, ap, _∙_}
+use mathlib.Core.Bool.{Bool, true, false, cond, false≢true}
+use mathlib.Core.List.{List, [], _∷_}
+use mathlib.Core.Option.{Option, none, some}
 use native.Mathlib.Decide.{decLt}
+use native.Mathlib.Numerals.{add-one}
 use native.Mathlib.Omega.{arith}
-use borrow.Author.Tests.{eq-eqb, ne-eqb, eqb-true}
-use lib.Dec.{eqb}
-use lib.ListN.{set}
-use Rattle.core.specs.Lists.{first, range}
-use Rattle.core.specs.Memory.Table.{word}
-use Rattle.core.proofs.Lists.{In, any-some, any-none, in-range, range-in}
-use Rattle.theory.specs.Atom.{Registered, is-registered, atom, atom-of, var-of-atom}
-use Rattle.theory.specs.Memory.Registry.{vars#, var-word, atom-word, first-word, registered-at, atoms, held, noted-first, RegistrySound}
+use borrow.Author.Tests.{ne-eqb}
+use Rattle.core.specs.Limits.{max-vars, max-terms}
+use Rattle.core.specs.Lists.{any, first}
+use Rattle.core.specs.Memory.Words.{at}
+use Rattle.core.proofs.Memory.Searching.{any-missing}
+use Rattle.theory.specs.Atom.{Registered, is-registered, atom, atom-of, var-of, var-of-atom}
+use Rattle.theory.specs.Memory.Registry.{VAR, ATOM, FIRST, vars#, registered-at, atoms, word-for, of-var, of-atom, or-else, first-with, RegistrySound}
 
--- ---- lists
+-- ---- the first registration that passes a test
 
-module _ {A : Type 0} where
-  -- the only element that passes a test is the first
-  pub first-only : (p : A → Bool) (xs : List A) (x : A) → In x xs → p x ≡ true → ((y : A) → In y xs → p y ≡ true → y ≡ x) → first p xs ≡ some x
-  unfolding first
-  first-only p [] x i e only = absurd i
-  first-only p (y ∷ ys) x i e only = go (p y) refl i (λ k. first-only p ys x k e (λ z j. only z (inr j)))
-    where
-      go : (b : Bool) → p y ≡ b → In x (y ∷ ys) → (In x ys → first p ys ≡ some x) → cond (p y) (some y) (first p ys) ≡ some x
-      go true q k ih = ap (λ (b : Bool). cond b (some y) (first p ys)) q ∙ ap some (only y (inl refl) q)
-      go false q (inl w) ih = absurd (true≢false (sym e ∙ ap p w ∙ q))
-      go false q (inr k) ih = ap (λ (b : Bool). cond b (some y) (first p ys)) q ∙ ih k
+found : Option Registered → Bool
+found none = false
+found (some r) = true
 
-module _ {A : Type 0} (f : ℕ → A) where
-  pub in-map-range : (n i : ℕ) → i < n → In (f i) (map f (range 0 n))
-  in-map-range n i h = go (range 0 n) (in-range 0 n i (omega arith) (omega arith))
-    where
-      go : (xs : List ℕ) → In i xs → In (f i) (map f xs)
-      go [] k = absurd k
-      go (x ∷ xs) (inl e) = inl (ap f e)
-      go (x ∷ xs) (inr k) = inr (go xs k)
-
-  pub map-range-in : (n : ℕ) (y : A) → In y (map f (range 0 n)) → (i : ℕ) × (i < n) × (y ≡ f i)
-  map-range-in n y k = let (i, j, e) = go (range 0 n) k in let r = range-in 0 n i j in (i, omega arith, e)
-    where
-      go : (xs : List ℕ) → In y (map f xs) → (i : ℕ) × In i xs × (y ≡ f i)
-      go [] k = absurd k
-      go (x ∷ xs) (inl e) = (x, inl refl, e)
-      go (x ∷ xs) (inr k) = let (i, j, e) = go xs k in (i, inr j, e)
-
--- ---- asking
-
-pub registered-yes : (t : List ℕ) (v : ℕ) → RegistrySound t → v < 1024 → (atom-word t v ≡ 0 → ⊥) → true ≡ is-registered (atoms t) v
-unfolding is-registered atoms registered-at
-registered-yes t v z h n =
-    let (i, l, e) = z .listed v h (omega arith) in
-    sym (any-some (λ (r : Registered). eqb (r .var) v) (atoms t) (registered-at t i) (in-map-range (registered-at t) (vars# t) i l) (eq-eqb (var-word t i) v e))
-
-pub registered-no : (t : List ℕ) (v : ℕ) → RegistrySound t → (atom-word t v ≡ 0) ⊎ (1024 ≤ v) → false ≡ is-registered (atoms t) v
-unfolding is-registered atoms registered-at
-registered-no t v z o =
-    sym
-    (any-none (λ (r : Registered). eqb (r .var) v) (atoms t)
-    (λ r k. let (i, l, e) = map-range-in (registered-at t) (vars# t) r k in ap (λ (x : Registered). eqb (x .var) v) e ∙ ne-eqb (var-word t i) v (go i l o)))
+any-first : (p : Registered → Bool) (rs : List Registered) → any p rs ≡ found (first p rs)
+unfolding any first found
+any-first p [] = refl
+any-first p (r ∷ rs) = go (p r) (any-first p rs)
   where
-    go : (i : ℕ) → i < vars# t → (atom-word t v ≡ 0) ⊎ (1024 ≤ v) → var-word t i ≡ v → ⊥
-    go i l (inl q) e = let a = z .held-atoms i l .0 in let b = ap (atom-word t) e in omega arith
-    go i l (inr q) e = let a = z .vars i l in omega arith
+    go : (b : Bool) → any p rs ≡ found (first p rs) → cond b true (any p rs) ≡ found (cond b (some r) (first p rs))
+    go true e = refl
+    go false e = e
 
-pub atom-is : (t : List ℕ) (v : ℕ) → RegistrySound t → v < 1024 → 0 < atom-word t v → atom-word t v - 1 ≡ atom (atoms t) v
-unfolding atom atom-of atoms registered-at
-atom-is t v z h n =
-    let (i, l, e) = z .listed v h n in
-    let f : first (λ (r : Registered). eqb (r .var) v) (atoms t) ≡ some (registered-at t i) =
-    first-only (λ (r : Registered). eqb (r .var) v) (atoms t) (registered-at t i) (in-map-range (registered-at t) (vars# t) i l) (eq-eqb (var-word t i) v e)
-    (λ y k q.
-    let (j, g, w) = map-range-in (registered-at t) (vars# t) y k in
-    w ∙ ap (registered-at t) (z .once j i g l (sym (ap (λ (r : Registered). r .var) w) ∙ eqb-true (y .var) v q ∙ sym e))) in
-    ap (λ (x : ℕ). atom-word t x - 1) (sym e) ∙ sym (ap atom-of f)
+word-none : (f : Registered → ℕ) (o : Option Registered) → word-for f o ≡ 0 → o ≡ none
+unfolding word-for
+word-none f none e = refl
+word-none f (some r) e = absurd (omega arith)
 
--- what a registered variable's word holds
-pub registered-word : (t : List ℕ) (v : ℕ) → RegistrySound t → is-registered (atoms t) v ≡ true → (v < 1024) × (0 < atom-word t v) × (atom-word t v ≤ 1024)
-registered-word t v z e = go (decLt v 1024)
-  where
-    word-at : v < 1024 → (w : ℕ) → atom-word t v ≡ w → 0 < atom-word t v
-    word-at h zero q = absurd (false≢true (registered-no t v z (inl q) ∙ e))
-    word-at h (suc w) q = omega arith
+word-some : (f : Registered → ℕ) (o : Option Registered) → (word-for f o ≡ 0 → ⊥) →
+    (r : Registered) × (o ≡ some r) × (f r ≡ word-for f o - 1)
+unfolding word-for
+word-some f none d = absurd (d refl)
+word-some f (some r) d = (r, refl, omega arith)
 
-    bound : (i : ℕ) × (i < vars# t) × (var-word t i ≡ v) → atom-word t v ≤ 1024
-    bound (i, l, q) = subst (λ (x : ℕ). atom-word t x ≤ 1024) q (z .held-atoms i l .1)
+-- ---- asking, by a word w that was read
 
-    go : Dec (v < 1024) → (v < 1024) × (0 < atom-word t v) × (atom-word t v ≤ 1024)
-    go (yes h) = let p = word-at h (atom-word t v) refl in (h, p, bound (z .listed v h p))
-    go (no n) = absurd (false≢true (registered-no t v z (inr (omega arith)) ∙ e))
+module _ (t : List ℕ) (v w : ℕ) (z : RegistrySound t) where
+  pub registered-no : v < max-vars → w ≡ at t ATOM v → w ≡ 0 → false ≡ is-registered (atoms t) v
+  unfolding is-registered found
+  registered-no h e q =
+      let o = word-none (λ (r : Registered). r .atom) (first (of-var v) (atoms t)) (sym (z .atoms-are v h) ∙ sym e ∙ q) in
+      sym (any-first (of-var v) (atoms t) ∙ ap found o)
 
--- ---- first variables
+  pub registered-yes : v < max-vars → w ≡ at t ATOM v → (w ≡ 0 → ⊥) → true ≡ is-registered (atoms t) v
+  unfolding is-registered found
+  registered-yes h e d =
+      let (r, o, q) = word-some (λ (r : Registered). r .atom) (first (of-var v) (atoms t)) (λ q. d (e ∙ z .atoms-are v h ∙ q)) in
+      sym (any-first (of-var v) (atoms t) ∙ ap found o)
 
-held-none : (w : ℕ) → w ≡ 0 → none ≡ held w
-unfolding held
-held-none w e = rw e
+  pub no-var : v < max-terms → w ≡ at t FIRST v → w ≡ 0 → none ≡ var-of-atom (atoms t) v
+  unfolding var-of-atom var-of
+  no-var h e q =
+      let o = word-none (λ (r : Registered). r .var) (first (of-atom v) (atoms t)) (sym (z .firsts-are v h) ∙ sym e ∙ q) in
+      sym (ap var-of o)
 
-held-some : (w : ℕ) → (w ≡ 0 → ⊥) → some (w - 1) ≡ held w
-unfolding held
-held-some zero n = absurd (n refl)
-held-some (suc w) n = let e : suc w - 1 ≡ w = omega arith in ap some e
+  pub one-var : v < max-terms → w ≡ at t FIRST v → (w ≡ 0 → ⊥) → some (w - 1) ≡ var-of-atom (atoms t) v
+  unfolding var-of-atom var-of
+  one-var h e d =
+      let f = e ∙ z .firsts-are v h in
+      let (r, o, q) = word-some (λ (r : Registered). r .var) (first (of-atom v) (atoms t)) (λ q. d (f ∙ q)) in
+      ap (λ (k : ℕ). some (k - 1)) f ∙ ap some (sym q) ∙ sym (ap var-of o)
 
-pub no-var : (t : List ℕ) (x w : ℕ) → RegistrySound t → x < 1024 → w ≡ word t (2049 + x) → w ≡ 0 → none ≡ var-of-atom (atoms t) x
-no-var t x w z h e q = held-none (first-word t x) (sym e ∙ q) ∙ z .firsts x h
+module _ (t : List ℕ) (v : ℕ) (z : RegistrySound t) where
+  pub registered-beyond : max-vars ≤ v → false ≡ is-registered (atoms t) v
+  unfolding is-registered atoms
+  registered-beyond h =
+      sym (any-missing (of-var v) (registered-at t) (vars# t) (λ i l g. ne-eqb (at t VAR i) v (let b = z .vars i g in omega arith)))
 
-pub one-var : (t : List ℕ) (x w : ℕ) → RegistrySound t → x < 1024 → w ≡ word t (2049 + x) → (w ≡ 0 → ⊥) → some (w - 1) ≡ var-of-atom (atoms t) x
-one-var t x w z h e q = ap (λ (y : ℕ). some (y - 1)) e ∙ held-some (first-word t x) (λ p. q (e ∙ p)) ∙ z .firsts x h
+  -- a registered variable has an atom
+  pub registered-word : is-registered (atoms t) v ≡ true → (v < max-vars) × (0 < at t ATOM v) × (at t ATOM v ≤ max-terms)
+  registered-word e = go (decLt v max-vars)
+    where
+      some-word : v < max-vars → (w : ℕ) → w ≡ at t ATOM v → 0 < w
+      some-word h zero q = absurd (false≢true (registered-no t v zero z h q refl ∙ e))
+      some-word h (suc w) q = omega arith
 
-pub noted-new : (t : List ℕ) (x v w : ℕ) (u : List ℕ) → w ≡ word t (2049 + x) → w ≡ 0 → u ≡ set t (2049 + x) (v + 1) → u ≡ noted-first t x v
-unfolding noted-first
-noted-new t x v w u e q p = p ∙ sym (ap (λ (b : Bool). cond b (set t (2049 + x) (v + 1)) t) (eq-eqb (first-word t x) 0 (sym e ∙ q)))
+      go : Dec (v < max-vars) → (v < max-vars) × (0 < at t ATOM v) × (at t ATOM v ≤ max-terms)
+      go (yes h) = (h, some-word h (at t ATOM v) refl, z .atoms-fit v h)
+      go (no n) = absurd (false≢true (registered-beyond (omega arith) ∙ e))
 
-pub noted-old : (t : List ℕ) (x v w : ℕ) → w ≡ word t (2049 + x) → (w ≡ 0 → ⊥) → t ≡ noted-first t x v
-unfolding noted-first
-noted-old t x v w e q = sym (ap (λ (b : Bool). cond b (set t (2049 + x) (v + 1)) t) (ne-eqb (first-word t x) 0 (λ p. q (e ∙ p))))
+atom-word-of : (o : Option Registered) → word-for (λ (r : Registered). r .atom) o - 1 ≡ atom-of o
+unfolding word-for atom-of
+atom-word-of none = refl
+atom-word-of (some r) = omega arith
+
+pub atom-is : (t : List ℕ) (v : ℕ) → RegistrySound t → v < max-vars → at t ATOM v - 1 ≡ atom (atoms t) v
+unfolding atom
+atom-is t v z h = ap (λ (w : ℕ). w - 1) (z .atoms-are v h) ∙ atom-word-of (first (of-var v) (atoms t))
+
+pub first-new : (t : List ℕ) (x v w : ℕ) → w ≡ at t FIRST x → w ≡ 0 → v + 1 ≡ first-with t x v
+unfolding or-else
+first-new t x v w e q = add-one v ∙ ap (λ (a : ℕ). or-else a (suc v)) (sym q ∙ e)
+
+pub first-old : (t : List ℕ) (x v w : ℕ) → w ≡ at t FIRST x → (w ≡ 0 → ⊥) → w ≡ first-with t x v
+unfolding or-else
+first-old t x v zero e d = absurd (d refl)
+first-old t x v (suc w) e d = ap (λ (a : ℕ). or-else a (suc v)) e

@@ -1,37 +1,92 @@
--- The answer table of 1,024 leaves: where each part stands, what it means, and why there is always room.
-use Prim.Native.Nat.{ℕ, zero, suc, _+_, _≤_}
+-- The answer table: its regions, what it means, and why there is always room for a leaf.
+use Prim.Native.Nat.{ℕ, zero, suc, _+_, _≤_, _<_}
 use mathlib.Core.Path.{_≡_}
 use mathlib.Core.Logic.{_⊎_}
-use mathlib.Core.List.{List, map}
+use mathlib.Core.Bool.{Bool, true, cond}
+use mathlib.Core.List.{List, [], _∷_, _++_}
 use lib.ListN.{length}
-use Rattle.core.specs.Lists.{In, Apart, range}
-use Rattle.core.specs.Memory.Table.{word}
-use Rattle.theory.specs.Types.{EqJust, Asserted, Congruence, Interface, EqLeaf, AssertedLeaf, InterfaceLeaf}
+use Rattle.core.specs.Limits.{max-terms, max-theories}
+use Rattle.core.specs.Lists.{In, Apart, any}
+use Rattle.core.specs.Memory.Words.{at, counted, room-in}
+use Rattle.theory.specs.Types.{EqJust, Asserted, Congruence, Interface, EqLeaf, AssertedLeaf, InterfaceLeaf, same-leaf}
 use Rattle.theory.specs.EqEngine.{Merge}
+use Rattle.theory.specs.declared.types.EqLeaf as Given
 
--- ---- the layout: 2,049 words
+-- ---- the regions
 
--- how many leaves there are; for each leaf 0, or one more than its theory; its literal or its tag
-abbrev pub leaves# : List ℕ → ℕ
-leaves# o = word o 0
+-- how many leaves there are, the only word of COUNTS
+abbrev pub COUNTS : ℕ
+COUNTS = 0
 
-abbrev pub leaf-kind : List ℕ → ℕ → ℕ
-leaf-kind o i = word o (1 + i)
+abbrev pub LEAVES : ℕ
+LEAVES = 0
 
-abbrev pub leaf-value : List ℕ → ℕ → ℕ
-leaf-value o i = word o (1025 + i)
+-- for each leaf 0, or one more than its theory; its literal or its tag
+abbrev pub LEAF-KIND : ℕ
+LEAF-KIND = 1
+
+abbrev pub LEAF-VALUE : ℕ
+LEAF-VALUE = 1025
+
+abbrev pub answer-layout : List (ℕ × ℕ)
+answer-layout = (COUNTS, 1) ∷ (LEAF-KIND, max-terms) ∷ (LEAF-VALUE, max-terms) ∷ []
+
+abbrev pub answer-room : ℕ → ℕ
+answer-room = room-in answer-layout
+
+abbrev pub answer-size : ℕ
+answer-size = 2049
 
 -- ---- what a table means
+
+abbrev pub leaves# : List ℕ → ℕ
+leaves# o = at o COUNTS LEAVES
 
 unfoldable pub leaf-of : ℕ → ℕ → EqLeaf
 leaf-of zero v = AssertedLeaf v
 leaf-of (suc h) v = InterfaceLeaf h v
 
-unfoldable pub leaf-at : List ℕ → ℕ → EqLeaf
-leaf-at o i = leaf-of (leaf-kind o i) (leaf-value o i)
+abbrev pub leaf-at : List ℕ → ℕ → EqLeaf
+leaf-at o i = leaf-of (at o LEAF-KIND i) (at o LEAF-VALUE i)
 
 unfoldable pub leaves : List ℕ → List EqLeaf
-leaves o = map (leaf-at o) (range 0 (leaves# o))
+leaves o = counted (leaf-at o) (leaves# o)
+
+-- the code's leaf in the definition
+unfoldable pub leaf-meaning : Given.EqLeaf → EqLeaf
+leaf-meaning (Given.the-variants.Asserted l) = AssertedLeaf (l .0)
+leaf-meaning (Given.the-variants.Interface j) = InterfaceLeaf (j .theory) (j .tag)
+
+-- ---- when the words of a table are those of leaves
+
+pub record LeavesSound (o : List ℕ) : Type 0 where
+  pub long : answer-size ≤ length o
+  pub fit : leaves# o ≤ max-terms
+  -- a theory has 16 bits
+  pub theories : (i : ℕ) → i < leaves# o → at o LEAF-KIND i ≤ max-theories
+
+-- does a leaf stand in a list?
+abbrev pub has-leaf : EqLeaf → List EqLeaf → Bool
+has-leaf l ls = any (same-leaf l) ls
+
+-- the list with one more leaf, unless it stands there
+abbrev pub with-leaf : EqLeaf → List EqLeaf → List EqLeaf
+with-leaf l ls = cond (has-leaf l ls) ls (ls ++ (l ∷ []))
+
+-- a leaf that stands there already, or has room
+abbrev pub HasRoom : List ℕ → EqLeaf → Type 0
+HasRoom o l = (has-leaf l (leaves o) ≡ true) ⊎ (length (leaves o) < max-terms)
+
+pub record Pushed (o u : List ℕ) (l : EqLeaf) : Type 0 where
+  pub sound : LeavesSound u
+  pub listed : leaves u ≡ with-leaf l (leaves o)
+
+-- the words of a leaf that is to be pushed
+pub record Pushable (o : List ℕ) (kind value : ℕ) : Type 0 where
+  pub sound : LeavesSound o
+  pub kind-fits : kind ≤ max-theories
+  pub value-fits : value < 4294967296
+  pub room : HasRoom o (leaf-of kind value)
 
 -- ---- why there is room
 
@@ -45,9 +100,18 @@ Labels (Interface h g) k = k ≡ InterfaceLeaf h g
 abbrev pub Cites : List Merge → EqLeaf → Type 0
 Cites ms l = (m : Merge) × In m ms × Labels (m .just) l
 
+-- leaves of which all but one label merges
+abbrev pub Cited : List Merge → EqLeaf → List EqLeaf → Type 0
+Cited ms other ls = (l : EqLeaf) → In l ls → (l ≡ other) ⊎ Cites ms l
+
 -- No leaf stands twice, and all but one label merges in force. Of a sound table there are fewer than 1,024 merges, so there is room.
 pub record AnswerSound (ms : List Merge) (o : List ℕ) : Type 0 where
-  pub long : 2049 ≤ length o
+  pub words : LeavesSound o
   pub apart : Apart (leaves o)
   pub other : EqLeaf
-  pub cited : (l : EqLeaf) → In l (leaves o) → (l ≡ other) ⊎ Cites ms l
+  pub cited : Cited ms other (leaves o)
+
+-- no leaf, whatever merges are in force
+pub record Cleared (o : List ℕ) : Type 0 where
+  pub sound : (ms : List Merge) → AnswerSound ms o
+  pub empty : leaves o ≡ []

@@ -1,40 +1,19 @@
--- What the private functions that explain an equality promise one another: the parts of an explanation and their ages, and how marks
--- and the answer table stand for the pairs expanded and the leaves met. A caller of the crate needs none of it.
+-- What the functions that explain an equality promise: the parts of an explanation and their ages, and how marks and the answer table
+-- stand for the pairs expanded and the leaves met. A caller of the crate needs `Explainable` and `Explains` only.
 use Prim.Native.Nat.{ℕ, zero, suc, _-_, _≤_, _<_}
 use mathlib.Core.Path.{_≡_}
 use mathlib.Core.Bool.{Bool, true, false, cond}
 use mathlib.Core.List.{List, [], _∷_, _++_, map, foldl}
 use lib.Dec.{eqb, leb}
 use lib.ListN.{length}
+use Rattle.core.specs.Limits.{max-pairs}
 use Rattle.core.specs.Lists.{any, range}
-use Rattle.core.specs.Memory.Table.{word}
+use Rattle.core.specs.Memory.Words.{at}
 use Rattle.theory.specs.Types.{EqJust, EqLeaf}
-use Rattle.theory.specs.EqEngine.{Merge, Step, Explained, are-equal, pairs-of, pairs-in-force, path, same-pair, visit, expand-edge, explain-rec, firsts-after}
-use Rattle.theory.specs.Memory.Table.{left-word, right-word, pair-at, merges, EngineSound}
+use Rattle.theory.specs.EqEngine.{Merge, Step, Explained, are-equal, pairs-of, pairs-in-force, before, way, path, same-pair, visit, expand-edge, explain-rec, explain, firsts-after}
+use Rattle.theory.specs.Memory.Replay.{IsNode}
+use Rattle.theory.specs.Memory.Table.{engine-size, pair-at, merges, EngineSound}
 use Rattle.theory.specs.Memory.Answer.{leaves, AnswerSound}
-
--- ---- the parts of an explanation, at a depth
-
--- a label
-unfoldable pub expand-label : List Merge → EqJust → ℕ → Explained → Explained
-expand-label ms j d e = expand-edge (explain-rec d ms) j e
-
--- steps of a path in turn
-unfoldable pub expand-steps : List Merge → List Step → ℕ → Explained → Explained
-expand-steps ms w d e = foldl (λ e′ (s : Step). expand-edge (explain-rec d ms) (s .just) e′) e w
-
--- argument pairs in turn
-unfoldable pub expand-pairs : List Merge → List (ℕ × ℕ) → ℕ → Explained → Explained
-expand-pairs ms ps d e = foldl (λ e′ (p : ℕ × ℕ). explain-rec d ms (p .0) (p .1) e′) e ps
-
--- a pair that has not been expanded yet
-unfoldable pub expand-new : List Merge → ℕ → ℕ → ℕ → Explained → Explained
-expand-new ms x y zero e = e
-expand-new ms x y (suc d) e = let r = expand-steps ms (path ms x y) d (visit x y e) in cond (eqb x y) e r
-
--- the argument pairs of a table from one number up to another
-unfoldable pub pairs-from : List ℕ → ℕ → ℕ → List (ℕ × ℕ)
-pairs-from t from to = map (pair-at t) (range from (to - from))
 
 -- ---- ages
 
@@ -56,36 +35,116 @@ unfoldable pub steps-age : List Merge → List Step → ℕ
 steps-age ms [] = 0
 steps-age ms (s ∷ w) = larger (pairs-age ms (pairs-of (s .just))) (steps-age ms w)
 
+-- ---- the parts of an explanation
+
+-- a pair that has not been expanded yet, the steps of a way, a label, argument pairs
+pub data Part : Type 0 where
+  NewPair : (x y : ℕ) → Part
+  Way : List Step → Part
+  Label : EqJust → Part
+  Pairs : List (ℕ × ℕ) → Part
+
+-- how deep explaining it goes
+unfoldable pub part-age : List Merge → Part → ℕ
+part-age ms (NewPair x y) = suc (age ms x y)
+part-age ms (Way w) = steps-age ms w
+part-age ms (Label j) = pairs-age ms (pairs-of j)
+part-age ms (Pairs ps) = pairs-age ms ps
+
+unfoldable pub expand-way : List Merge → List Step → ℕ → Explained → Explained
+expand-way ms w d e = foldl (λ e′ (s : Step). expand-edge (explain-rec d ms) (s .just) e′) e w
+
+unfoldable pub expand-new : List Merge → ℕ → ℕ → ℕ → Explained → Explained
+expand-new ms x y zero e = e
+expand-new ms x y (suc d) e = let r = expand-way ms (path ms x y) d (visit x y e) in cond (eqb x y) e r
+
+-- of a table, part p is not older than part q
+abbrev pub NotOlder : List ℕ → Part → Part → Type 0
+NotOlder t p q = part-age (merges t) p ≤ part-age (merges t) q
+
+-- what it makes of an explanation, at a depth
+unfoldable pub expand : List Merge → Part → ℕ → Explained → Explained
+expand ms (NewPair x y) d e = expand-new ms x y d e
+expand ms (Way w) d e = expand-way ms w d e
+expand ms (Label j) d e = expand-edge (explain-rec d ms) j e
+expand ms (Pairs ps) d e = foldl (λ e′ (p : ℕ × ℕ). explain-rec d ms (p .0) (p .1) e′) e ps
+
+-- the steps of the forest from a node up to one above it
+abbrev pub up-to : List ℕ → ℕ → ℕ → List Step
+up-to t node top = before top (way (merges t) node)
+
+-- the argument pairs of a table from one number up to another
+unfoldable pub pairs-from : List ℕ → ℕ → ℕ → List (ℕ × ℕ)
+pairs-from t from to = map (pair-at t) (range from (to - from))
+
 -- ---- marks and leaves
+
+-- the marks are one region, one for each argument pair
+abbrev pub MARKS : ℕ
+MARKS = 0
 
 -- a mark is any word but 0
 unfoldable pub marked : ℕ → Bool
 marked zero = false
 marked (suc n) = true
 
+-- is argument pair j a pair of nodes, in either order?
+abbrev pub is-pair : List ℕ → ℕ → ℕ × ℕ → Bool
+is-pair t j p = same-pair (pair-at t j .0) (pair-at t j .1) p
+
 -- The table holds the first occurrences of the leaves met, after those seen before; a pair in force is marked where it, in
 -- either order, has been expanded.
 pub record Shows (t marks out : List ℕ) (seen : List EqLeaf) (e : Explained) : Type 0 where
   pub listed : leaves out ≡ seen ++ firsts-after seen (e .leaves)
-  pub marks-are : (j : ℕ) → j < pairs-in-force (merges t) → marked (word marks j) ≡ any (same-pair (left-word t j) (right-word t j)) (e .visited)
+  pub marks-are : (j : ℕ) → j < pairs-in-force (merges t) → marked (at marks MARKS j) ≡ any (is-pair t j) (e .visited)
 
 -- the tables that an explanation works on
 pub record Explaining (t marks out : List ℕ) : Type 0 where
   pub engine : EngineSound t
   pub answer : AnswerSound (merges t) out
-  pub long : 2048 ≤ length marks
+  pub long : max-pairs ≤ length marks
 
--- If the tables before show an explanation e, those after show f d e, for every depth d from k on.
-pub record Goes (t marks out marks′ out′ : List ℕ) (k : ℕ) (f : ℕ → Explained → Explained) : Type 0 where
+-- If the tables before show an explanation, those after show what the part makes of it, at every depth from its age on.
+pub record Goes (t marks out marks′ out′ : List ℕ) (p : Part) : Type 0 where
   pub answer : AnswerSound (merges t) out′
-  pub shows : (d : ℕ) (seen : List EqLeaf) (e : Explained) → k ≤ d → Shows t marks out seen e → Shows t marks′ out′ seen (f d e)
+  pub shows : (d : ℕ) (seen : List EqLeaf) (e : Explained) → part-age (merges t) p ≤ d →
+      Shows t marks out seen e → Shows t marks′ out′ seen (expand (merges t) p d e)
+
+-- ---- what the functions ask
+
+pub record EqualNodes (t : List ℕ) (a b : ℕ) : Type 0 where
+  pub first : IsNode a
+  pub second : IsNode b
+  pub equal : are-equal (merges t) a b ≡ true
+
+-- argument pair j is in force, of equal nodes
+pub record EqualPair (t : List ℕ) (j : ℕ) : Type 0 where
+  pub in-force : j < pairs-in-force (merges t)
+  pub nodes : EqualNodes t (pair-at t j .0) (pair-at t j .1)
+
+pub record PairsEqual (t : List ℕ) (from to : ℕ) : Type 0 where
+  pub ordered : from ≤ to
+  pub each : (j : ℕ) → from ≤ j → j < to → EqualPair t j
 
 -- ks with a mark at each pair in force that is a and b, in either order
 pub record MarksPair (t : List ℕ) (a b : ℕ) (ks ls : List ℕ) : Type 0 where
-  pub each : (j : ℕ) → j < pairs-in-force (merges t) → marked (word ls j) ≡ cond (same-pair (left-word t j) (right-word t j) (a, b)) true (marked (word ks j))
+  pub each : (j : ℕ) → j < pairs-in-force (merges t) → marked (at ls MARKS j) ≡ cond (is-pair t j (a, b)) true (marked (at ks MARKS j))
 
--- argument pair j is in force, of nodes that are equal
-pub record EqualPair (t : List ℕ) (j : ℕ) : Type 0 where
-  pub in-force : j < pairs-in-force (merges t)
-  pub nodes : (left-word t j < 1024) × (right-word t j < 1024)
-  pub equal : are-equal (merges t) (left-word t j) (right-word t j) ≡ true
+-- argument pair j has words, and a mark
+pub record Markable (t marks : List ℕ) (j : ℕ) : Type 0 where
+  pub engine : engine-size ≤ length t
+  pub place : j < max-pairs
+  pub long : max-pairs ≤ length marks
+
+-- two equal terms, and an answer table for what their equality rests on
+pub record Explainable (t : List ℕ) (a b : ℕ) (out : List ℕ) : Type 0 where
+  pub sound : EngineSound t
+  pub first : IsNode a
+  pub second : IsNode b
+  pub equal : are-equal (merges t) a b ≡ true
+  pub answer : AnswerSound (merges t) out
+
+-- the leaves that are new are appended in order
+pub record Explains (t : List ℕ) (a b : ℕ) (out out′ : List ℕ) : Type 0 where
+  pub sound : AnswerSound (merges t) out′
+  pub listed : leaves out′ ≡ leaves out ++ firsts-after (leaves out) (explain (merges t) a b)

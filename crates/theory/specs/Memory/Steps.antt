@@ -1,16 +1,18 @@
 -- What the engine's private functions do to its table: for the contracts between them. A caller of the crate needs none of it.
-use Prim.Native.Nat.{ℕ, _+_, _-_, _≤_, _<_}
+use Prim.Native.Nat.{ℕ, suc, _+_, _-_, _≤_, _<_}
 use mathlib.Core.Path.{_≡_}
-use mathlib.Core.Bool.{Bool, false, cond}
+use mathlib.Core.Bool.{Bool, false}
 use mathlib.Core.List.{List, [], _∷_, map}
-use lib.Dec.{eqb, ltb}
+use lib.Dec.{ltb}
 use lib.ListN.{length}
+use Rattle.core.specs.Limits.{max-terms, max-pairs}
 use Rattle.core.specs.Lists.{In}
-use Rattle.core.specs.Memory.Table.{word}
+use Rattle.core.specs.Memory.Words.{at, put, Kept}
 use Rattle.theory.specs.declared.types.EqJust as Given
 use Rattle.theory.specs.declared.eq_engine.LabelWords as LabelWords
-use Rattle.theory.specs.EqEngine.{Merge, are-equal, pairs-of, pairs-in-force, Step, way}
-use Rattle.theory.specs.Memory.Table.{parent-word, size-word, fparent-word, fedge-word, a-word, b-word, label-word, value-word, child-word, froot-word, after-word, left-word, right-word, label, begins, merges, end, EqualPairs}
+use Rattle.theory.specs.EqEngine.{Merge, are-equal, pop-merges, pairs-of, pairs-in-force, Step, way}
+use Rattle.theory.specs.Memory.Replay.{IsNode, end, On, EqualPairs}
+use Rattle.theory.specs.Memory.Table.{engine-size, PARENT, SIZE, FPARENT, FEDGE, SIDE-A, SIDE-B, LABEL, VALUE, CHILD, FROOT, AFTER, LEFT, RIGHT, engine-room, merges#, parent-word, size-word, fparent-word, fedge-word, a-word, b-word, label-word, value-word, child-word, froot-word, after-word, left-word, right-word, kind-unit, label, begins, merges-below, merges, level, EngineSound, Engine}
 
 -- ---- the log
 
@@ -18,7 +20,7 @@ use Rattle.theory.specs.Memory.Table.{parent-word, size-word, fparent-wo
 pub record SameEntry (t u : List ℕ) (i : ℕ) : Type 0 where
   pub a : a-word u i ≡ a-word t i
   pub b : b-word u i ≡ b-word t i
-  pub kind : label-word u i ≡ label-word t i
+  pub label : label-word u i ≡ label-word t i
   pub value : value-word u i ≡ value-word t i
   pub child : child-word u i ≡ child-word t i
   pub froot : froot-word u i ≡ froot-word t i
@@ -35,91 +37,138 @@ pub record SameLog (t u : List ℕ) (n : ℕ) : Type 0 where
 
 -- ---- the forest
 
--- n is a node of the steps w from x
-abbrev pub On : ℕ → ℕ → List Step → Type 0
-On n x w = In n (x ∷ map (λ (s : Step). s .up) w)
+-- a node and what stands above it on its way
+pub record Upward (t : List ℕ) (node top : ℕ) : Type 0 where
+  pub sound : EngineSound t
+  pub is-node : IsNode node
+  pub above : On top node (way (merges t) node)
+
+-- two tables agree on the words of one node in the forest
+pub record SameNode (t u : List ℕ) (x : ℕ) : Type 0 where
+  pub parent : fparent-word u x ≡ fparent-word t x
+  pub edge : fedge-word u x ≡ fedge-word t x
+
+-- in u a step of t is walked back, over the same edge
+pub record Turned (t u : List ℕ) (s : Step) : Type 0 where
+  pub parent : fparent-word u (s .up) ≡ s .node
+  pub edge : fedge-word u (s .up) ≡ fedge-word t (s .node)
 
 -- the steps w from n are turned, and n is a root
 pub record Rerooted (t u : List ℕ) (n : ℕ) (w : List Step) : Type 0 where
-  pub long : length u ≡ length t
-  pub before : (k : ℕ) → k < 2112 → word u k ≡ word t k
-  pub behind : (k : ℕ) → 4160 ≤ k → word u k ≡ word t k
+  pub kept : Kept engine-room (FPARENT ∷ FEDGE ∷ []) t u
   pub root : fparent-word u n ≡ n
-  pub turned : (s : Step) → In s w → (fparent-word u (s .up) ≡ s .node) × (fedge-word u (s .up) ≡ fedge-word t (s .node))
-  pub others : (x : ℕ) → x < 1024 → (On x n w → ⊥) → (fparent-word u x ≡ fparent-word t x) × (fedge-word u x ≡ fedge-word t x)
+  pub turned : (s : Step) → In s w → Turned t u s
+  pub others : (x : ℕ) → IsNode x → (On x n w → ⊥) → SameNode t u x
 
 -- the tree of a is turned and hangs from a under b, by merge i
 pub record Spliced (t u : List ℕ) (a b i : ℕ) : Type 0 where
-  pub long : length u ≡ length t
-  pub before : (k : ℕ) → k < 2112 → word u k ≡ word t k
-  pub behind : (k : ℕ) → 4160 ≤ k → (k ≡ 9280 + i → ⊥) → word u k ≡ word t k
+  pub kept : Kept engine-room (FPARENT ∷ FEDGE ∷ FROOT ∷ []) t u
   pub old-root : froot-word u i ≡ end a (way (merges t) a)
+  pub older : (j : ℕ) → j < i → froot-word u j ≡ froot-word t j
   pub edge : (fparent-word u a ≡ b) × (fedge-word u a ≡ i)
-  pub turned : (s : Step) → In s (way (merges t) a) → (fparent-word u (s .up) ≡ s .node) × (fedge-word u (s .up) ≡ fedge-word t (s .node))
-  pub others : (x : ℕ) → x < 1024 → (On x a (way (merges t) a) → ⊥) → (fparent-word u x ≡ fparent-word t x) × (fedge-word u x ≡ fedge-word t x)
+  pub turned : (s : Step) → In s (way (merges t) a) → Turned t u s
+  pub others : (x : ℕ) → IsNode x → (On x a (way (merges t) a) → ⊥) → SameNode t u x
 
 -- ---- classes
 
--- the class of root child is under the root, by merge i
-pub record United (t u : List ℕ) (child root i : ℕ) : Type 0 where
-  pub long : length u ≡ length t
-  pub before : (k : ℕ) → k < 64 → word u k ≡ word t k
-  pub behind : (k : ℕ) → 2112 ≤ k → (k ≡ 8256 + i → ⊥) → word u k ≡ word t k
-  pub parents : (x : ℕ) → x < 1024 → parent-word u x ≡ cond (eqb x child) root (parent-word t x)
-  pub sizes : (x : ℕ) → x < 1024 → size-word u x ≡ cond (eqb x root) (size-word t child + size-word t root) (size-word t x)
-  pub child-noted : child-word u i ≡ child
+-- two classes may be joined by merge i: their sizes fit a word
+pub record TwoClasses (t : List ℕ) (ra rb i : ℕ) : Type 0 where
+  pub long : engine-size ≤ length t
+  pub first : IsNode ra
+  pub second : IsNode rb
+  pub entry : i < max-terms
+  pub fit : size-word t ra + size-word t rb < 4294967296
+
+-- the class of the root child is under root, by merge i
+unfoldable pub united : List ℕ → ℕ → ℕ → ℕ → List ℕ
+united t child root i = put (put (put t PARENT child root) SIZE root (size-word t child + size-word t root)) CHILD i child
+
+-- the class of the root child, which was under root, may be taken out again
+pub record Separable (t : List ℕ) (child : ℕ) : Type 0 where
+  pub long : engine-size ≤ length t
+  pub is-node : IsNode child
+  pub above : IsNode (parent-word t child)
+  pub smaller : size-word t child ≤ size-word t (parent-word t child)
+
+-- and is its own again
+unfoldable pub separated : List ℕ → ℕ → ℕ → List ℕ
+separated t child root = put (put t SIZE root (size-word t root - size-word t child)) PARENT child child
 
 -- ---- a new entry of the log
 
--- entry i is written but for its roots; those before it stay
-pub record Logged (t u : List ℕ) (i a b w v e : ℕ) : Type 0 where
-  pub long : length u ≡ length t
-  pub before : (k : ℕ) → k < 4160 → word u k ≡ word t k
-  pub older : SameLog t u i
-  pub pairs : (k : ℕ) → 11328 ≤ k → word u k ≡ word t k
-  pub sides : (a-word u i ≡ a) × (b-word u i ≡ b)
-  pub kind : label-word u i ≡ w
-  pub value : value-word u i ≡ v
-  pub after : after-word u i ≡ e
-  pub roots : (child-word u i ≡ child-word t i) × (froot-word u i ≡ froot-word t i)
+-- the words of a merge
+pub record Entry (i a b w v e : ℕ) : Type 0 where
+  pub entry : i < max-terms
+  pub first : IsNode a
+  pub second : IsNode b
+  pub label : w < 4294967296
+  pub value : v < 4294967296
+  pub after : e ≤ max-pairs
+
+-- entry i is written but for its roots
+unfoldable pub logged : List ℕ → ℕ → ℕ → ℕ → ℕ → ℕ → ℕ → List ℕ
+logged t i a b w v e = put (put (put (put (put t SIDE-A i a) SIDE-B i b) LABEL i w) VALUE i v) AFTER i e
 
 -- a and b are in two classes, and a label of these words may join them
 pub record Joinable (t : List ℕ) (a b kind h v e : ℕ) : Type 0 where
-  pub nodes : (a < 1024) × (b < 1024)
+  pub sound : EngineSound t
+  pub nodes : IsNode a × IsNode b
   pub two : are-equal (merges t) a b ≡ false
   pub known : kind < 3
-  pub theory : h < 65536
+  pub theory : h < kind-unit
   pub value : v < 4294967296
   pub start : begins kind v e ≡ pairs-in-force (merges t)
   pub ordered : begins kind v e ≤ e
-  pub fit : e ≤ 2048
+  pub fit : e ≤ max-pairs
   pub pairs : EqualPairs (merges t) (pairs-of (label t kind h v e))
 
 -- the words of a label without pairs
-unfoldable pub HoldsLabel : Given.EqJust → LabelWords.LabelWords → Type 0
-HoldsLabel (Given.the-variants.Asserted l) w = (w .kind ≡ 0) × (w .theory ≡ 0) × (w .value ≡ l .0) × (w .value < 4294967296)
-HoldsLabel (Given.the-variants.Interface j) w = (w .kind ≡ 2) × (w .theory ≡ j .theory) × (w .value ≡ j .tag) × (w .theory < 65536) × (w .value < 4294967296)
+pub record AssertedWords (lit : ℕ) (w : LabelWords.LabelWords) : Type 0 where
+  pub kind : w .kind ≡ 0
+  pub theory : w .theory ≡ 0
+  pub value : w .value ≡ lit
+  pub fits : w .value < 4294967296
+
+pub record InterfaceWords (h tag : ℕ) (w : LabelWords.LabelWords) : Type 0 where
+  pub kind : w .kind ≡ 2
+  pub theory : w .theory ≡ h
+  pub value : w .value ≡ tag
+  pub known : w .theory < kind-unit
+  pub fits : w .value < 4294967296
+
+abbrev pub HoldsLabel : Given.EqJust → LabelWords.LabelWords → Type 0
+HoldsLabel (Given.the-variants.Asserted l) w = AssertedWords (l .0) w
+HoldsLabel (Given.the-variants.Interface j) w = InterfaceWords (j .theory) (j .tag) w
 
 -- ---- argument pairs
 
+-- there is room for the pairs of two lists from start on
+pub record PairRoom (t : List ℕ) (start : ℕ) (xs ys : List ℕ) : Type 0 where
+  pub long : engine-size ≤ length t
+  pub same-count : length xs ≡ length ys
+  pub fit : start + length xs ≤ max-pairs
+
 -- the numbers of two lists are pairs from start on, and all else is as before
 pub record Copied (t u : List ℕ) (start : ℕ) (xs ys : List ℕ) : Type 0 where
-  pub long : length u ≡ length t
-  pub before : (k : ℕ) → k < 11328 → word u k ≡ word t k
+  pub kept : Kept engine-room (LEFT ∷ RIGHT ∷ []) t u
   pub older : SamePairs t u start
-  pub new : (j : ℕ) → j < length xs → (left-word u (start + j) ≡ word xs j) × (right-word u (start + j) ≡ word ys j)
+  pub new : (j : ℕ) → j < length xs → (left-word u (start + j) ≡ at xs 0 j) × (right-word u (start + j) ≡ at ys 0 j)
 
--- ---- a merge undone
+-- ---- merges undone
 
--- the class of root child, which was under high, is its own again
-pub record Separated (t u : List ℕ) (child root : ℕ) : Type 0 where
-  pub long : length u ≡ length t
-  pub before : (k : ℕ) → k < 64 → word u k ≡ word t k
-  pub behind : (k : ℕ) → 2112 ≤ k → word u k ≡ word t k
-  pub parents : (x : ℕ) → x < 1024 → parent-word u x ≡ cond (eqb x child) child (parent-word t x)
-  pub sizes : (x : ℕ) → x < 1024 → size-word u x ≡ cond (eqb x root) (size-word t root - size-word t child) (size-word t x)
+-- the newest merge is taken back
+pub record Undoes (t u : List ℕ) : Type 0 where
+  pub sound : EngineSound u
+  pub one-less : suc (merges# u) ≡ merges# t
+  pub log : merges u ≡ merges-below t (merges# u)
+  pub same-level : level u ≡ level t
 
 -- is the newest merge of a level above k?
 unfoldable pub newest-above : ℕ → List Merge → Bool
 newest-above k [] = false
 newest-above k (m ∷ ms) = ltb k (m .level)
+
+-- the merges of a level above `to` are taken back, and the level is as it was
+pub record Drops (t u : List ℕ) (to : ℕ) : Type 0 where
+  pub engine : Engine u (pop-merges to (merges t)) (level t)
+  pub below : newest-above to (merges u) ≡ false

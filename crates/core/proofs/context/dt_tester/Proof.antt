@@ -1,5 +1,6 @@
+-- Straight.
+use Rattle.core.proofs.Kit.{needs}
 use Rattle.core.specs.Context.{dt-tester}
-use borrow.Author.Needs.{needs}
 use Rattle.core.proofs.context.dt_tester.Statement.{statement}
 use Rattle.core.proofs.context.dt_tester.Tie as tie
 

@@ -1,68 +1,61 @@
-use Prim.Native.Nat.{_≤_}
-use native.Mathlib.Omega.{arith}
-use Rattle.core.proofs.Memory.Intern.{made-old, no-more-terms, no-more-places, made-new, start-fits}
-use borrow.Author.Needs.{needs}
+-- An old term, no room for one more or for its arguments, or a new one.
+use Rattle.core.proofs.Kit.{needs, arith}
+use Rattle.core.proofs.Memory.Terms.{made-old, no-more-terms, start-fits, no-more-places, appendable, made-new}
 use Rattle.core.proofs.context.intern.Statement.{statement}
 use Rattle.core.proofs.context.intern.Tie as tie
 
 returns : tie.Need-returns
-returns c = made-old _ _ _ (c .before .before .before .before .before .before .before .pre .0) _ _ (c .before .before .before .get .ensures .0) (c .before .find-app .ensures) (c .if1 .taken)
+returns c =
+    let at-get-at = c .before .before .before in
+    let entry = at-get-at .before .before .before .before in
+    made-old _ _ _ (entry .pre .sound) _ _ (at-get-at .get-at .ensures .0) (c .before .find-app .ensures) (omega arith)
 
 returns-2 : tie.Need-returns-2
-returns-2 c = no-more-terms _ _ _ (c .before .before .before .before .before .before .before .before .pre .0) _ _ (c .before .before .before .before .get .ensures .0) (c .before .before .find-app .ensures) (c .before .if1 .left) (c .if2 .taken)
+returns-2 c =
+    let at-get-at = c .before .before .before .before in
+    let entry = at-get-at .before .before .before .before in
+    no-more-terms _ _ _ (entry .pre .sound) _ _ (at-get-at .get-at .ensures .0) (c .before .before .find-app .ensures) (omega arith)
+    (omega arith)
 
 sub-if3 : tie.Need-sub-if3
-sub-if3 c = start-fits _ _ _ (c .before .before .before .before .before .before .before .before .before .before .pre .0) (c .before .before .before .before .before .before .get .ensures .0) (c .get2 .ensures .0)
+sub-if3 c =
+    let at-find-app = c .before .before .before .before in
+    let at-get-at = at-find-app .before .before in
+    let entry = at-get-at .before .before .before .before in
+    let o = c .get-at2 .ensures .0 in
+    let h = start-fits _ _ _ (entry .pre .sound) _ _ (at-get-at .get-at .ensures .0) (at-find-app .find-app .ensures) _ o in
+    omega arith
 
 returns-3 : tie.Need-returns-3
-returns-3 c = no-more-places _ _ _ (c .before .before .before .before .before .before .before .before .before .before .before .pre .0) _ _ _ (c .before .before .before .before .before .before .before .get .ensures .0) (c .before .before .before .before .before .find-app .ensures) (c .before .before .before .before .if1 .left) (c .before .get2 .ensures .0) (c .if3 .taken)
+returns-3 c =
+    let at-find-app = c .before .before .before .before .before in
+    let at-get-at = at-find-app .before .before in
+    let entry = at-get-at .before .before .before .before in
+    let o = c .before .get-at2 .ensures .0 in
+    no-more-places _ _ _ (entry .pre .sound) _ _ (at-get-at .get-at .ensures .0) (at-find-app .find-app .ensures) _ o (omega arith)
+    (omega arith)
 
 append-term-requires : tie.Need-append-term-requires
 append-term-requires c κs =
-    let z = c .before .before .before .before .before .before .before .before .before .before .before .before .pre in
-    let e = c .before .before .before .before .before .before .before .before .get .ensures .0 in
-    let f : c .before .before .before .before .before .before .before .before .get .result ≤ 1024 = rw e (z .0 .terms-fit) in
-    let g = c .before .before .before .before .if2 .left in
-    let p = c .before .if3 .left in
-    let q : c .before .before .get2 .result ≤ 4096 = start-fits _ _ _ (z .0) e (c .before .before .get2 .ensures .0) in
-    record {
-      sound = z .0;
-      next = e;
-      at = c .before .before .get2 .ensures .0;
-      room = omega arith;
-      places = omega arith;
-      declared = z .1;
-      terms = λ j l. rw e (z .2 j l);
-    }
+    let at-find-app = c .before .before .before .before .before .before in
+    let at-get-at = at-find-app .before .before in
+    let entry = at-get-at .before .before .before .before in
+    let o = c .before .before .get-at2 .ensures .0 in
+    appendable (entry .pre) (at-get-at .get-at .ensures .0) (at-find-app .find-app .ensures) (omega arith) (omega arith) o (omega arith)
 
 returns-4 : tie.Need-returns-4
 returns-4 c =
-    let z = c .before .before .before .before .before .before .before .before .before .before .before .before .before .before .before .pre .0 in
-    let e = c .before .before .before .before .before .before .before .before .before .before .before .get .ensures .0 in
-    let f : c .before .before .before .before .before .before .before .before .before .before .before .get .result ≤ 1024 = rw e (z .terms-fit) in
-    let g = c .before .before .before .before .before .before .before .if2 .left in
-    let p = c .before .before .before .before .if3 .left in
-    let o = c .before .before .before .before .before .get2 .ensures .0 in
-    let q : c .before .before .before .before .before .get2 .result ≤ 4096 = start-fits _ _ _ z e o in
-    made-new _ _ _ z _ _ _ _ e (c .before .before .before .before .before .before .before .before .before .find-app .ensures) (c .before .before .before .before .before .before .before .before .if1 .left) (omega arith) o (omega arith) (c .before .before .append-term .ensures)
+    let at-get-at2 = c .before .before .before .before .before in
+    let at-find-app = at-get-at2 .before .before .before .before in
+    let at-get-at = at-find-app .before .before in
+    let entry = at-get-at .before .before .before .before in
+    let o = at-get-at2 .get-at2 .ensures .0 in
+    let e = at-get-at .get-at .ensures .0 in
+    let f = at-find-app .find-app .ensures in
+    made-new _ _ _ (entry .pre .sound) _ _ e f _ o _ (omega arith) (omega arith) (omega arith) (c .before .before .append-term .ensures)
 
 pub intern-spec : {M : Type 1} → statement M
 intern-spec =
-    tie.close
-    (tie.spec
-    (λ c κs. search needs)
-    (λ c κs. search needs)
-    (λ c. search needs)
-    (λ c. search needs)
-    returns
-    (λ c. search needs)
-    returns-2
-    (λ c. search needs)
-    (λ c κs. search needs)
-    sub-if3
-    (λ c. search needs)
-    returns-3
-    append-term-requires
-    (λ c. search needs)
-    (λ c. search needs)
+    tie.close (tie.spec (λ c κs. search needs) (λ c κs. search needs) (λ c. search needs) (λ c. search needs) returns (λ c. search needs)
+    returns-2 (λ c κs. search needs) sub-if3 (λ c. search needs) returns-3 append-term-requires (λ c. search needs) (λ c. search needs)
     returns-4)

@@ -1,6 +1,7 @@
+-- Straight.
+use Rattle.core.proofs.Kit.{needs}
 use Rattle.core.specs.Memory.Table.{node-of}
 use Rattle.core.specs.Memory.Codes.{declared-node}
-use borrow.Author.Needs.{needs}
 use Rattle.core.proofs.context.node_code.Statement.{statement}
 use Rattle.core.proofs.context.node_code.Tie as tie
 

@@ -1,17 +1,21 @@
-use native.Mathlib.Omega.{arith}
+-- By the operation.
+use Rattle.core.proofs.Kit.{needs, arith}
 use Rattle.core.proofs.Memory.Codes.{symbol-below, eq-sort, symbol-sort}
-use borrow.Author.Needs.{needs}
 use Rattle.core.proofs.context.sort_of.Statement.{statement}
 use Rattle.core.proofs.context.sort_of.Tie as tie
 
 result-sort-requires : tie.Need-result-sort-requires
-result-sort-requires c κs = (c .before .before .before .before .before .pre .0, symbol-below _ _ _ _ (c .before .before .before .op .ensures) (c .before .f .given .1))
+result-sort-requires c κs =
+    (c .before .before .before .before .before .pre .0, symbol-below (c .before .before .before .op .ensures) (c .before .f .given .1))
 
 returns : tie.Need-returns
-returns c = (eq-sort _ _ _ (c .before .before .op .ensures) (c .enum-told .given .1), let z = c .before .before .before .before .pre .0 in omega arith)
+returns c =
+    let z = c .before .before .before .before .pre .0 in (eq-sort (c .before .before .op .ensures) (c .enum-told .given .1), omega arith)
 
 returns-2 : tie.Need-returns-2
-returns-2 c = (symbol-sort _ _ _ _ _ (c .before .before .before .before .op .ensures) (c .before .before .f .given .1) (c .result-sort .ensures .0), c .result-sort .ensures .1)
+returns-2 c =
+    let o = c .before .before .before .before .op .ensures in
+    (symbol-sort o (c .before .before .f .given .1) (c .result-sort .ensures .0), c .result-sort .ensures .1)
 
 pub sort-of-spec : {M : Type 1} → statement M
 sort-of-spec =

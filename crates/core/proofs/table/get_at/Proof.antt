@@ -13,10 +13,5 @@ returns c = (refl, omega (arith, c .shared-slice-known .given (c .before .args .
 
 pub get-at-spec : {M : Type 1} → statement M
 get-at-spec =
-    tie.close
-    (tie.spec
-    (λ c. search needs)
-    (λ c. search needs)
-    (λ c. search needs)
-    (λ c. omega (arith, c .shared-slice-known .given (c .before .args .base + c .before .args .i)))
-    returns)
+    tie.close (tie.spec (λ c. search needs) (λ c. search needs) (λ c. search needs)
+    (λ c. omega (arith, c .shared-slice-known .given (c .before .args .base + c .before .args .i))) returns)

@@ -9,4 +9,5 @@ unfolding put
 returns c = search needs
 
 pub put-at-spec : {M : Type 1} → statement M
-put-at-spec = tie.close (tie.spec (λ c. search needs) (λ c. search needs) (λ c. search needs) (λ c. search needs) (λ c. search needs) returns)
+put-at-spec =
+    tie.close (tie.spec (λ c. search needs) (λ c. search needs) (λ c. search needs) (λ c. search needs) (λ c. search needs) returns)

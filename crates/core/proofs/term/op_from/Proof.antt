@@ -1,3 +1,4 @@
+-- Straight.
 use native.Mathlib.Omega.{arith}
 use Rattle.core.specs.Memory.Codes.{op-meaning, OpBelow}
 use Rattle.core.proofs.Memory.Codes.{op-of-zero, op-of-pred}

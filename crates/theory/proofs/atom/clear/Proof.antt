@@ -1,8 +1,8 @@
+-- The invariant: no variable, and the first k variables and atoms have none.
 use Prim.Native.Nat.{_-_}
-use mathlib.Core.Path.{_≡_, _∙_}
-use lib.ListN.{length}
-use Rattle.theory.proofs.Memory.Registers.{Emptying, empty-first, empty-next, empty-done}
 use borrow.Author.Needs.{needs}
+use Rattle.core.specs.Limits.{max-vars}
+use Rattle.theory.proofs.Memory.Registers.{Emptying, empty-first, empty-next, empty-done}
 use Rattle.theory.proofs.atom.clear.Statement.{statement}
 use Rattle.theory.proofs.atom.clear.Tie as tie
 
@@ -10,36 +10,17 @@ abbrev Inv-loop : tie.InvT-loop
 Inv-loop t₀ k₀ t k = Emptying t₀ t k
 
 abbrev μ-loop : tie.MeasureT-loop
-μ-loop t₀ k₀ t k = 1024 - k
-
-loop-holds : tie.Need-loop-holds Inv-loop μ-loop
-loop-holds c = empty-first (c .before .before .before .before .before .args .t .now) _ (c .before .before .before .before .before .pre) (c .before .before .put .ensures)
+μ-loop t₀ k₀ t k = max-vars - k
 
 loop-again : tie.Need-loop-again Inv-loop μ-loop
-loop-again c = empty-next _ _ _ _ _ (c .before .before .before .before .before .before .before .before .before .loop .inv) (c .before .before .before .before .before .before .before .before .loop-test .taken) (c .before .before .before .before .before .before .put2 .ensures) (c .before .before .put3 .ensures)
-
-same-length : tie.Need-same-length Inv-loop μ-loop
-same-length c =
-    let l : length (c .before .before .before .before .put .last .0) ≡ length (c .before .before .before .before .before .before .before .args .t .now) = search needs in
-    c .before .loop .inv .long ∙ l
-
-returns : tie.Need-returns Inv-loop μ-loop
-returns c = empty-done _ _ _ (c .before .loop .inv) (c .loop-test .left)
+loop-again c =
+    let at-put3 = c .before .before in
+    let at-put2 = at-put3 .before .before .before .before in
+    let at-test = at-put2 .before .before in
+    empty-next (at-test .before .loop .inv) (at-test .loop-test .taken) (at-put2 .put-at2 .ensures) (at-put3 .put-at3 .ensures)
 
 pub clear-spec : {M : Type 1} → statement M
 clear-spec =
     tie.close
-    (tie.spec
-    Inv-loop
-    μ-loop
-    (λ c κs. search needs)
-    loop-holds
-    (λ c. search needs)
-    (λ c κs. search needs)
-    (λ c. search needs)
-    (λ c κs. search needs)
-    (λ c. search needs)
-    (λ c. search needs)
-    loop-again
-    same-length
-    returns)
+    (tie.spec Inv-loop μ-loop (λ c κs. search needs) (λ c. search empty-first) (λ c κs. search needs) (λ c κs. search needs)
+    (λ c. search needs) (λ c. search needs) loop-again (λ c. search needs) (λ c. empty-done (c .before .loop .inv) (c .loop-test .left)))

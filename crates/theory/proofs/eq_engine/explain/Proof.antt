@@ -1,13 +1,12 @@
+-- At first no pair is marked, and nothing is explained.
 use mathlib.Core.Path.{refl}
-use Rattle.theory.proofs.Memory.Explaining.{explained}
 use borrow.Author.Needs.{needs}
+use Rattle.theory.proofs.Memory.Explaining.{explained}
 use Rattle.theory.proofs.eq_engine.explain.Statement.{statement}
 use Rattle.theory.proofs.eq_engine.explain.Tie as tie
-
-returns : tie.Need-returns
-returns c = explained _ _ _ _ _ _ _ 2048 refl (c .before .before .before .explain-rec .ensures)
 
 pub explain-spec : {M : Type 1} → statement M
 explain-spec =
     tie.close
-    (tie.spec (λ c. search needs) (λ c. search needs) (λ c. search needs) (λ c κs. search needs) (λ c. search needs) returns)
+    (tie.spec (λ c. search needs) (λ c. search needs) (λ c. search needs) (λ c κs. search needs) (λ c. search needs)
+    (λ c. explained 2048 refl (c .before .before .before .explain-rec .ensures)))

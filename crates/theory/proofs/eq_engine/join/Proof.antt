@@ -1,14 +1,30 @@
-use native.Mathlib.Omega.{arith}
-use Rattle.theory.proofs.Memory.Growing.{joined-at, sizes-fit}
+-- The steps of a merge, one after the other; `joined` puts together what they wrote.
 use borrow.Author.Needs.{needs}
+use Rattle.theory.proofs.Memory.Merging.{joined, classes-fit}
 use Rattle.theory.proofs.eq_engine.join.Statement.{statement}
 use Rattle.theory.proofs.eq_engine.join.Tie as tie
 
 union-requires : tie.Need-union-requires
-union-requires c κs = let z = c .before .before .before .before .before .before .before .before .before .before .before .before .before .before .pre .0 in let f = z .fewer in let i = c .before .before .before .before .before .before .before .before .before .before .before .get .ensures .0 in let l = z .long in let s = c .before .before .before .splice .kept .0 in (omega arith, c .before .before .before .before .before .before .before .root .ensures .1, c .before .before .before .before .before .root2 .ensures .1, omega arith, sizes-fit _ _ _ _ _ _ _ z (c .before .before .before .splice .ensures) (c .before .before .before .before .before .before .before .root .ensures .1) (c .before .before .before .before .before .root2 .ensures .1))
+union-requires c κs =
+    let edge = c .before .before .before in
+    let second-root = edge .before .before in
+    let first-root = second-root .before .before in
+    let count = first-root .before .before .before .before in
+    classes-fit (count .before .before .before .pre .sound) (count .get-at .ensures .0) (edge .splice .ensures)
+    (first-root .root .ensures .1) (second-root .root2 .ensures .1)
 
 returns : tie.Need-returns
-returns c = let p = c .before .before .before .before .before .before .before .before .before .before .before .before .before .before .before .before .before .before .before .before .before .before .before .before .before .pre in joined-at _ _ _ _ _ _ _ _ _ _ _ _ _ _ _ (p .0) (p .1) (c .before .before .before .before .before .before .before .before .before .before .before .before .before .before .before .before .before .before .before .before .before .before .get .ensures .0) (c .before .before .before .before .before .before .before .before .before .before .before .before .before .before .before .before .before .before .before .before .get2 .ensures .0) (c .before .before .before .before .before .before .before .before .before .before .before .before .before .before .before .before .before .before .root .ensures .0) (c .before .before .before .before .before .before .before .before .before .before .before .before .before .before .before .before .root2 .ensures .0) (c .before .before .before .before .before .before .before .before .before .before .before .before .before .before .splice .ensures) (c .before .before .before .before .before .before .before .before .before .before .union .ensures) (c .before .before .before .before .before .before .log .ensures) (c .before .before .put .ensures)
+returns c =
+    let last = c .before .before in
+    let entry = last .before .before .before .before in
+    let under = entry .before .before .before .before in
+    let edge = under .before .before .before .before in
+    let second-root = edge .before .before in
+    let first-root = second-root .before .before in
+    let level = first-root .before .before in
+    let count = level .before .before in
+    joined (count .before .before .before .pre) (count .get-at .ensures .0) (level .get-at2 .ensures .0) (first-root .root .ensures .0)
+    (second-root .root2 .ensures .0) (edge .splice .ensures) (under .union .ensures) (entry .log .ensures) (last .put-at .ensures)
 
 pub join-spec : {M : Type 1} → statement M
 join-spec =

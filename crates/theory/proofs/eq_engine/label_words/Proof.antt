@@ -1,17 +1,22 @@
+-- Each case is its record.
 use mathlib.Core.Path.{refl, sym, subst}
+use borrow.Author.Needs.{needs}
 use Rattle.theory.specs.declared.types.EqJust as Given
 use Rattle.theory.specs.Memory.Steps.{HoldsLabel}
-use borrow.Author.Needs.{needs}
 use Rattle.theory.proofs.eq_engine.label_words.Statement.{statement}
 use Rattle.theory.proofs.eq_engine.label_words.Tie as tie
 
 returns : tie.Need-returns
-unfolding HoldsLabel
-returns c = subst (λ (j : Given.EqJust). HoldsLabel j (record { kind = 0; theory = 0; value = c .before .before .j .given .0 .0 .0 })) (sym (c .before .before .j .given .1)) (refl, refl, refl, search needs)
+returns c =
+    let j = c .before .before .j .given in
+    subst (λ (x : Given.EqJust). HoldsLabel x (record { kind = 0; theory = 0; value = j .0 .0 .0 })) (sym (j .1))
+    (record { kind = refl; theory = refl; value = refl; fits = search needs })
 
 returns-2 : tie.Need-returns-2
-unfolding HoldsLabel
-returns-2 c = subst (λ (j : Given.EqJust). HoldsLabel j (record { kind = 2; theory = c .before .before .before .j2 .given .0 .0 .theory; value = c .before .before .before .j2 .given .0 .0 .tag })) (sym (c .before .before .before .j2 .given .1)) (refl, refl, refl, search needs, search needs)
+returns-2 c =
+    let j = c .before .before .before .j2 .given in
+    subst (λ (x : Given.EqJust). HoldsLabel x (record { kind = 2; theory = j .0 .0 .theory; value = j .0 .0 .tag })) (sym (j .1))
+    (record { kind = refl; theory = refl; value = refl; known = search needs; fits = search needs })
 
 pub label-words-spec : {M : Type 1} → statement M
 label-words-spec =

@@ -1,24 +1,27 @@
-use Rattle.theory.proofs.Memory.Merging.{put-logged}
+-- Straight.
 use borrow.Author.Needs.{needs}
+use Rattle.theory.specs.Memory.Steps.{logged}
 use Rattle.theory.proofs.eq_engine.log.Statement.{statement}
 use Rattle.theory.proofs.eq_engine.log.Tie as tie
 
 returns : tie.Need-returns
-returns c = let z = c .before .before .before .before .before .before .before .before .before .before .before .before .before .before .before .before .before .before .before .before .before .pre in put-logged _ _ _ _ _ _ _ _ _ _ _ _ (z .0) (z .1) (c .before .before .before .before .before .before .before .before .before .before .before .before .before .before .before .before .before .before .put .ensures) (c .before .before .before .before .before .before .before .before .before .before .before .before .before .before .put2 .ensures) (c .before .before .before .before .before .before .before .before .before .before .put3 .ensures) (c .before .before .before .before .before .before .put4 .ensures) (c .before .before .put5 .ensures)
+unfolding logged
+returns c =
+    let fifth = c .before .before in
+    let fourth = fifth .before .before .before .before in
+    let third = fourth .before .before .before .before in
+    let second = third .before .before .before .before in
+    let first = second .before .before .before .before in
+    rw (fifth .put-at5 .ensures, fourth .put-at4 .ensures, third .put-at3 .ensures, second .put-at2 .ensures, first .put-at .ensures)
 
 pub log-spec : {M : Type 1} → statement M
 log-spec =
     tie.close
     (tie.spec
-    (λ c. search needs)
     (λ c κs. search needs)
-    (λ c. search needs)
     (λ c κs. search needs)
-    (λ c. search needs)
     (λ c κs. search needs)
-    (λ c. search needs)
     (λ c κs. search needs)
-    (λ c. search needs)
     (λ c κs. search needs)
     (λ c. search needs)
     returns)

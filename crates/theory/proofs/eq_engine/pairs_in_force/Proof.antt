@@ -1,13 +1,15 @@
-use Rattle.theory.proofs.Memory.Pairs.{pairs-none, pairs-newest}
+-- The newest merge holds the number of pairs in force.
 use borrow.Author.Needs.{needs}
+use Rattle.theory.proofs.Memory.Log.{pairs-none, pairs-newest}
 use Rattle.theory.proofs.eq_engine.pairs_in_force.Statement.{statement}
 use Rattle.theory.proofs.eq_engine.pairs_in_force.Tie as tie
 
-returns : tie.Need-returns
-returns c = pairs-none _ _ (c .before .get .ensures .0) (c .if1 .taken)
-
-returns-2 : tie.Need-returns-2
-returns-2 c = pairs-newest _ _ _ (c .before .before .before .before .pre) (c .before .before .get .ensures .0) (c .before .if1 .left) (c .get2 .ensures .0)
-
 pub pairs-in-force-spec : {M : Type 1} → statement M
-pairs-in-force-spec = tie.close (tie.spec (λ c κs. search needs) returns (λ c. search needs) (λ c κs. search needs) returns-2)
+pairs-in-force-spec =
+    tie.close
+    (tie.spec
+    (λ c κs. search needs)
+    (λ c. pairs-none _ (c .before .get-at .ensures .0) (c .if1 .taken))
+    (λ c. search needs)
+    (λ c κs. search needs)
+    (λ c. pairs-newest (c .before .before .before .before .pre) (c .before .before .get-at .ensures .0) (c .before .if1 .left) (c .get-at2 .ensures .0)))

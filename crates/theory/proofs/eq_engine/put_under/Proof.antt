@@ -1,27 +1,27 @@
-use mathlib.Core.Path.{ap₂}
-use Prim.Native.Nat.{_+_}
-use Rattle.theory.proofs.Memory.Merging.{put-united}
+-- Straight.
 use borrow.Author.Needs.{needs}
+use Rattle.theory.specs.Memory.Steps.{united}
 use Rattle.theory.proofs.eq_engine.put_under.Statement.{statement}
 use Rattle.theory.proofs.eq_engine.put_under.Tie as tie
 
 returns : tie.Need-returns
-returns c = let z = c .before .before .before .before .before .before .before .before .before .before .before .before .before .before .before .before .before .pre in put-united _ _ _ _ _ _ _ _ (z .0) (z .1) (z .2) (z .3) (ap₂ _+_ (c .before .before .before .before .before .before .before .before .before .before .before .before .before .before .get .ensures .0) (c .before .before .before .before .before .before .before .before .before .before .before .before .get2 .ensures .0)) (c .before .before .before .before .before .before .before .before .before .before .put .ensures) (c .before .before .before .before .before .before .put2 .ensures) (c .before .before .put3 .ensures)
+unfolding united
+returns c =
+    let third = c .before .before in
+    let second = third .before .before .before .before in
+    let first = second .before .before .before .before in
+    let gets = first .before .before in
+    rw (third .put-at3 .ensures, second .put-at2 .ensures, first .put-at .ensures, gets .get-at2 .ensures .0, gets .before .before .get-at .ensures .0)
 
 pub put-under-spec : {M : Type 1} → statement M
 put-under-spec =
     tie.close
     (tie.spec
-    (λ c. search needs)
+    (λ c κs. search needs)
     (λ c κs. search needs)
     (λ c. search needs)
     (λ c κs. search needs)
-    (λ c. search needs)
-    (λ c. search needs)
     (λ c κs. search needs)
-    (λ c. search needs)
-    (λ c κs. search needs)
-    (λ c. search needs)
     (λ c κs. search needs)
     (λ c. search needs)
     returns)

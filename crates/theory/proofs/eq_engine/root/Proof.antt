@@ -1,8 +1,8 @@
-use native.Mathlib.Omega.{arith}
+-- The walk stays in the class; a node that is its own parent is the root.
+use borrow.Author.Needs.{needs}
 use Rattle.theory.specs.Memory.Table.{merges}
 use Rattle.theory.proofs.UnionFind.{depth}
-use Rattle.theory.proofs.Memory.Nodes.{Climb, climb-first, climb-within, climb-next, climb-less, climb-done}
-use borrow.Author.Needs.{needs}
+use Rattle.theory.proofs.Memory.Walks.{Climb, climb-first, climb-next, climb-less, climb-done}
 use Rattle.theory.proofs.eq_engine.root.Statement.{statement}
 use Rattle.theory.proofs.eq_engine.root.Tie as tie
 
@@ -12,39 +12,15 @@ Inv-loop t node n₀ up₀ n up = Climb t node n up
 abbrev μ-loop : tie.MeasureT-loop
 μ-loop t node n₀ up₀ n up = depth (merges t) n
 
-loop-holds : tie.Need-loop-holds Inv-loop μ-loop
-loop-holds c = let z = c .before .before .pre in climb-first _ _ _ (z .0) (z .1) (c .get .ensures .0)
-
-add-get-2 : tie.Need-add-get-2 Inv-loop μ-loop
-add-get-2 c = let w = climb-within _ _ _ _ (c .before .before .before .before .pre .0) (c .before .loop .inv) in omega arith
-
-get-requires-2 : tie.Need-get-requires-2 Inv-loop μ-loop
-get-requires-2 c κs =
-    let z = c .before .before .before .before .pre .0 in
-    let w = climb-within _ _ _ _ z (c .before .loop .inv) in
-    let l = z .long in
-    omega arith
-
-loop-less : tie.Need-loop-less Inv-loop μ-loop
-loop-less c = climb-less _ _ _ _ (c .before .before .before .before .before .pre .0) (c .before .before .loop .inv) (c .before .loop-test .taken)
-
-loop-again : tie.Need-loop-again Inv-loop μ-loop
-loop-again c = climb-next _ _ _ _ _ (c .before .before .before .before .before .pre .0) (c .before .before .loop .inv) (c .before .loop-test .taken) (c .get2 .ensures .0)
-
-returns : tie.Need-returns Inv-loop μ-loop
-returns c = climb-done _ _ _ _ (c .before .before .before .before .pre .0) (c .before .loop .inv) (c .loop-test .left)
-
 pub root-spec : {M : Type 1} → statement M
 root-spec =
     tie.close
     (tie.spec
     Inv-loop
     μ-loop
-    (λ c. search needs)
     (λ c κs. search needs)
-    loop-holds
-    add-get-2
-    get-requires-2
-    loop-less
-    loop-again
-    returns)
+    (λ c. search climb-first)
+    (λ c κs. search needs)
+    (λ c. search climb-less)
+    (λ c. search climb-next)
+    (λ c. climb-done (c .before .loop .inv) (c .loop-test .left)))

@@ -1,17 +1,41 @@
-use mathlib.Core.Path.{refl}
-use Rattle.theory.proofs.Memory.Undoing.{reroot-asks, separate-asks, undone-at}
+-- The words of the newest merge say which way to turn back and which class to take out.
 use borrow.Author.Needs.{needs}
+use Rattle.theory.proofs.Memory.Undoing.{reroot-asks, separate-asks, undone-at}
 use Rattle.theory.proofs.eq_engine.undo.Statement.{statement}
 use Rattle.theory.proofs.eq_engine.undo.Tie as tie
 
 reroot-forest-requires : tie.Need-reroot-forest-requires
-reroot-forest-requires c κs = let p = c .before .before .before .before .before .before .before .before .before .before .pre in let r = reroot-asks _ _ _ _ _ _ (p .0) (p .1) (c .before .before .before .before .before .before .before .get .ensures .0) refl (c .before .before .before .before .before .get2 .ensures .0) (c .before .before .before .get3 .ensures .0) (c .before .get4 .ensures .0) in (p .0, r .0, r .1)
+reroot-forest-requires c κs =
+    let old-root = c .before in
+    let child = old-root .before .before in
+    let side = child .before .before in
+    let count = side .before .before in
+    let pre = count .before .before .before .pre in
+    reroot-asks (pre .0) (pre .1) (count .get-at .ensures .0) (side .get-at2 .ensures .0) (child .get-at3 .ensures .0) (old-root .get-at4 .ensures .0)
 
 separate-requires : tie.Need-separate-requires
-separate-requires c κs = let p = c .before .before .before .before .before .before .before .before .before .before .before .before .before .before .pre in separate-asks _ _ _ _ _ _ (p .0) (p .1) (c .before .before .before .before .before .before .before .before .before .before .before .get .ensures .0) refl (c .before .before .before .before .before .before .before .before .before .get2 .ensures .0) (c .before .before .before .before .before .before .before .get3 .ensures .0) (c .before .before .before .before .before .get4 .ensures .0) _ (c .before .before .before .reroot-forest .ensures)
+separate-requires c κs =
+    let turn = c .before .before .before in
+    let old-root = turn .before .before in
+    let child = old-root .before .before in
+    let side = child .before .before in
+    let count = side .before .before in
+    let pre = count .before .before .before .pre in
+    separate-asks (pre .0) (pre .1) (count .get-at .ensures .0) (side .get-at2 .ensures .0) (child .get-at3 .ensures .0)
+    (old-root .get-at4 .ensures .0) (turn .reroot-forest .ensures)
 
 returns : tie.Need-returns
-returns c = let p = c .before .before .before .before .before .before .before .before .before .before .before .before .before .before .before .before .before .before .before .before .before .pre in undone-at _ _ _ _ _ _ (p .0) (p .1) (c .before .before .before .before .before .before .before .before .before .before .before .before .before .before .before .before .before .before .get .ensures .0) refl (c .before .before .before .before .before .before .before .before .before .before .before .before .before .before .before .before .get2 .ensures .0) (c .before .before .before .before .before .before .before .before .before .before .before .before .before .before .get3 .ensures .0) (c .before .before .before .before .before .before .before .before .before .before .before .before .get4 .ensures .0) _ (c .before .before .before .before .before .before .before .before .before .before .reroot-forest .ensures) _ _ (c .before .before .before .before .before .before .separate .ensures) (c .before .before .put .ensures)
+returns c =
+    let last = c .before .before in
+    let class = last .before .before .before .before in
+    let turn = class .before .before .before .before in
+    let old-root = turn .before .before in
+    let child = old-root .before .before in
+    let side = child .before .before in
+    let count = side .before .before in
+    let pre = count .before .before .before .pre in
+    undone-at (pre .0) (pre .1) (count .get-at .ensures .0) (side .get-at2 .ensures .0) (child .get-at3 .ensures .0)
+    (old-root .get-at4 .ensures .0) (turn .reroot-forest .ensures) (class .separate .ensures) (last .put-at .ensures)
 
 pub undo-spec : {M : Type 1} → statement M
 undo-spec =
@@ -19,11 +43,8 @@ undo-spec =
     (tie.spec
     (λ c κs. search needs)
     (λ c. search needs)
-    (λ c. search needs)
     (λ c κs. search needs)
-    (λ c. search needs)
     (λ c κs. search needs)
-    (λ c. search needs)
     (λ c κs. search needs)
     reroot-forest-requires
     separate-requires

@@ -1,3 +1,4 @@
+-- Straight.
 use borrow.Author.Tests.{eq-eqb, ne-eqb}
 use borrow.Author.Needs.{needs}
 use Rattle.core.proofs.ids.Lit.negate.Statement.{statement}

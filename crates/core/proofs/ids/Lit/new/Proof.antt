@@ -1,3 +1,4 @@
+-- Straight.
 use borrow.Author.Needs.{needs}
 use Rattle.core.proofs.ids.Lit.new.Statement.{statement}
 use Rattle.core.proofs.ids.Lit.new.Tie as tie
