@@ -6,7 +6,7 @@ use core::term::DtRole;
 use core::term::Op;
 ghost use Prim.Native.Nat.{_<_};
 ghost use lib.ListN.{length};
-ghost use Rattle.core.specs.Memory.Table.{AllBelow, ContextSound, context};
+ghost use Rattle.core.specs.Memory.Table.{ContextSound, context, MayApply, MayDeclare};
 
 // The k-th number up to n that a seed gives.
 fn draw(seed: u32, k: u32, n: u32) -> u32 {
@@ -28,16 +28,18 @@ fn made(m: cx::Made) -> u32 {
     if let cx::Made::At(x) = m { x.0 } else { 9999 }
 }
 
-fn operation(o: Op) -> u32 {
-    if let Op::Uninterpreted(f) = o {
-        f.0
-    } else {
-        9999
-    }
+fn element(xs: &[u32], k: usize) -> u32 {
+    if k < xs.len() { xs[k] } else { 9999 }
 }
 
-fn role(r: DtRole) -> u32 {
-    match r {
+fn ask_symbol(t: &[u32], f: id::SymbolId, k: usize) -> u32
+    requires { ⌜ ContextSound (now t) × (f .0 < length (context (now t) .symbols)) ⌝ }
+{
+    let n = cx::arity(t, f);
+    if k < n {
+        return mix(cx::param(t, f, k).0, cx::result_sort(t, f).0);
+    }
+    match cx::dt_role(t, f) {
         DtRole::Constructor => 1,
         DtRole::Tester(c) => mix(2, c.0),
         DtRole::Selector(c, i) => mix(mix(3, c.0), i),
@@ -45,35 +47,22 @@ fn role(r: DtRole) -> u32 {
     }
 }
 
-fn element(xs: &[u32], k: usize) -> u32 {
-    if k < xs.len() { xs[k] } else { 9999 }
-}
-
-fn parameter(t: &[u32], f: id::SymbolId, k: usize) -> u32
-    requires { ⌜ ContextSound (now t) × (f .0 < length (context (now t) .symbols)) ⌝ }
+fn ask_sort(t: &[u32], s: id::SortId, from: usize) -> u32
+    requires { ⌜ ContextSound (now t) × (s .0 < length (context (now t) .sorts)) × (from < length (context (now t) .symbols)) ⌝ }
 {
-    let n = cx::arity(t, f);
-    if k < n {
-        return cx::param(t, f, k).0;
-    }
-    9999
-}
-
-fn ask(t: &[u32], f: id::SymbolId, s: id::SortId, k: usize) -> u32
-    requires { ⌜ ContextSound (now t) × (f .0 < length (context (now t) .symbols)) × (s .0 < length (context (now t) .sorts)) ⌝ }
-{
-    let a = mix(cx::is_datatype_sort(t, s) as u32, cx::arity(t, f) as u32);
-    let b = mix(a, cx::next_constructor(t, s, f.0 as usize) as u32);
-    let c = mix(b, cx::all_grounded(t) as u32);
-    let d = mix(mix(c, role(cx::dt_role(t, f))), cx::result_sort(t, f).0);
-    mix(d, parameter(t, f, k))
+    let a = cx::is_datatype_sort(t, s) as u32;
+    let b = cx::all_grounded(t) as u32;
+    mix(mix(a, b), cx::next_constructor(t, s, from) as u32)
 }
 
 fn ask_term(t: &[u32], x: id::TermId, k: usize) -> u32
     requires { ⌜ ContextSound (now t) × (x .0 < length (context (now t) .terms)) ⌝ }
 {
-    let a = mix(operation(cx::op(t, x)), cx::sort_of(t, x).0);
-    mix(a, element(cx::children(t, x), k))
+    let a = mix(cx::sort_of(t, x).0, element(cx::children(t, x), k));
+    match cx::op(t, x) {
+        Op::Eq => a,
+        Op::Uninterpreted(f) => mix(mix(a, 1), f.0),
+    }
 }
 
 // Gives a few terms back.
@@ -86,16 +75,17 @@ fn cut(t: &mut [u32], x: u32) -> u32
     n as u32
 }
 
-// Later commands are more often terms over arguments.
+// One of the commands over a symbol, a sort, a term, fields and arguments. Later ones are more often terms over the arguments.
 fn change(t: &mut [u32], i: u32, f: u32, s: u32, x: u32, fs: &[u32; 16], xs: &[u32; 7]) -> u32
-    requires { ⌜ ContextSound (now t) × (f < length (context (now t) .symbols)) × (s < length (context (now t) .sorts)) × (x < length (context (now t) .terms)) × AllBelow (length (context (now t) .sorts)) (now fs) × AllBelow (length (context (now t) .terms)) (now xs) ⌝ }
+    requires { ⌜ MayDeclare (now t) s (now fs) × MayApply (now t) f (now xs) × (x < length (context (now t) .terms)) ⌝ }
     ensures { λ _. ⌜ ContextSound (now (t .exit)) ⌝ }
 {
     match draw(i, 4, 13 + i / 2000) {
         0 | 1 | 2 => declared(cx::dt_add_constructor(t, id::SortId(s), &[])),
         3 => declared(cx::dt_add_constructor(t, id::SortId(s), fs)),
         4 => declared(cx::declare_fun(t, id::SortId(s), fs)),
-        5 | 6 => ask(t, id::SymbolId(f), id::SortId(s), x as usize % 17),
+        5 => ask_sort(t, id::SortId(s), f as usize),
+        6 => ask_symbol(t, id::SymbolId(f), x as usize % 17),
         7 | 8 => ask_term(t, id::TermId(x), f as usize % 8),
         9 => cut(t, x),
         10 => made(cx::mk_eq(t, id::TermId(x), id::TermId(x / 2))),
@@ -107,8 +97,10 @@ fn change(t: &mut [u32], i: u32, f: u32, s: u32, x: u32, fs: &[u32; 16], xs: &[u
     }
 }
 
+// Two sorts, 16 times, are the fields, and two terms the arguments.
 fn with_lists(t: &mut [u32], i: u32, f: u32, s: u32, x: u32) -> u32
-    requires { ⌜ ContextSound (now t) × (f < length (context (now t) .symbols)) × (s < length (context (now t) .sorts)) × (x < length (context (now t) .terms)) ⌝ }
+    requires { ⌜ ContextSound (now t) × (f < length (context (now t) .symbols)) × (s < length (context (now t) .sorts))
+        × (x < length (context (now t) .terms)) ⌝ }
     ensures { λ _. ⌜ ContextSound (now (t .exit)) ⌝ }
 {
     let r = s / 2;
@@ -117,7 +109,6 @@ fn with_lists(t: &mut [u32], i: u32, f: u32, s: u32, x: u32) -> u32
     change(t, i, f, s, x, &fs, &[x, y, x, x, y, y, y])
 }
 
-// With a symbol and a sort at hand, draws a term: the number past the last stands for a new one.
 fn over(t: &mut [u32], i: u32, f: u32, s: u32) -> u32
     requires { ⌜ ContextSound (now t) × (f < length (context (now t) .symbols)) × (s < length (context (now t) .sorts)) ⌝ }
     ensures { λ _. ⌜ ContextSound (now (t .exit)) ⌝ }
@@ -130,6 +121,7 @@ fn over(t: &mut [u32], i: u32, f: u32, s: u32) -> u32
     with_lists(t, i, f, s, x)
 }
 
+// Draws a symbol, a sort and a term. The number past the last one stands for a new one.
 fn command(t: &mut [u32], i: u32) -> u32
     requires { ⌜ ContextSound (now t) ⌝ }
     ensures { λ _. ⌜ ContextSound (now (t .exit)) ⌝ }
@@ -152,11 +144,14 @@ fn print(n: usize) {
     io::write_all(1, b" ");
 }
 
-// Ends a run of 250 commands. In each half the first runs end with an empty table.
-fn finish(t: &mut [u32], i: u32, sum: u32) -> u32
+// A run of 250 commands ends with a line, and the first runs of each half with an empty table.
+fn step(t: &mut [u32], i: u32, sum: u32) -> u32
     requires { ⌜ ContextSound (now t) ⌝ }
     ensures { λ _. ⌜ ContextSound (now (t .exit)) ⌝ }
 {
+    if i % 250 != 0 {
+        return mix(sum, command(t, i));
+    }
     print(cx::sort_count(t));
     print(cx::symbol_count(t));
     print(cx::term_count(t));
@@ -167,16 +162,6 @@ fn finish(t: &mut [u32], i: u32, sum: u32) -> u32
         cx::clear(t);
     }
     sum
-}
-
-fn step(t: &mut [u32], i: u32, sum: u32) -> u32
-    requires { ⌜ ContextSound (now t) ⌝ }
-    ensures { λ _. ⌜ ContextSound (now (t .exit)) ⌝ }
-{
-    if i % 250 == 0 {
-        return finish(t, i, sum);
-    }
-    mix(sum, command(t, i))
 }
 
 fn main() {

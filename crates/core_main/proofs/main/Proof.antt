@@ -7,18 +7,14 @@ use Rattle.core.specs.Memory.Table.{ContextSound}
 use Rattle.core_main.proofs.main.Statement.{statement}
 use Rattle.core_main.proofs.main.Tie as tie
 
+abbrev Inv-loop : tie.InvT-loop
+Inv-loop t₀ sum₀ i₀ t sum i = ContextSound t × (length t ≡ 16384)
+
+abbrev μ-loop : tie.MeasureT-loop
+μ-loop t₀ sum₀ i₀ t sum i = 16001 - i
+
 pub main-spec : {M : Type 1} → statement M
 main-spec =
     tie.close
-    (tie.spec
-    (λ t₀ sum₀ i₀ t sum i. ContextSound t × (length t ≡ 16384))
-    (λ t₀ sum₀ i₀ t sum i. 16001 - i)
-    (λ c. search needs)
-    (λ c κs. search needs)
-    (λ c. search needs)
-    (λ c. search needs)
-    (λ c κs. search needs)
-    (λ c. search needs)
-    (λ c. search needs)
-    (λ c. search needs)
-    (λ c. search needs))
+    (tie.spec Inv-loop μ-loop (λ c. search needs) (λ c κs. search needs) (λ c. search needs) (λ c. search needs)
+    (λ c κs. search needs) (λ c. search needs) (λ c. search needs) (λ c. search needs) (λ c. search needs))

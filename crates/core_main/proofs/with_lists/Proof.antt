@@ -22,8 +22,11 @@ mixed a b = a ∷ b ∷ a ∷ a ∷ b ∷ b ∷ b ∷ a ∷ a ∷ b ∷ a ∷ b 
 
 change-requires : tie.Need-change-requires
 change-requires c κs =
-    let (z, f, s, x) = c .before .before .before .before .pre in
-    (z, f, s, x, below _ (mixed _ _) (omega arith), below _ (take 7 (mixed _ _)) (omega arith))
+    let (z, f, s, x) = c .before .before .before .before .pre in (
+      record { sound = z; declared = s; few = search needs; sorts = below _ (mixed _ _) (omega arith) },
+      record { sound = z; declared = f; terms = below _ (take 7 (mixed _ _)) (omega arith) },
+      x,
+    )
 
 pub with-lists-spec : {M : Type 1} → statement M
 with-lists-spec = tie.close (tie.spec change-requires (λ c. search needs) (λ c. search needs))
