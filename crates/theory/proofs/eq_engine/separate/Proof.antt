@@ -18,12 +18,6 @@ returns c =
 pub separate-spec : {M : Type 1} → statement M
 separate-spec =
     tie.close
-    (tie.spec
-    (λ c κs. search needs)
-    (λ c κs. search needs)
-    (λ c κs. search needs)
+    (tie.spec (λ c κs. search needs) (λ c κs. search needs) (λ c κs. search needs)
     (λ c. omega (arith, ap (size-word (c .before .before .before .before .before .before .before .args .t .now)) (c .before .before .before .before .get-at .ensures .0)))
-    (λ c κs. search needs)
-    (λ c κs. search needs)
-    (λ c. search needs)
-    returns)
+    (λ c κs. search needs) (λ c κs. search needs) (λ c. search needs) returns)
