@@ -142,10 +142,10 @@ abbrev sizes : List Merge → List ℕ → ℕ
 sizes ms rs = total (map (λ r. classes ms .size r) rs)
 
 module _ (m : Merge) (ms : List Merge) where
-  size-other : (r : ℕ) → (r ≡ root-of ms m → ⊥) → classes (m ∷ ms) .size r ≡ classes ms .size r
+  pub size-other : (r : ℕ) → (r ≡ root-of ms m → ⊥) → classes (m ∷ ms) .size r ≡ classes ms .size r
   size-other r h = let d = ne-eqb r (root-of ms m) h in size-more m ms r ∙ rw d
 
-  size-root : (r : ℕ) → r ≡ root-of ms m → classes (m ∷ ms) .size r ≡ classes ms .size (child-of ms m) + classes ms .size r
+  pub size-root : (r : ℕ) → r ≡ root-of ms m → classes (m ∷ ms) .size r ≡ classes ms .size (child-of ms m) + classes ms .size r
   size-root r e = let d = eq-eqb r (root-of ms m) e in size-more m ms r ∙ rw d (rw e)
 
   sizes-other : (rs : List ℕ) → (In (root-of ms m) rs → ⊥) → sizes (m ∷ ms) rs ≡ sizes ms rs

@@ -18,7 +18,8 @@ returns-2 c =
     let join = c .before .before in
     let words = join .before .before in
     let two = words .before .before .before .before .before in
-    merged-label _ (two .before .before .before .before .args .j) _ (words .label-words .ensures) (two .before .are-equal .ensures) (two .if1 .left) (join .join .ensures)
+    merged-label _ (two .before .before .before .before .args .j) _ (words .label-words .ensures) (two .before .are-equal .ensures)
+    (two .if1 .left) (join .join .ensures)
 
 pub merge-spec : {M : Type 1} → statement M
 merge-spec =
