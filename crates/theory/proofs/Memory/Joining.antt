@@ -59,63 +59,33 @@ merged-two {t} {u} {a} {b} i j e q g = record {
 
 -- ---- a label without pairs
 
-module _ (t : List ℕ) (n : ℕ) where
-  -- what the words of such a label are
-  record Plain (j : Given.EqJust) (kind h v : ℕ) : Type 0 where
-    known : kind < 3
-    theory : h < kind-unit
-    value : v < 4294967296
-    start : begins kind v n ≡ n
-    none : pairs-of (label t kind h v n) ≡ []
-    is : label t kind h v n ≡ just-meaning j
-
-  plain : (j : Given.EqJust) (w : LabelWords.LabelWords) → HoldsLabel j w → Plain j (w .kind) (w .theory) (w .value)
-  unfolding label begins pairs-of just-meaning
-  plain (Given.the-variants.Asserted l) w s =
-      let k = s .kind in
-      let h = s .theory in
-      record {
-        known = omega arith;
-        theory = omega arith;
-        value = s .fits;
-        start = ap (λ (i : ℕ). begins i (w .value) n) k;
-        none = ap (λ (i : ℕ). pairs-of (label t i (w .theory) (w .value) n)) k;
-        is = ap (λ (i : ℕ). label t i (w .theory) (w .value) n) k ∙ ap Asserted (s .value);
-      }
-  plain (Given.the-variants.Interface g) w s =
-      let k = s .kind in
-      record {
-        known = omega arith;
-        theory = s .known;
-        value = s .fits;
-        start = ap (λ (i : ℕ). begins i (w .value) n) k;
-        none = ap (λ (i : ℕ). pairs-of (label t i (w .theory) (w .value) n)) k;
-        is = ap (λ (i : ℕ). label t i (w .theory) (w .value) n) k ∙ ap₂ Interface (s .theory) (s .value);
-      }
+plain : (j : Given.EqJust) → pairs-of (just-meaning j) ≡ []
+unfolding pairs-of just-meaning
+plain (Given.the-variants.Asserted l) = refl
+plain (Given.the-variants.Interface k) = refl
 
 module _ {t : List ℕ} {a b : ℕ} {r : Bool} (n : ℕ) (j : Given.EqJust) (w : LabelWords.LabelWords) (h : HoldsLabel j w)
     (q : r ≡ are-equal (merges t) a b) (two : r ≡ false) where
   pub joinable-label : TwoNodes t a b → n ≡ pairs-in-force (merges t) → n ≤ max-pairs → Joinable t a b (w .kind) (w .theory) (w .value) n
   joinable-label s p top =
-      let c = plain t n j w h in
-      let start = c .start in
+      let start = h .no-pairs n in
       record {
         sound = s .sound;
         nodes = (s .first, s .second);
         two = sym q ∙ two;
-        known = c .known;
-        theory = c .theory;
-        value = c .value;
+        known = h .known;
+        theory = h .theory;
+        value = h .value;
         start = start ∙ p;
         ordered = omega arith;
         fit = top;
-        pairs = λ x i. absurd (subst (λ (ps : List (ℕ × ℕ)). In x ps) (c .none) i);
+        pairs = λ x i. absurd (subst (λ (ps : List (ℕ × ℕ)). In x ps) (ap pairs-of (h .is t n) ∙ plain j) i);
       }
 
   pub merged-label : {u : List ℕ} →
       Engine u (record { a = a; b = b; just = label t (w .kind) (w .theory) (w .value) n; level = level-word t } ∷ merges t)
       (level-word t) → Merges t u a b (just-meaning j)
-  merged-label = merged-two (label t (w .kind) (w .theory) (w .value) n) (just-meaning j) (sym q ∙ two) (plain t n j w h .is)
+  merged-label = merged-two (label t (w .kind) (w .theory) (w .value) n) (just-meaning j) (sym q ∙ two) (h .is t n)
 
 -- ---- argument pairs written one after the other
 
