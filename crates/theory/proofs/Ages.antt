@@ -24,8 +24,8 @@ use Rattle.theory.proofs.Explain.{justified-joins, justified-suffix, pa
 larger-both : (m n : ℕ) → (m ≤ larger m n) × (n ≤ larger m n)
 unfolding larger
 larger-both m n = elim (decLe m n) [
-  yes h ↦ let d = le-leb m n h in rw d (h, omega arith) |
-  no h ↦ let d = lt-leb m n (omega arith) in rw d (omega arith, omega arith)
+  | yes h ↦ let d = le-leb m n h in rw d (h, omega arith)
+  | no h ↦ let d = lt-leb m n (omega arith) in rw d (omega arith, omega arith)
 ]
 
 larger-least : (m n k : ℕ) → m ≤ k → n ≤ k → larger m n ≤ k
@@ -95,8 +95,8 @@ age-new : (m : Merge) (ms : List Merge) (x y : ℕ) → (Same ms x y → ⊥) �
 unfolding age
 age-new m ms x y h =
     elim (are-equal ms x y) as (λ b. are-equal ms x y ≡ b → cond b (age ms x y) (suc (length ms)) ≡ suc (length ms)) [
-      true ↦ λ e. absurd (h (equal-same ms x y (rw e tt))) |
-      false ↦ λ e. refl
+      | true ↦ λ e. absurd (h (equal-same ms x y (rw e tt)))
+      | false ↦ λ e. refl
     ] refl
 
 -- terms that some of the oldest merges make equal
@@ -113,10 +113,10 @@ path-older ms (m ∷ r) x y J u e s i p j =
     let (n, o, a) = path-age ms (m ∷ r) x y (justified-joins ms J) u e s i in
     let v = suffix-tail m r ms u in
     elim (same? r x y) [
-      yes h ↦ let k = path-older ms r x y J v h s i p j in omega (arith, age-same m r x y h) |
-      no h ↦
-        let k = pairs-before m r (justified-suffix (m ∷ r) ms u J) n o p (subst (λ (l : EqJust). In p (pairs-of l)) (a .0) j) in
-        omega (arith, age-new m r x y h, age-old r ms (p .0) (p .1) v k)
+      | yes h ↦ let k = path-older ms r x y J v h s i p j in omega (arith, age-same m r x y h)
+      | no h ↦
+          let k = pairs-before m r (justified-suffix (m ∷ r) ms u J) n o p (subst (λ (l : EqJust). In p (pairs-of l)) (a .0) j) in
+          omega (arith, age-new m r x y h, age-old r ms (p .0) (p .1) v k)
     ]
 
 -- both parts of the path

@@ -112,8 +112,8 @@ module _ (m : Merge) (ms : List Merge) where
   -- the sides are joined
   pub same-sides : Same (m ∷ ms) (m .a) (m .b)
   same-sides = elim (roots m ms) [
-    inl (p, q) ↦ find-child m ms (m .a) (sym p) ∙ sym (find-root m ms (m .b) (sym q)) |
-    inr (p, q) ↦ find-root m ms (m .a) (sym q) ∙ sym (find-child m ms (m .b) (sym p))
+    | inl (p, q) ↦ find-child m ms (m .a) (sym p) ∙ sym (find-root m ms (m .b) (sym q))
+    | inr (p, q) ↦ find-root m ms (m .a) (sym q) ∙ sym (find-child m ms (m .b) (sym p))
   ]
 
   -- what was not equal before goes over the new sides
@@ -169,11 +169,11 @@ pub pop-pop : (j k : ℕ) (ms : List Merge) → j ≤ k → pop-merges j (pop-me
 unfolding pop-merges
 pop-pop j k [] l = refl
 pop-pop j k (m ∷ ms) l = elim (decLe (m .level) k) [
-  yes h ↦ let d = le-leb (m .level) k h in rw d |
-  no h ↦
-    let d = lt-leb (m .level) k (omega arith) in
-    let f = lt-leb (m .level) j (omega arith) in
-    rw (d, f, pop-pop j k ms l)
+  | yes h ↦ let d = le-leb (m .level) k h in rw d
+  | no h ↦
+      let d = lt-leb (m .level) k (omega arith) in
+      let f = lt-leb (m .level) j (omega arith) in
+      rw (d, f, pop-pop j k ms l)
 ]
 
 -- what a pop would keep, it keeps after one more merge
@@ -188,8 +188,8 @@ unfolding merge
 merge-equal ms level x y j =
     let new : Merge = record { a = x; b = y; just = j; level = level } in
     elim (are-equal ms x y) as (λ b. are-equal ms x y ≡ b → T (are-equal (cond b ms (new ∷ ms)) x y)) [
-      true ↦ λ e. rw e tt |
-      false ↦ λ e. same-equal (new ∷ ms) x y (same-sides new ms)
+      | true ↦ λ e. rw e tt
+      | false ↦ λ e. same-equal (new ∷ ms) x y (same-sides new ms)
     ] refl
 
 -- ---- chains

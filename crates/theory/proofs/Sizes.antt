@@ -24,16 +24,16 @@ side-rooted : (ms : List Merge) (m : Merge) → ((z : ℕ) → find ms (find ms 
 side-rooted ms m f =
     let own : (r z : ℕ) → r ≡ find ms z → find ms r ≡ r = λ r z e. ap (find ms) e ∙ f z ∙ sym e in
     elim (roots m ms) [
-      inl (p, q) ↦ (own (child-of ms m) (m .a) p, own (root-of ms m) (m .b) q) |
-      inr (p, q) ↦ (own (child-of ms m) (m .b) p, own (root-of ms m) (m .a) q)
+      | inl (p, q) ↦ (own (child-of ms m) (m .a) p, own (root-of ms m) (m .b) q)
+      | inr (p, q) ↦ (own (child-of ms m) (m .b) p, own (root-of ms m) (m .a) q)
     ]
 
 -- the root of a term is its own root
 pub find-find : (ms : List Merge) (x : ℕ) → find ms (find ms x) ≡ find ms x
 find-find [] x = ap (find []) (find-alone x)
 find-find (m ∷ ms) x = elim (ℕ-discrete (find ms x) (child-of ms m)) [
-  yes s ↦ let e = find-child m ms x s in rw (e, find-root m ms (root-of ms m) (side-rooted ms m (find-find ms) .1)) |
-  no k ↦ let e = find-kept m ms x k in rw (e, find-kept m ms (find ms x) (λ s. k (sym (find-find ms x) ∙ s)), find-find ms x)
+  | yes s ↦ let e = find-child m ms x s in rw (e, find-root m ms (root-of ms m) (side-rooted ms m (find-find ms) .1))
+  | no k ↦ let e = find-kept m ms x k in rw (e, find-kept m ms (find ms x) (λ s. k (sym (find-find ms x) ∙ s)), find-find ms x)
 ]
 
 pub child-rooted : (m : Merge) (ms : List Merge) → find ms (child-of ms m) ≡ child-of ms m
@@ -46,8 +46,8 @@ root-rooted m ms = side-rooted ms m (find-find ms) .1
 root-stays : (m : Merge) (ms : List Merge) → are-equal ms (m .a) (m .b) ≡ false → (r : ℕ) → find (m ∷ ms) r ≡ r →
     (find ms r ≡ r) × (r ≡ child-of ms m → ⊥)
 root-stays m ms j r e = elim (ℕ-discrete (find ms r) (child-of ms m)) [
-  yes s ↦ absurd (roots-apart m ms j (sym s ∙ ap (find ms) (sym e ∙ find-child m ms r s) ∙ root-rooted m ms)) |
-  no h ↦ let q = sym (find-kept m ms r h) ∙ e in (q, λ p. h (q ∙ p))
+  | yes s ↦ absurd (roots-apart m ms j (sym s ∙ ap (find ms) (sym e ∙ find-child m ms r s) ∙ root-rooted m ms))
+  | no h ↦ let q = sym (find-kept m ms r h) ∙ e in (q, λ p. h (q ∙ p))
 ]
 
 -- the sides of all merges are terms below n
@@ -67,8 +67,8 @@ find-within n [] w x l = subst (λ (z : ℕ). z < n) (sym (find-alone x)) l
 find-within n (m ∷ ms) w x l =
     let f : (z : ℕ) → z < n → find ms z < n = find-within n ms (λ k i. w k (inr i)) in
     elim (ℕ-discrete (find ms x) (child-of ms m)) [
-      yes s ↦ let e = find-child m ms x s in let b = roots-within n m ms f (w m (inl refl)) in omega arith |
-      no k ↦ let e = find-kept m ms x k in let b = f x l in omega arith
+      | yes s ↦ let e = find-child m ms x s in let b = roots-within n m ms f (w m (inl refl)) in omega arith
+      | no k ↦ let e = find-kept m ms x k in let b = f x l in omega arith
     ]
 
 module _ (n : ℕ) (m : Merge) (ms : List Merge) (w : Within n ms) (h : (m .a < n) × (m .b < n)) where
@@ -124,7 +124,7 @@ pub merges-fewer : (n : ℕ) (ms : List Merge) → 0 < n → Joins ms → Within
 merges-fewer n ms l j w =
     let g = gone-of n ms j w in
     let below : (z : ℕ) → In z (find ms 0 ∷ g .gone) → z < 0 + n =
-      λ z. ⊎-elim (λ e. let h = find-within n ms w 0 l in omega arith) (λ i. let h = g .within z i in omega arith) in
+    λ z. ⊎-elim (λ e. let h = find-within n ms w 0 l in omega arith) (λ i. let h = g .within z i in omega arith) in
     let h = apart-length (find ms 0 ∷ g .gone) (range 0 n) (g .never 0, g .apart) (λ z i. in-range 0 n z (omega arith) (below z i)) in
     omega (arith, length-range 0 n, g .count)
 
@@ -153,8 +153,8 @@ module _ (m : Merge) (ms : List Merge) where
   sizes-grow (r ∷ rs) (h, a) =
       let l = sizes-grow rs a in
       elim (ℕ-discrete r (root-of ms m)) [
-        yes e ↦ omega (arith, size-root r e, sizes-other rs (λ i. h (subst (λ (z : ℕ). In z rs) (sym e) i))) |
-        no k ↦ omega (arith, size-other r k)
+        | yes e ↦ omega (arith, size-root r e, sizes-other rs (λ i. h (subst (λ (z : ℕ). In z rs) (sym e) i)))
+        | no k ↦ omega (arith, size-other r k)
       ]
 
 sizes-alone : (rs : List ℕ) → sizes [] rs ≡ length rs
@@ -196,6 +196,6 @@ size-bound [] j r = omega arith
 size-bound (m ∷ ms) j r =
     let l = size-bound ms (j .1) r in
     elim (ℕ-discrete r (root-of ms m)) [
-      yes e ↦ let h = ap (λ (z : ℕ). classes ms .size z) e in omega (arith, size-root m ms r e, sizes-two ms m j) |
-      no k ↦ omega (arith, size-other m ms r k)
+      | yes e ↦ let h = ap (λ (z : ℕ). classes ms .size z) e in omega (arith, size-root m ms r e, sizes-two ms m j)
+      | no k ↦ omega (arith, size-other m ms r k)
     ]

@@ -41,8 +41,8 @@ root-depth : (ms : List Merge) → Joins ms → (r : ℕ) → find ms r ≡ r �
 unfolding depth
 root-depth [] js r e = refl
 root-depth (m ∷ ms) (j, js) r e = elim (ℕ-discrete (find ms r) (child-of ms m)) [
-  yes q ↦ absurd (roots-apart m ms j (sym q ∙ ap (find ms) (sym e ∙ find-child m ms r q) ∙ root-rooted m ms)) |
-  no n ↦ depth-kept m ms r n ∙ root-depth ms js r (sym (find-kept m ms r n) ∙ e)
+  | yes q ↦ absurd (roots-apart m ms j (sym q ∙ ap (find ms) (sym e ∙ find-child m ms r q) ∙ root-rooted m ms))
+  | no n ↦ depth-kept m ms r n ∙ root-depth ms js r (sym (find-kept m ms r n) ∙ e)
 ]
 
 -- what is known of a node and its parent: the node is a root, or its parent is nearer to the same root
@@ -82,8 +82,8 @@ module _ (m : Merge) (ms : List Merge) (j : are-equal ms (m .a) (m .b) ≡ false
     where
       nearer : depth (m ∷ ms) (parent ms x) < depth (m ∷ ms) x
       nearer = elim (ℕ-discrete (find ms x) (child-of ms m)) [
-        yes q ↦ omega (arith, depth-child m ms (parent ms x) (f ∙ q), depth-child m ms x q) |
-        no q ↦ omega (arith, depth-kept m ms (parent ms x) (λ w. q (sym f ∙ w)), depth-kept m ms x q)
+        | yes q ↦ omega (arith, depth-child m ms (parent ms x) (f ∙ q), depth-child m ms x q)
+        | no q ↦ omega (arith, depth-kept m ms (parent ms x) (λ w. q (sym f ∙ w)), depth-kept m ms x q)
       ]
 
 pub up : (ms : List Merge) → Joins ms → (x : ℕ) → Up ms x
@@ -99,8 +99,8 @@ up (m ∷ ms) (j, js) x = go (ℕ-discrete x (child-of ms m)) (up ms js x)
 -- the root that goes under was its own parent
 pub child-parent : (m : Merge) (ms : List Merge) → Joins ms → parent ms (child-of ms m) ≡ child-of ms m
 child-parent m ms js = elim (up ms js (child-of ms m)) [
-  inl (p, f) ↦ p |
-  inr (n, f, l) ↦ let d = root-depth ms js (child-of ms m) (child-rooted m ms) in absurd (omega arith)
+  | inl (p, f) ↦ p
+  | inr (n, f, l) ↦ let d = root-depth ms js (child-of ms m) (child-rooted m ms) in absurd (omega arith)
 ]
 
 -- a node's parent is a node
@@ -110,6 +110,6 @@ parent-within n [] w x h = h
 parent-within n (m ∷ ms) w x h =
     let old : Within n ms = λ k i. w k (inr i) in
     elim (eqb x (child-of ms m)) as (λ b. cond b (root-of ms m) (parent ms x) < n) [
-      true ↦ root-within n m ms old (w m (inl refl)) |
-      false ↦ parent-within n ms old x h
+      | true ↦ root-within n m ms old (w m (inl refl))
+      | false ↦ parent-within n ms old x h
     ]
