@@ -2,10 +2,11 @@
 use Prim.Native.Nat.{ℕ, suc, _≤_, _<_}
 use mathlib.Core.Path.{_≡_, refl, sym, subst, ap}
 use mathlib.Core.Logic.{inl, inr}
-use mathlib.Core.Bool.{Bool, true, false, cond}
+use mathlib.Core.Bool.{true, false, cond}
 use mathlib.Core.List.{List, [], _∷_}
+use native.Mathlib.Decide.{decLe}
 use native.Mathlib.Omega.{arith}
-use borrow.Author.Tests.{leb-true, leb-false}
+use borrow.Author.Tests.{le-leb, lt-leb}
 use lib.Dec.{T, leb}
 use lib.ListN.{length}
 use Rattle.core.proofs.Lists.{In, T-true}
@@ -22,19 +23,14 @@ use Rattle.theory.proofs.Explain.{justified-joins, justified-suffix, pa
 
 larger-both : (m n : ℕ) → (m ≤ larger m n) × (n ≤ larger m n)
 unfolding larger
-larger-both m n = go (leb m n) refl
-  where
-    go : (b : Bool) → leb m n ≡ b → (m ≤ cond b n m) × (n ≤ cond b n m)
-    go true e = let h = leb-true m n e in (omega arith, omega arith)
-    go false e = let h = leb-false m n e in (omega arith, omega arith)
+larger-both m n = elim (decLe m n) [
+  | yes h ↦ let d = le-leb m n h in rw d (h, omega arith)
+  | no h ↦ let d = lt-leb m n (omega arith) in rw d (omega arith, omega arith)
+]
 
 larger-least : (m n k : ℕ) → m ≤ k → n ≤ k → larger m n ≤ k
 unfolding larger
-larger-least m n k h g = go (leb m n)
-  where
-    go : (b : Bool) → cond b n m ≤ k
-    go true = g
-    go false = h
+larger-least m n k h g = elim (leb m n) as (λ b. cond b n m ≤ k) [ true ↦ g | false ↦ h ]
 
 -- ---- pairs and steps
 
@@ -87,23 +83,21 @@ module _ (ms : List Merge) where
 pub age-bound : (ms : List Merge) (x y : ℕ) → age ms x y ≤ length ms
 unfolding age
 age-bound [] x y = omega arith
-age-bound (m ∷ ms) x y = go (are-equal ms x y) (age-bound ms x y)
-  where
-    go : (b : Bool) → age ms x y ≤ length ms → cond b (age ms x y) (suc (length ms)) ≤ suc (length ms)
-    go true h = omega arith
-    go false h = omega arith
+age-bound (m ∷ ms) x y =
+    let h = age-bound ms x y in
+    elim (are-equal ms x y) as (λ b. cond b (age ms x y) (suc (length ms)) ≤ suc (length ms)) [ true ↦ omega arith | false ↦ omega arith ]
 
 age-same : (m : Merge) (ms : List Merge) (x y : ℕ) → Same ms x y → age (m ∷ ms) x y ≡ age ms x y
 unfolding age
-age-same m ms x y s = ap (λ (b : Bool). cond b (age ms x y) (suc (length ms))) (T-true (are-equal ms x y) (same-equal ms x y s))
+age-same m ms x y s = rw (T-true (are-equal ms x y) (same-equal ms x y s))
 
 age-new : (m : Merge) (ms : List Merge) (x y : ℕ) → (Same ms x y → ⊥) → age (m ∷ ms) x y ≡ suc (length ms)
 unfolding age
-age-new m ms x y h = go (are-equal ms x y) refl
-  where
-    go : (b : Bool) → are-equal ms x y ≡ b → cond b (age ms x y) (suc (length ms)) ≡ suc (length ms)
-    go true e = absurd (h (equal-same ms x y (subst T (sym e) tt)))
-    go false e = refl
+age-new m ms x y h =
+    elim (are-equal ms x y) as (λ b. are-equal ms x y ≡ b → cond b (age ms x y) (suc (length ms)) ≡ suc (length ms)) [
+      | true ↦ λ e. absurd (h (equal-same ms x y (rw e tt)))
+      | false ↦ λ e. refl
+    ] refl
 
 -- terms that some of the oldest merges make equal
 age-old : (r ms : List Merge) (x y : ℕ) → Suffix r ms → Same r x y → age ms x y ≤ length r
@@ -112,29 +106,30 @@ age-old r (m ∷ ms) x y (inl e) s = let h = age-bound (m ∷ ms) x y in let g =
 age-old r (m ∷ ms) x y (inr u) s = let h = age-same m ms x y (same-suffix r ms x y u s) in let g = age-old r ms x y u s in omega arith
 
 -- the pairs of the labels on a path were equal before its ends were
-path-older : (ms r : List Merge) (x y : ℕ) → Justified ms → Suffix r ms → Same r x y → (s : Step) → In s (path ms x y) → (p : ℕ × ℕ) → In p (pairs-of (s .just)) → age ms (p .0) (p .1) < age r x y
+path-older : (ms r : List Merge) (x y : ℕ) → Justified ms → Suffix r ms → Same r x y →
+    (s : Step) → In s (path ms x y) → (p : ℕ × ℕ) → In p (pairs-of (s .just)) → age ms (p .0) (p .1) < age r x y
 path-older ms [] x y J u e s i p j = absurd (path-age ms [] x y (justified-joins ms J) u e s i .1)
-path-older ms (m ∷ r) x y J u e s i p j = go (same? r x y) (λ h. path-older ms r x y J (suffix-tail m r ms u) h s i p j)
-  where
-    older : Edge (m ∷ r) s → Same r (p .0) (p .1)
-    older (n, o, a) = pairs-before m r (justified-suffix (m ∷ r) ms u J) n o p (subst (λ (k : EqJust). In p (pairs-of k)) (a .0) j)
-
-    go : Dec (Same r x y) → (Same r x y → age ms (p .0) (p .1) < age r x y) → age ms (p .0) (p .1) < age (m ∷ r) x y
-    go (yes h) f = let g = age-same m r x y h in let k = f h in omega arith
-    go (no h) f =
-        let g = age-new m r x y h in
-        let k = age-old r ms (p .0) (p .1) (suffix-tail m r ms u) (older (path-age ms (m ∷ r) x y (justified-joins ms J) u e s i)) in
-        omega arith
+path-older ms (m ∷ r) x y J u e s i p j =
+    let (n, o, a) = path-age ms (m ∷ r) x y (justified-joins ms J) u e s i in
+    let v = suffix-tail m r ms u in
+    elim (same? r x y) [
+      | yes h ↦ let k = path-older ms r x y J v h s i p j in omega (arith, age-same m r x y h)
+      | no h ↦
+          let k = pairs-before m r (justified-suffix (m ∷ r) ms u J) n o p (subst (λ (l : EqJust). In p (pairs-of l)) (a .0) j) in
+          omega (arith, age-new m r x y h, age-old r ms (p .0) (p .1) v k)
+    ]
 
 -- both parts of the path
-pub ways-older : (ms : List Merge) (x y n : ℕ) → Justified ms → Same ms x y → n ≡ common x (way ms x) y (way ms y) → (steps-age ms (before n (way ms x)) ≤ age ms x y) × (steps-age ms (before n (way ms y)) ≤ age ms x y)
+pub ways-older : (ms : List Merge) (x y n : ℕ) → Justified ms → Same ms x y → n ≡ common x (way ms x) y (way ms y) →
+    (steps-age ms (before n (way ms x)) ≤ age ms x y) × (steps-age ms (before n (way ms y)) ≤ age ms x y)
 unfolding path
-ways-older ms x y n J e q = subst (λ (v : ℕ). (steps-age ms (before v (way ms x)) ≤ age ms x y) × (steps-age ms (before v (way ms y)) ≤ age ms x y)) (sym q) (part (before c (way ms x)) (λ s i. in-left s (before c (way ms x)) (before c (way ms y)) i), part (before c (way ms y)) (λ s i. in-right s (before c (way ms x)) (before c (way ms y)) i))
+ways-older ms x y n J e q =
+    let c = common x (way ms x) y (way ms y) in
+    let u = before c (way ms x) in
+    let w = before c (way ms y) in
+    rw q (part u (λ s. in-left s u w), part w (λ s. in-right s u w))
   where
-    c : ℕ
-    c = common x (way ms x) y (way ms y)
-
     part : (w : List Step) → ((s : Step) → In s w → In s (path ms x y)) → steps-age ms w ≤ age ms x y
     part w f =
         steps-age-least ms w (age ms x y)
-        (λ s i. pairs-age-least ms (pairs-of (s .just)) (age ms x y) (λ p j. path-older ms ms x y J (suffix-self ms) e s (f s i) p j))
+        (λ s i. pairs-age-least ms (pairs-of (s .just)) (age ms x y) (path-older ms ms x y J (suffix-self ms) e s (f s i)))

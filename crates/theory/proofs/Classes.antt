@@ -4,10 +4,10 @@ use mathlib.Core.Path.{_≡_, refl, sym, subst, ap, _∙_}
 use mathlib.Core.Logic.{_⊎_, inl, inr}
 use mathlib.Core.Bool.{Bool, true, false, cond}
 use mathlib.Core.List.{List, [], _∷_, cons≢nil, tail-eq-of-cons-eq}
-use native.Mathlib.Decide.{ℕ-discrete}
+use native.Mathlib.Decide.{ℕ-discrete, decLe}
 use native.Mathlib.Omega.{arith}
 use lib.Dec.{T, leb, eqb, eqb→eq}
-use borrow.Author.Tests.{eq-eqb, ne-eqb, eqb-true, eqb-false, leb-false, lt-leb}
+use borrow.Author.Tests.{eq-eqb, ne-eqb, eqb-false, le-leb, lt-leb}
 use Rattle.core.proofs.Lists.{In}
 use Rattle.theory.specs.Types.{EqJust}
 pub use Rattle.theory.specs.Memory.Replay.{BothSides}
@@ -33,12 +33,7 @@ unfolding find are-equal
 unequal ms x y f e = eqb-false (find ms x) (find ms y) f e
 
 pub same? : (ms : List Merge) (x y : ℕ) → Dec (Same ms x y)
-unfolding find are-equal
-same? ms x y = go (are-equal ms x y) refl
-  where
-    go : (b : Bool) → are-equal ms x y ≡ b → Dec (Same ms x y)
-    go true e = yes (eqb-true (find ms x) (find ms y) e)
-    go false e = no (eqb-false (find ms x) (find ms y) e)
+same? ms x y = ℕ-discrete (find ms x) (find ms y)
 
 pub equal-refl : (ms : List Merge) (x : ℕ) → T (are-equal ms x x)
 equal-refl ms x = same-equal ms x x refl
@@ -80,7 +75,8 @@ module _ (m : Merge) (ms : List Merge) where
   unfolding find under
   find-more x = ap (λ (c : Classes). c .find x) (chosen .1)
 
-  pub size-more : (r : ℕ) → classes (m ∷ ms) .size r ≡ cond (eqb r (root-of ms m)) (classes ms .size (child-of ms m) + classes ms .size (root-of ms m)) (classes ms .size r)
+  pub size-more : (r : ℕ) → classes (m ∷ ms) .size r ≡
+      cond (eqb r (root-of ms m)) (classes ms .size (child-of ms m) + classes ms .size (root-of ms m)) (classes ms .size r)
   unfolding under
   size-more r = ap (λ (c : Classes). c .size r) (chosen .1)
 
@@ -92,19 +88,13 @@ module _ (m : Merge) (ms : List Merge) where
   find-kept x n = let d = ne-eqb (find ms x) (child-of ms m) n in find-more x ∙ rw d
 
   pub find-root : (x : ℕ) → find ms x ≡ root-of ms m → find (m ∷ ms) x ≡ root-of ms m
-  find-root x e = go (ℕ-discrete (find ms x) (child-of ms m))
-    where
-      go : Dec (find ms x ≡ child-of ms m) → find (m ∷ ms) x ≡ root-of ms m
-      go (yes q) = find-child x q
-      go (no n) = find-kept x n ∙ e
+  find-root x e =
+      elim (ℕ-discrete (find ms x) (child-of ms m)) [ yes q ↦ find-child x q | no n ↦ find-kept x n ∙ e ]
 
   -- the two roots differ, if the sides did
   pub roots-apart : are-equal ms (m .a) (m .b) ≡ false → child-of ms m ≡ root-of ms m → ⊥
-  roots-apart j e = unequal ms (m .a) (m .b) j (go roots)
-    where
-      go : Roots m ms (child-of ms m) (root-of ms m) → Same ms (m .a) (m .b)
-      go (inl (p, q)) = sym p ∙ e ∙ q
-      go (inr (p, q)) = sym q ∙ sym e ∙ p
+  roots-apart j e =
+      unequal ms (m .a) (m .b) j (elim roots [ inl (p, q) ↦ sym p ∙ e ∙ q | inr (p, q) ↦ sym q ∙ sym e ∙ p ])
 
 -- x and y over the sides of a merge: x with one side, y with the other
 abbrev pub Across : Merge → List Merge → ℕ → ℕ → Type 0
@@ -114,41 +104,30 @@ pub turned-sides : (m : Merge) (p q : ℕ) → BothSides m p q → BothSides m q
 turned-sides m p q (inl (e, f)) = inr (f, e)
 turned-sides m p q (inr (e, f)) = inl (f, e)
 
--- older equality persists
-pub same-kept : (m : Merge) (ms : List Merge) (x y : ℕ) → Same ms x y → Same (m ∷ ms) x y
-same-kept m ms x y e = go (ℕ-discrete (find ms x) (child-of ms m))
-  where
-    go : Dec (find ms x ≡ child-of ms m) → Same (m ∷ ms) x y
-    go (yes s) = find-child m ms x s ∙ sym (find-child m ms y (sym e ∙ s))
-    go (no h) = find-kept m ms x h ∙ e ∙ sym (find-kept m ms y (λ s. h (e ∙ s)))
+module _ (m : Merge) (ms : List Merge) where
+  -- older equality persists
+  pub same-kept : (x y : ℕ) → Same ms x y → Same (m ∷ ms) x y
+  same-kept x y e = rw (find-more m ms x, find-more m ms y, e)
 
--- the sides are joined
-pub same-sides : (m : Merge) (ms : List Merge) → Same (m ∷ ms) (m .a) (m .b)
-same-sides m ms = go (roots m ms)
-  where
-    go : Roots m ms (child-of ms m) (root-of ms m) → Same (m ∷ ms) (m .a) (m .b)
-    go (inl (p, q)) = find-child m ms (m .a) (sym p) ∙ sym (find-root m ms (m .b) (sym q))
-    go (inr (p, q)) = find-root m ms (m .a) (sym q) ∙ sym (find-child m ms (m .b) (sym p))
+  -- the sides are joined
+  pub same-sides : Same (m ∷ ms) (m .a) (m .b)
+  same-sides = elim (roots m ms) [
+    | inl (p, q) ↦ find-child m ms (m .a) (sym p) ∙ sym (find-root m ms (m .b) (sym q))
+    | inr (p, q) ↦ find-root m ms (m .a) (sym q) ∙ sym (find-child m ms (m .b) (sym p))
+  ]
 
--- what was not equal before goes over the new sides
-pub same-split : (m : Merge) (ms : List Merge) (x y : ℕ) → Same (m ∷ ms) x y → Same ms x y ⊎ Across m ms x y
-same-split m ms x y e = go (ℕ-discrete (find ms x) (child-of ms m)) (ℕ-discrete (find ms y) (child-of ms m))
-  where
-    over : (c r : ℕ) → Roots m ms c r → find ms x ≡ c → r ≡ find ms y → Across m ms x y
-    over c r (inl (p, q)) s t = inl (s ∙ p, sym q ∙ t)
-    over c r (inr (p, q)) s t = inr (s ∙ p, sym q ∙ t)
-
-    back : (c r : ℕ) → Roots m ms c r → Roots m ms r c
-    back c r (inl (p, q)) = inr (q, p)
-    back c r (inr (p, q)) = inl (q, p)
-
-    go : Dec (find ms x ≡ child-of ms m) → Dec (find ms y ≡ child-of ms m) → Same ms x y ⊎ Across m ms x y
-    go (yes s) (yes t) = inl (s ∙ sym t)
-    go (yes s) (no k) = inr (over (child-of ms m) (root-of ms m) (roots m ms) s (sym (find-child m ms x s) ∙ e ∙ find-kept m ms y k))
-    go (no h) (yes t) =
-        let r = sym (find-kept m ms x h) ∙ e ∙ find-child m ms y t in
-        inr (over (root-of ms m) (child-of ms m) (back (child-of ms m) (root-of ms m) (roots m ms)) r (sym t))
-    go (no h) (no k) = inl (sym (find-kept m ms x h) ∙ e ∙ find-kept m ms y k)
+  -- what was not equal before goes over the new sides
+  pub same-split : (x y : ℕ) → Same (m ∷ ms) x y → Same ms x y ⊎ Across m ms x y
+  same-split x y e = go (ℕ-discrete (find ms x) (child-of ms m)) (ℕ-discrete (find ms y) (child-of ms m)) (roots m ms)
+    where
+      go : Dec (find ms x ≡ child-of ms m) → Dec (find ms y ≡ child-of ms m) → Roots m ms (child-of ms m) (root-of ms m) →
+          Same ms x y ⊎ Across m ms x y
+      go (yes s) (yes t) r = inl (s ∙ sym t)
+      go (no h) (no k) r = inl (sym (find-kept m ms x h) ∙ e ∙ find-kept m ms y k)
+      go (yes s) (no k) (inl (p, q)) = inr (inl (s ∙ p, sym q ∙ sym (find-child m ms x s) ∙ e ∙ find-kept m ms y k))
+      go (yes s) (no k) (inr (p, q)) = inr (inr (s ∙ p, sym q ∙ sym (find-child m ms x s) ∙ e ∙ find-kept m ms y k))
+      go (no h) (yes t) (inl (p, q)) = inr (inr (sym (find-kept m ms x h) ∙ e ∙ find-child m ms y t ∙ q, sym p ∙ sym t))
+      go (no h) (yes t) (inr (p, q)) = inr (inl (sym (find-kept m ms x h) ∙ e ∙ find-child m ms y t ∙ q, sym p ∙ sym t))
 
 -- ---- suffixes: the merges of some time before
 
@@ -182,43 +161,36 @@ in-suffix r (n ∷ ms) m (inr s) i = inr (in-suffix r ms m s i)
 pub pop-suffix : (k : ℕ) (ms : List Merge) → Suffix (pop-merges k ms) ms
 unfolding pop-merges
 pop-suffix k [] = refl
-pop-suffix k (m ∷ ms) = go (leb (m .level) k) (pop-suffix k ms)
-  where
-    go : (b : Bool) → Suffix (pop-merges k ms) ms → Suffix (cond b (m ∷ ms) (pop-merges k ms)) (m ∷ ms)
-    go true s = inl refl
-    go false s = inr s
+pop-suffix k (m ∷ ms) =
+    elim (leb (m .level) k) as (λ b. Suffix (cond b (m ∷ ms) (pop-merges k ms)) (m ∷ ms)) [ true ↦ inl refl | false ↦ inr (pop-suffix k ms) ]
 
 -- what the lower level keeps, the higher keeps
 pub pop-pop : (j k : ℕ) (ms : List Merge) → j ≤ k → pop-merges j (pop-merges k ms) ≡ pop-merges j ms
 unfolding pop-merges
 pop-pop j k [] l = refl
-pop-pop j k (m ∷ ms) l = go (leb (m .level) k) refl (pop-pop j k ms l)
-  where
-    go : (b : Bool) → leb (m .level) k ≡ b → pop-merges j (pop-merges k ms) ≡ pop-merges j ms → pop-merges j (cond b (m ∷ ms) (pop-merges k ms)) ≡ pop-merges j (m ∷ ms)
-    go true e h = refl
-    go false e h =
-        let g = leb-false (m .level) k e in
-        h ∙ sym (ap (λ (b : Bool). cond b (m ∷ ms) (pop-merges j ms)) (lt-leb (m .level) j (omega arith)))
+pop-pop j k (m ∷ ms) l = elim (decLe (m .level) k) [
+  | yes h ↦ let d = le-leb (m .level) k h in rw d
+  | no h ↦
+      let d = lt-leb (m .level) k (omega arith) in
+      let f = lt-leb (m .level) j (omega arith) in
+      rw (d, f, pop-pop j k ms l)
+]
 
 -- what a pop would keep, it keeps after one more merge
 pub pop-more : (k : ℕ) (m : Merge) (ms : List Merge) → Suffix (pop-merges k ms) (pop-merges k (m ∷ ms))
 unfolding pop-merges
-pop-more k m ms = go (leb (m .level) k)
-  where
-    go : (b : Bool) → Suffix (pop-merges k ms) (cond b (m ∷ ms) (pop-merges k ms))
-    go true = inr (pop-suffix k ms)
-    go false = suffix-self (pop-merges k ms)
+pop-more k m ms =
+    let r = pop-merges k ms in
+    elim (leb (m .level) k) as (λ b. Suffix r (cond b (m ∷ ms) r)) [ true ↦ inr (pop-suffix k ms) | false ↦ suffix-self r ]
 
 pub merge-equal : (ms : List Merge) (level x y : ℕ) (j : EqJust) → T (are-equal (merge ms level x y j) x y)
 unfolding merge
-merge-equal ms level x y j = go (are-equal ms x y) refl
-  where
-    new : Merge
-    new = record { a = x; b = y; just = j; level = level }
-
-    go : (b : Bool) → are-equal ms x y ≡ b → T (are-equal (cond b ms (new ∷ ms)) x y)
-    go true e = subst T (sym e) tt
-    go false e = same-equal (new ∷ ms) x y (same-sides new ms)
+merge-equal ms level x y j =
+    let new : Merge = record { a = x; b = y; just = j; level = level } in
+    elim (are-equal ms x y) as (λ b. are-equal ms x y ≡ b → T (are-equal (cond b ms (new ∷ ms)) x y)) [
+      | true ↦ λ e. rw e tt
+      | false ↦ λ e. same-equal (new ∷ ms) x y (same-sides new ms)
+    ] refl
 
 -- ---- chains
 
@@ -231,13 +203,10 @@ abbrev pub Linked : List Merge → ℕ → ℕ → ℕ → Type 0
 Linked ms zero x y = x ≡ y
 Linked ms (suc n) x y = (z : ℕ) × (Sides ms x z ⊎ Sides ms z x) × Linked ms n z y
 
-sides-kept : (m : Merge) (ms : List Merge) (x y : ℕ) → Sides ms x y → Sides (m ∷ ms) x y
-sides-kept m ms x y (n, i, e, f) = (n, inr i, e, f)
-
 linked-kept : (m : Merge) (ms : List Merge) (n x y : ℕ) → Linked ms n x y → Linked (m ∷ ms) n x y
 linked-kept m ms zero x y e = e
-linked-kept m ms (suc n) x y (z, inl s, l) = (z, inl (sides-kept m ms x z s), linked-kept m ms n z y l)
-linked-kept m ms (suc n) x y (z, inr s, l) = (z, inr (sides-kept m ms z x s), linked-kept m ms n z y l)
+linked-kept m ms (suc n) x y (z, inl (k, i, e, f), l) = (z, inl (k, inr i, e, f), linked-kept m ms n z y l)
+linked-kept m ms (suc n) x y (z, inr (k, i, e, f), l) = (z, inr (k, inr i, e, f), linked-kept m ms n z y l)
 
 -- some number of steps
 abbrev pub Chained : List Merge → ℕ → ℕ → Type 0
@@ -247,22 +216,22 @@ chained-on : (ms : List Merge) (n x y z : ℕ) → Linked ms n x y → Chained m
 chained-on ms zero x y z e (k, l) = (k, subst (λ (w : ℕ). Linked ms k w z) (sym e) l)
 chained-on ms (suc n) x y z (w, s, l) c = let (k, h) = chained-on ms n w y z l c in (suc k, (w, s, h))
 
-chained-more : (m : Merge) (ms : List Merge) (x y : ℕ) → ((z w : ℕ) → Same ms z w → Chained ms z w) → Same ms x y ⊎ Across m ms x y → Chained (m ∷ ms) x y
-chained-more m ms x y old (inl s) = let (n, l) = old x y s in (n, linked-kept m ms n x y l)
-chained-more m ms x y old (inr (inl p)) =
-    let (i, l) = old x (m .a) (p .0) in
-    let (j, k) = old (m .b) y (p .1) in
-    chained-on (m ∷ ms) i x (m .a) y (linked-kept m ms i x (m .a) l)
-    (suc j, (m .b, inl (m, inl refl, refl, refl), linked-kept m ms j (m .b) y k))
-chained-more m ms x y old (inr (inr p)) =
-    let (i, l) = old x (m .b) (p .0) in
-    let (j, k) = old (m .a) y (p .1) in
-    chained-on (m ∷ ms) i x (m .b) y (linked-kept m ms i x (m .b) l)
-    (suc j, (m .a, inr (m, inl refl, refl, refl), linked-kept m ms j (m .a) y k))
+-- over the newest merge, one way or the other
+chained-over : (m : Merge) (ms : List Merge) (x p q y : ℕ) → Sides (m ∷ ms) p q ⊎ Sides (m ∷ ms) q p →
+    Chained ms x p → Chained ms q y → Chained (m ∷ ms) x y
+chained-over m ms x p q y s (i, l) (j, k) =
+    chained-on (m ∷ ms) i x p y (linked-kept m ms i x p l) (suc j, (q, s, linked-kept m ms j q y k))
 
 same-chained : (ms : List Merge) (x y : ℕ) → Same ms x y → Chained ms x y
 same-chained [] x y e = (0, same-alone x y e)
-same-chained (m ∷ ms) x y e = chained-more m ms x y (same-chained ms) (same-split m ms x y e)
+same-chained (m ∷ ms) x y e = go (same-split m ms x y e) (same-chained ms)
+  where
+    go : Same ms x y ⊎ Across m ms x y → ((z w : ℕ) → Same ms z w → Chained ms z w) → Chained (m ∷ ms) x y
+    go (inl s) old = let (n, l) = old x y s in (n, linked-kept m ms n x y l)
+    go (inr (inl (p, q))) old =
+        chained-over m ms x (m .a) (m .b) y (inl (m, inl refl, refl, refl)) (old x (m .a) p) (old (m .b) y q)
+    go (inr (inr (p, q))) old =
+        chained-over m ms x (m .b) (m .a) y (inr (m, inl refl, refl, refl)) (old x (m .b) p) (old (m .a) y q)
 
 pub equal-linked : (ms : List Merge) (x y : ℕ) → T (are-equal ms x y) → (n : ℕ) × Linked ms n x y
 equal-linked ms x y t = same-chained ms x y (equal-same ms x y t)

@@ -1,10 +1,10 @@
 -- The proof forest: ways up to a root, the nearest common node of two terms, the path between them, and its age.
 use Prim.Native.Nat.{ℕ, suc, _≤_, _<_}
 use mathlib.Core.Path.{_≡_, refl, sym, subst, ap, _∙_}
-use mathlib.Core.Logic.{_⊎_, inl, inr}
+use mathlib.Core.Logic.{_⊎_, inl, inr, ⊎-elim, ⊎-map}
 use mathlib.Core.Bool.{Bool, true, false, cond}
-use mathlib.Core.List.{List, [], _∷_, _++_, map, append-assoc, append-cancel-right, append-nil, nil≢cons, tail-eq-of-cons-eq, head-eq-of-cons-eq}
-use mathlib.Core.Option.{none, some, Option·getD}
+use mathlib.Core.List.{List, [], _∷_, _++_, append-assoc, append-cancel-right, append-nil, nil≢cons, tail-eq-of-cons-eq, head-eq-of-cons-eq}
+use mathlib.Core.Option.{Option, none, some, Option·getD}
 use native.Mathlib.Nat.{le-antisymm}
 use native.Mathlib.Decide.{ℕ-discrete}
 use native.Mathlib.Omega.{arith}
@@ -13,8 +13,8 @@ use lib.ListN.{length}
 use borrow.Author.Tests.{eq-eqb, ne-eqb}
 use Rattle.core.specs.Lists.{first, mem}
 use Rattle.core.proofs.Lists.{In, any-in}
-pub use Rattle.theory.specs.Memory.Replay.{end}
-pub use Rattle.theory.specs.Memory.Replay.{On}
+pub use Rattle.theory.specs.Memory.Replay.{end, On}
+use Rattle.theory.specs.Memory.Replay.{ups}
 use Rattle.theory.specs.EqEngine.{Merge, Step, classes, find, are-equal, before, turned, nodes, common, rehung, way, path}
 use Rattle.theory.proofs.Members.{in-left, in-right, in-either, in-any, Apart}
 use Rattle.theory.proofs.Classes.{Same, same-alone, same?, BothSides, turned-sides, unequal, Across, same-split, same-kept, same-sides, Suffix, same-suffix}
@@ -47,18 +47,12 @@ Over ms w = (s : Step) → In s w → Edge ms s
 abbrev pub back : Step → Step
 back s = record { node = s .up; up = s .node; just = s .just }
 
-edge-kept : (m : Merge) (ms : List Merge) (s : Step) → Edge ms s → Edge (m ∷ ms) s
-edge-kept m ms s (n, i, a) = (n, inr i, a)
-
-along-back : (m : Merge) (s : Step) → Along m s → Along m (back s)
-along-back m s (j, h) = (j, turned-sides m (s .node) (s .up) h)
+-- the edge of a merge
+abbrev pub new-step : Merge → Step
+new-step m = record { node = m .a; up = m .b; just = m .just }
 
 over-append : (ms : List Merge) (u w : List Step) → Over ms u → Over ms w → Over ms (u ++ w)
-over-append ms u w f g s i = go (in-either s u w i)
-  where
-    go : In s u ⊎ In s w → Edge ms s
-    go (inl j) = f s j
-    go (inr j) = g s j
+over-append ms u w f g s i = ⊎-elim (f s) (g s) (in-either s u w i)
 
 -- the sides of an edge are in one class
 pub edge-same : (ms : List Merge) (s : Step) → Edge ms s → Same ms (s .node) (s .up)
@@ -82,12 +76,14 @@ before-stop n s w e = rw (eq-eqb (s .node) n e)
 before-in : (n : ℕ) (w : List Step) (s : Step) → In s (before n w) → In s w
 unfolding before
 before-in n [] s i = absurd i
-before-in n (t ∷ w) s i = go (eqb (t .node) n) (before-in n w s) i
-  where
-    go : (b : Bool) → (In s (before n w) → In s w) → In s (cond b [] (t ∷ before n w)) → In s (t ∷ w)
-    go true f j = absurd j
-    go false f (inl e) = inl e
-    go false f (inr j) = inr (f j)
+before-in n (t ∷ w) s i =
+    elim (eqb (t .node) n) as (λ b. In s (cond b [] (t ∷ before n w)) → In s (t ∷ w)) [
+      | true ↦ λ j. absurd j
+      | false ↦ ⊎-map (λ e. e) (before-in n w s)
+    ] i
+
+before-over : (ms : List Merge) (n : ℕ) (w : List Step) → Over ms w → Over ms (before n w)
+before-over ms n w f s i = f s (before-in n w s i)
 
 turned-last : (u : List Step) (s : Step) → turned (u ++ (s ∷ [])) ≡ back s ∷ turned u
 unfolding turned
@@ -98,12 +94,11 @@ turned-last (t ∷ u) s = ap (λ (w : List Step). w ++ (back t ∷ [])) (turned-
 pub turned-in : (w : List Step) (q : Step) → In q (turned w) → (s : Step) × In s w × (q ≡ back s)
 unfolding turned
 turned-in [] q i = absurd i
-turned-in (t ∷ w) q i = go (in-either q (turned w) (back t ∷ []) i) (turned-in w q)
-  where
-    go : In q (turned w) ⊎ In q (back t ∷ []) → (In q (turned w) → (s : Step) × In s w × (q ≡ back s)) → (s : Step) × In s (t ∷ w) × (q ≡ back s)
-    go (inl j) f = let (s, k, e) = f j in (s, inr k, e)
-    go (inr (inl e)) f = (t, inl refl, e)
-    go (inr (inr j)) f = absurd j
+turned-in (t ∷ w) q i = elim (in-either q (turned w) (back t ∷ []) i) [
+  | inl j ↦ let (s, k, e) = turned-in w q j in (s, inr k, e)
+  | inr (inl e) ↦ (t, inl refl, e)
+  | inr (inr j) ↦ absurd j
+]
 
 pub in-turned : (w : List Step) (s : Step) → In s w → In (back s) (turned w)
 unfolding turned
@@ -112,39 +107,36 @@ in-turned (t ∷ w) s (inl e) = in-right (back s) (turned w) (back t ∷ []) (in
 in-turned (t ∷ w) s (inr i) = in-left (back s) (turned w) (back t ∷ []) (in-turned w s i)
 
 turned-over : (ms : List Merge) (w : List Step) → Over ms w → Over ms (turned w)
-unfolding turned
-turned-over ms [] f s i = absurd i
-turned-over ms (t ∷ w) f s i =
-    over-append ms (turned w) (back t ∷ []) (turned-over ms w (λ u j. f u (inr j))) (λ u j. last u j (f t (inl refl))) s i
-  where
-    last : (u : Step) → In u (back t ∷ []) → Edge ms t → Edge ms u
-    last u (inl e) (m, j, a) = subst (Edge ms) (sym e) (m, j, along-back m t a)
-    last u (inr j) g = absurd j
+turned-over ms w f s i =
+    let (t, j, e) = turned-in w s i in
+    let (m, k, a) = f t j in
+    subst (Edge ms) (sym e) (m, k, (a .0, turned-sides m (t .node) (t .up) (a .1)))
 
 -- ---- every step of a way is an edge
 
 way-over-more : (m : Merge) (ms : List Merge) (x : ℕ) → ((y : ℕ) → Over ms (way ms y)) → Over (m ∷ ms) (way (m ∷ ms) x)
 unfolding way rehung
-way-over-more m ms x f = go (eqb (classes ms .find x) (classes ms .find (m .a)))
+way-over-more m ms x f =
+    let n = common x (way ms x) (m .a) (way ms (m .a)) in
+    let u = before n (way ms x) in
+    let v = before n (way ms (m .a)) in
+    elim (eqb (classes ms .find x) (classes ms .find (m .a))) as
+    (λ b. Over (m ∷ ms) (cond b (rehung x (way ms x) m (way ms (m .a)) (way ms (m .b))) (way ms x))) [
+      | true ↦
+          over-append (m ∷ ms) (u ++ turned v) (new-step m ∷ way ms (m .b))
+          (old (u ++ turned v)
+          (over-append ms u (turned v) (before-over ms n (way ms x) (f x))
+          (turned-over ms v (before-over ms n (way ms (m .a)) (f (m .a))))))
+          new
+      | false ↦ old (way ms x) (f x)
+    ]
   where
-    n : ℕ
-    n = common x (way ms x) (m .a) (way ms (m .a))
-
     old : (w : List Step) → Over ms w → Over (m ∷ ms) w
-    old w g s i = edge-kept m ms s (g s i)
+    old w g s i = let (n, j, a) = g s i in (n, inr j, a)
 
-    new : Over (m ∷ ms) (record { node = m .a; up = m .b; just = m .just } ∷ way ms (m .b))
+    new : Over (m ∷ ms) (new-step m ∷ way ms (m .b))
     new s (inl e) = (m, inl refl, (ap (λ (t : Step). t .just) e, inl (ap (λ (t : Step). t .node) e, ap (λ (t : Step). t .up) e)))
-    new s (inr i) = edge-kept m ms s (f (m .b) s i)
-
-    go : (b : Bool) → Over (m ∷ ms) (cond b (rehung x (way ms x) m (way ms (m .a)) (way ms (m .b))) (way ms x))
-    go true =
-        over-append (m ∷ ms) (before n (way ms x) ++ turned (before n (way ms (m .a)))) (record { node = m .a; up = m .b; just = m .just } ∷ way ms (m .b))
-        (over-append (m ∷ ms) (before n (way ms x)) (turned (before n (way ms (m .a))))
-        (old (before n (way ms x)) (λ s i. f x s (before-in n (way ms x) s i)))
-        (old (turned (before n (way ms (m .a)))) (turned-over ms (before n (way ms (m .a))) (λ s i. f (m .a) s (before-in n (way ms (m .a)) s i)))))
-        new
-    go false = old (way ms x) (f x)
+    new s (inr i) = old (way ms (m .b)) (f (m .b)) s i
 
 pub way-over : (ms : List Merge) (x : ℕ) → Over ms (way ms x)
 unfolding way
@@ -155,12 +147,10 @@ way-over (m ∷ ms) x s i = way-over-more m ms x (way-over ms) s i
 pub path-over : (ms : List Merge) (x y : ℕ) → Over ms (path ms x y)
 unfolding path
 path-over ms x y =
+    let n = common x (way ms x) y (way ms y) in
     over-append ms (before n (way ms x)) (before n (way ms y))
-    (λ s i. way-over ms x s (before-in n (way ms x) s i))
-    (λ s i. way-over ms y s (before-in n (way ms y) s i))
-  where
-    n : ℕ
-    n = common x (way ms x) y (way ms y)
+    (before-over ms n (way ms x) (way-over ms x))
+    (before-over ms n (way ms y) (way-over ms y))
 
 -- ---- a forest, given by each term's way up
 
@@ -178,20 +168,22 @@ pub record Meet (W : ℕ → List Step) (x y n : ℕ) : Type 0 where
   pub on-y : Above W n y
   pub lowest : (v : ℕ) → Above W v x → Above W v y → length (W v) ≤ length (W n)
 
+pub end-on : (w : List Step) (x : ℕ) → On (end x w) x w
+end-on [] x = inl refl
+end-on (s ∷ w) x = inr (end-on w (s .up))
+
 module _ (W : ℕ → List Step) (F : Forest W) where
   -- above x is x alone, or x and what is above the next
   pub at-root : (n x : ℕ) → W x ≡ [] → Above W n x → n ≡ x
   at-root n x p (inl e) = e
-  at-root n x p (inr i) = absurd (subst (λ (w : List Step). In n (map (λ (s : Step). s .up) w)) p i)
+  at-root n x p (inr i) = absurd (subst (λ (w : List Step). In n (ups w)) p i)
 
   pub at-step : (n x : ℕ) (s : Step) (w : List Step) → W x ≡ s ∷ w → Above W n x → (n ≡ x) ⊎ Above W n (s .up)
   at-step n x s w p (inl e) = inl e
-  at-step n x s w p (inr i) =
-      inr (subst (λ (u : List Step). On n (s .up) u) (sym (F x s w p .1)) (subst (λ (u : List Step). In n (map (λ (t : Step). t .up) u)) p i))
+  at-step n x s w p (inr i) = inr (rw (F x s w p .1) (subst (λ (u : List Step). In n (ups u)) p i))
 
   pub from-step : (n x : ℕ) (s : Step) (w : List Step) → W x ≡ s ∷ w → Above W n (s .up) → Above W n x
-  from-step n x s w p i =
-      inr (subst (λ (u : List Step). In n (map (λ (t : Step). t .up) u)) (sym p) (subst (λ (u : List Step). On n (s .up) u) (F x s w p .1) i))
+  from-step n x s w p i = inr (rw p (subst (λ (u : List Step). On n (s .up) u) (F x s w p .1) i))
 
   pub longer : (x : ℕ) (s : Step) (w : List Step) → W x ≡ s ∷ w → length (W x) ≡ suc (length (W (s .up)))
   longer x s w p = ap length p ∙ ap (λ (u : List Step). suc (length u)) (sym (F x s w p .1))
@@ -199,91 +191,79 @@ module _ (W : ℕ → List Step) (F : Forest W) where
   -- what stands above has a shorter way
   pub lower : (w : List Step) (n x : ℕ) → W x ≡ w → Above W n x → (n ≡ x) ⊎ (length (W n) < length (W x))
   lower [] n x p i = inl (at-root n x p i)
-  lower (s ∷ w) n x p i = go (at-step n x s w p i) (lower w n (s .up) (F x s w p .1))
-    where
-      le : (n ≡ s .up) ⊎ (length (W n) < length (W (s .up))) → length (W n) < length (W x)
-      le (inl e) = let h = ap (λ (v : ℕ). length (W v)) e in omega (arith, longer x s w p)
-      le (inr l) = omega (arith, longer x s w p)
-
-      go : (n ≡ x) ⊎ Above W n (s .up) → (Above W n (s .up) → (n ≡ s .up) ⊎ (length (W n) < length (W (s .up)))) → (n ≡ x) ⊎ (length (W n) < length (W x))
-      go (inl e) f = inl e
-      go (inr j) f = inr (le (f j))
+  lower (s ∷ w) n x p i = elim (at-step n x s w p i) [
+    | inl e ↦ inl e
+    | inr j ↦ inr (elim (lower w n (s .up) (F x s w p .1) j) [
+      | inl e ↦ let h = ap (λ (v : ℕ). length (W v)) e in omega (arith, longer x s w p)
+      | inr l ↦ omega (arith, longer x s w p)
+    ])
+  ]
 
   pub shorter : (n x : ℕ) → Above W n x → length (W n) ≤ length (W x)
-  shorter n x i = go (lower (W x) n x refl i)
-    where
-      go : (n ≡ x) ⊎ (length (W n) < length (W x)) → length (W n) ≤ length (W x)
-      go (inl e) = let h = ap (λ (v : ℕ). length (W v)) e in omega arith
-      go (inr l) = omega arith
+  shorter n x i = elim (lower (W x) n x refl i) [ inl e ↦ let h = ap (λ (v : ℕ). length (W v)) e in omega arith | inr l ↦ omega arith ]
 
   pub above-trans : (w : List Step) (n v x : ℕ) → W x ≡ w → Above W v x → Above W n v → Above W n x
   above-trans [] n v x p i j = subst (λ (u : ℕ). Above W n u) (at-root v x p i) j
-  above-trans (s ∷ w) n v x p i j = go (at-step v x s w p i) (λ k. above-trans w n v (s .up) (F x s w p .1) k j)
-    where
-      go : (v ≡ x) ⊎ Above W v (s .up) → (Above W v (s .up) → Above W n (s .up)) → Above W n x
-      go (inl e) f = subst (λ (u : ℕ). Above W n u) e j
-      go (inr k) f = from-step n x s w p (f k)
+  above-trans (s ∷ w) n v x p i j = elim (at-step v x s w p i) [
+    | inl e ↦ subst (λ (u : ℕ). Above W n u) e j
+    | inr k ↦ from-step n x s w p (above-trans w n v (s .up) (F x s w p .1) k j)
+  ]
 
   -- on one way, a node is known by the length of its own
   pub same-height : (w : List Step) (n v x : ℕ) → W x ≡ w → Above W n x → Above W v x → length (W n) ≡ length (W v) → n ≡ v
   same-height [] n v x p i j e = at-root n x p i ∙ sym (at-root v x p j)
-  same-height (s ∷ w) n v x p i j e = go (at-step n x s w p i) (at-step v x s w p j) (λ k l. same-height w n v (s .up) (F x s w p .1) k l e)
+  same-height (s ∷ w) n v x p i j e = elim (at-step n x s w p i) [
+    | inl q ↦ elim (at-step v x s w p j) [ inl r ↦ q ∙ sym r | inr l ↦ absurd (below n v q l e) ]
+    | inr k ↦ elim (at-step v x s w p j) [
+      | inl r ↦ absurd (below v n r k (sym e))
+      | inr l ↦ same-height w n v (s .up) (F x s w p .1) k l e
+    ]
+  ]
     where
       below : (a b : ℕ) → a ≡ x → Above W b (s .up) → length (W a) ≡ length (W b) → ⊥
       below a b q k h = let g = ap (λ (u : ℕ). length (W u)) q in omega (arith, longer x s w p, shorter b (s .up) k)
 
-      go : (n ≡ x) ⊎ Above W n (s .up) → (v ≡ x) ⊎ Above W v (s .up) → (Above W n (s .up) → Above W v (s .up) → n ≡ v) → n ≡ v
-      go (inl q) (inl r) f = q ∙ sym r
-      go (inl q) (inr l) f = absurd (below n v q l e)
-      go (inr k) (inl r) f = absurd (below v n r k (sym e))
-      go (inr k) (inr l) f = f k l
-
   -- a way's nodes are different
-  pub apart : (w : List Step) (x : ℕ) → W x ≡ w → Apart (x ∷ map (λ (s : Step). s .up) w)
+  pub apart : (w : List Step) (x : ℕ) → W x ≡ w → Apart (x ∷ ups w)
   apart [] x p = (λ i. i, tt)
-  apart (s ∷ w) x p = (λ i. go (subst (λ (u : List Step). On x (s .up) u) (sym (F x s w p .1)) i), apart w (s .up) (F x s w p .1))
-    where
-      go : Above W x (s .up) → ⊥
-      go i = omega (arith, longer x s w p, shorter x (s .up) i)
+  apart (s ∷ w) x p =
+      let above : On x (s .up) w → Above W x (s .up) = λ i. rw (F x s w p .1) i in
+      (λ i. omega (arith, longer x s w p, shorter x (s .up) (above i)), apart w (s .up) (F x s w p .1))
 
   -- ---- the way up to a node above
 
   pub before-self : (x : ℕ) → before x (W x) ≡ []
   unfolding before
-  before-self x = go (W x) refl
-    where
-      go : (w : List Step) → W x ≡ w → before x w ≡ []
-      go [] p = refl
-      go (s ∷ w) p = before-stop x s w (F x s w p .0)
+  before-self x =
+      elim (W x) as (λ w. W x ≡ w → before x w ≡ []) [ [] ↦ λ p. refl | s ∷ w ↦ λ p. before-stop x s w (F x s w p .0) ] refl
 
   pub before-step : (n x : ℕ) (s : Step) (w : List Step) → W x ≡ s ∷ w → (x ≡ n → ⊥) → before n (W x) ≡ s ∷ before n (W (s .up))
-  before-step n x s w p h =
-      ap (before n) p ∙ before-skip n s w (λ e. h (sym (F x s w p .0) ∙ e)) ∙ ap (λ (u : List Step). s ∷ before n u) (sym (F x s w p .1))
+  before-step n x s w p h = rw (p, before-skip n s w (λ e. h (sym (F x s w p .0) ∙ e)), F x s w p .1)
 
   -- climbing from x to n above it
-  pub climb : (P : ℕ → Type 0) (n : ℕ) → P n → ((x : ℕ) (s : Step) (w : List Step) → W x ≡ s ∷ w → (x ≡ n → ⊥) → Above W n (s .up) → P (s .up) → P x) → (w : List Step) (x : ℕ) → W x ≡ w → Above W n x → P x
-  climb P n base more [] x p i = subst P (at-root n x p i) base
-  climb P n base more (s ∷ w) x p i = go (at-step n x s w p i) (ℕ-discrete x n) (climb P n base more w (s .up) (F x s w p .1))
+  pub climb : (P : ℕ → Type 0) (n : ℕ) → P n →
+      ((x : ℕ) (s : Step) (w : List Step) → W x ≡ s ∷ w → (x ≡ n → ⊥) → Above W n (s .up) → P (s .up) → P x) →
+      (x : ℕ) → Above W n x → P x
+  climb P n base more x = go (W x) x refl
     where
-      go : (n ≡ x) ⊎ Above W n (s .up) → Dec (x ≡ n) → (Above W n (s .up) → P (s .up)) → P x
-      go (inl e) d f = subst P e base
-      go (inr j) (yes e) f = subst P (sym e) base
-      go (inr j) (no h) f = more x s w p h j (f j)
+      go : (w : List Step) (x : ℕ) → W x ≡ w → Above W n x → P x
+      go [] x p i = subst P (at-root n x p i) base
+      go (s ∷ w) x p i = elim (ℕ-discrete x n) [
+        | yes e ↦ subst P (sym e) base
+        | no h ↦ elim (at-step n x s w p i) [ inl e ↦ absurd (h (sym e)) | inr j ↦ more x s w p h j (go w (s .up) (F x s w p .1) j) ]
+      ]
 
   -- the steps before n, then the way of n
   pub split : (n x : ℕ) → Above W n x → W x ≡ before n (W x) ++ W n
   split n x i =
-      climb (λ x. W x ≡ before n (W x) ++ W n) n (ap (λ (u : List Step). u ++ W n) (sym (before-self n)))
-      (λ x s w p h j e.
-      p ∙ ap (λ (u : List Step). s ∷ u) (sym (F x s w p .1) ∙ e) ∙ ap (λ (u : List Step). u ++ W n) (sym (before-step n x s w p h)))
-      (W x) x refl i
+      climb (λ x. W x ≡ before n (W x) ++ W n) n (rw (before-self n))
+      (λ x s w p h j e. rw (before-step n x s w p h) (p ∙ ap (λ (u : List Step). s ∷ u) (sym (F x s w p .1) ∙ e))) x i
 
   -- they lead there
   pub leads-before : (n x : ℕ) → Above W n x → Leads x (before n (W x)) n
   leads-before n x i =
-      climb (λ x. Leads x (before n (W x)) n) n (subst (λ (u : List Step). Leads n u n) (sym (before-self n)) refl)
-      (λ x s w p h j l. subst (λ (u : List Step). Leads x u n) (sym (before-step n x s w p h)) (F x s w p .0, l))
-      (W x) x refl i
+      climb (λ x. Leads x (before n (W x)) n) n (rw (before-self n) refl)
+      (λ x s w p h j l. rw (before-step n x s w p h) (F x s w p .0, l)) x i
 
   -- one step more
   pub before-next : (v a : ℕ) (s : Step) (w : List Step) → Above W v a → W v ≡ s ∷ w → before (s .up) (W a) ≡ before v (W a) ++ (s ∷ [])
@@ -301,52 +281,63 @@ module _ (W : ℕ → List Step) (F : Forest W) where
   pub below : (x a : ℕ) → Above W x a → (a ≡ x → ⊥) → Below x a
   below x a i h =
       climb (λ a. (a ≡ x → ⊥) → Below x a) x (λ k. absurd (k refl))
-      (λ a s w p k j f g. next a s w p f (ℕ-discrete (s .up) x))
-      (W a) a refl i h
-    where
-      next : (a : ℕ) (s : Step) (w : List Step) → W a ≡ s ∷ w → ((s .up ≡ x → ⊥) → Below x (s .up)) → Dec (s .up ≡ x) → Below x a
-      next a s w p f (yes e) = (a, s, w, inl refl, p, e)
-      next a s w p f (no k) = let (v, t, u, j, q, e) = f k in (v, t, u, from-step v a s w p j, q, e)
+      (λ a s w p k j f g. elim (ℕ-discrete (s .up) x) [
+        | yes e ↦ (a, s, w, inl refl, p, e)
+        | no h ↦ let (v, t, u, l, q, e) = f h in (v, t, u, from-step v a s w p l, q, e)
+      ]) a i h
 
   -- ---- the nearest common node
 
-  on-mem : (v x : ℕ) → Above W v x → T (mem v (nodes x (W x)))
+  mem-on : (v x : ℕ) → mem v (nodes x (W x)) ≡ true → Above W v x
   unfolding mem nodes
-  on-mem v x i = in-any (eqb v) (x ∷ map (λ (s : Step). s .up) (W x)) v i (eqb-refl v)
+  mem-on v x e =
+      let (u, i, q) = any-in (eqb v) (x ∷ ups (W x)) (subst T (sym e) tt) in
+      subst (λ (z : ℕ). Above W z x) (sym (eqb→eq v u q)) i
 
-  mem-on : (v x : ℕ) → T (mem v (nodes x (W x))) → Above W v x
+  not-on : (v x : ℕ) → mem v (nodes x (W x)) ≡ false → Above W v x → ⊥
   unfolding mem nodes
-  mem-on v x t =
-      let (u, i, e) = any-in (eqb v) (x ∷ map (λ (s : Step). s .up) (W x)) t in
-      subst (λ (z : ℕ). Above W z x) (sym (eqb→eq v u e)) i
+  not-on v x e i = subst T e (in-any (eqb v) (x ∷ ups (W x)) v i (eqb-refl v))
 
   pub above? : (v x : ℕ) → Dec (Above W v x)
-  above? v x = go (mem v (nodes x (W x))) refl
-    where
-      go : (b : Bool) → mem v (nodes x (W x)) ≡ b → Dec (Above W v x)
-      go true e = yes (mem-on v x (subst T (sym e) tt))
-      go false e = no (λ i. subst T e (on-mem v x i))
+  above? v x =
+      elim (mem v (nodes x (W x))) as (λ b. mem v (nodes x (W x)) ≡ b → Dec (Above W v x)) [
+        | true ↦ λ e. yes (mem-on v x e)
+        | false ↦ λ e. no (not-on v x e)
+      ] refl
 
-  meets : (x : ℕ) (w : List Step) (y : ℕ) → W y ≡ w → (d v : ℕ) → Above W v x → Above W v y → Meet W x y (Option·getD (first (λ n. mem n (nodes x (W x))) (y ∷ map (λ (s : Step). s .up) w)) d)
+  -- what stands above the other is itself the common node
+  pub meet-above : (v a : ℕ) → Above W v a → Meet W v a v
+  meet-above v a i = record { on-x = inl refl; on-y = i; lowest = λ u k l. shorter u v k }
+
+  meet-below : (x y : ℕ) → Above W y x → Meet W x y y
+  meet-below x y i = record { on-x = i; on-y = inl refl; lowest = λ u k l. shorter u y l }
+
+  -- the first node of y's way that x's way has, where some node is on both
+  meets : (x : ℕ) (w : List Step) (y : ℕ) → W y ≡ w → (d v : ℕ) → Above W v x → Above W v y →
+      Meet W x y (Option·getD (first (λ n. mem n (nodes x (W x))) (y ∷ ups w)) d)
   unfolding first
-  meets x [] y p d v i j = go (mem y (nodes x (W x))) refl
-    where
-      go : (b : Bool) → mem y (nodes x (W x)) ≡ b → Meet W x y (Option·getD (cond b (some y) none) d)
-      go true e = record { on-x = mem-on y x (subst T (sym e) tt); on-y = inl refl; lowest = λ u k l. shorter u y l }
-      go false e = absurd (subst T e (on-mem y x (subst (λ (u : ℕ). Above W u x) (at-root v y p j) i)))
+  meets x [] y p d v i j =
+      elim (mem y (nodes x (W x))) as (λ b. mem y (nodes x (W x)) ≡ b → Meet W x y (Option·getD (cond b (some y) none) d)) [
+        | true ↦ λ e. meet-below x y (mem-on y x e)
+        | false ↦ λ e. absurd (not-on y x e (subst (λ (u : ℕ). Above W u x) (at-root v y p j) i))
+      ] refl
   meets x (s ∷ w) y p d v i j = go (mem y (nodes x (W x))) refl (at-step v y s w p j) (meets x w (s .up) (F y s w p .1) d v i)
     where
-      rest : ℕ
-      rest = Option·getD (first (λ n. mem n (nodes x (W x))) (s .up ∷ map (λ (t : Step). t .up) w)) d
+      later : Option ℕ
+      later = first (λ n. mem n (nodes x (W x))) (s .up ∷ ups w)
 
-      go : (b : Bool) → mem y (nodes x (W x)) ≡ b → (v ≡ y) ⊎ Above W v (s .up) → (Above W v (s .up) → Meet W x (s .up) rest) → Meet W x y (Option·getD (cond b (some y) (first (λ n. mem n (nodes x (W x))) (s .up ∷ map (λ (t : Step). t .up) w))) d)
-      go true e k f = record { on-x = mem-on y x (subst T (sym e) tt); on-y = inl refl; lowest = λ u k l. shorter u y l }
-      go false e (inl k) f = absurd (subst T e (on-mem y x (subst (λ (u : ℕ). Above W u x) k i)))
-      go false e (inr k) f = record { on-x = f k .on-x; on-y = from-step rest y s w p (f k .on-y); lowest = λ u l o. child u l (at-step u y s w p o) }
-        where
-          child : (u : ℕ) → Above W u x → (u ≡ y) ⊎ Above W u (s .up) → length (W u) ≤ length (W rest)
-          child u l (inl q) = absurd (subst T e (on-mem y x (subst (λ (z : ℕ). Above W z x) q l)))
-          child u l (inr o) = f k .lowest u l o
+      not-y : (u : ℕ) → mem y (nodes x (W x)) ≡ false → u ≡ y → Above W u x → ⊥
+      not-y u e q k = not-on y x e (subst (λ (z : ℕ). Above W z x) q k)
+
+      go : (b : Bool) → mem y (nodes x (W x)) ≡ b → (v ≡ y) ⊎ Above W v (s .up) →
+          (Above W v (s .up) → Meet W x (s .up) (Option·getD later d)) → Meet W x y (Option·getD (cond b (some y) later) d)
+      go true e k f = meet-below x y (mem-on y x e)
+      go false e (inl q) f = absurd (not-y v e q i)
+      go false e (inr k) f = record {
+        on-x = f k .on-x;
+        on-y = from-step (Option·getD later d) y s w p (f k .on-y);
+        lowest = λ u l o. elim (at-step u y s w p o) [ inl q ↦ absurd (not-y u e q l) | inr o ↦ f k .lowest u l o ];
+      }
 
   pub common-meets : (x y v : ℕ) → Above W v x → Above W v y → Meet W x y (common x (W x) y (W y))
   unfolding common nodes
@@ -358,64 +349,47 @@ module _ (W : ℕ → List Step) (F : Forest W) where
       same-height (W y) (common x (W x) y (W y)) n y refl (c .on-y) (m .on-y)
       (le-antisymm (m .lowest (common x (W x) y (W y)) (c .on-x) (c .on-y)) (c .lowest n (m .on-x) (m .on-y)))
 
-  -- what stands above the other is itself the common node
-  pub meet-above : (v a : ℕ) → Above W v a → Meet W v a v
-  meet-above v a i = record { on-x = inl refl; on-y = i; lowest = λ u k l. shorter u v k }
-
   -- one step up keeps the common node, if it is not the term itself
   pub meet-up : (x a n : ℕ) (s : Step) (w : List Step) → W x ≡ s ∷ w → (x ≡ n → ⊥) → Meet W x a n → Meet W (s .up) a n
-  meet-up x a n s w p h m = record { on-x = go (at-step n x s w p (m .on-x)); on-y = m .on-y; lowest = λ u k l. m .lowest u (from-step u x s w p k) l }
-    where
-      go : (n ≡ x) ⊎ Above W n (s .up) → Above W n (s .up)
-      go (inl e) = absurd (h (sym e))
-      go (inr i) = i
+  meet-up x a n s w p h m = record {
+    on-x = elim (at-step n x s w p (m .on-x)) [ inl e ↦ absurd (h (sym e)) | inr i ↦ i ];
+    on-y = m .on-y;
+    lowest = λ u k. m .lowest u (from-step u x s w p k);
+  }
 
--- ---- the end of a way
+  -- ---- the end of a way
 
-pub end-on : (w : List Step) (x : ℕ) → On (end x w) x w
-end-on [] x = inl refl
-end-on (s ∷ w) x = inr (end-on w (s .up))
+  -- a way ends where no way goes on
+  end-root : (w : List Step) (x : ℕ) → W x ≡ w → W (end x w) ≡ []
+  end-root [] x p = p
+  end-root (s ∷ w) x p = end-root w (s .up) (F x s w p .1)
 
--- a way ends where no way goes on
-end-root : (W : ℕ → List Step) → Forest W → (w : List Step) (x : ℕ) → W x ≡ w → W (end x w) ≡ []
-end-root W F [] x p = p
-end-root W F (s ∷ w) x p = end-root W F w (s .up) (F x s w p .1)
+  -- the way up to its end is the whole way
+  pub before-end : (x : ℕ) → before (end x (W x)) (W x) ≡ W x
+  before-end x = sym (split (end x (W x)) x (end-on (W x) x) ∙ rw (end-root (W x) x refl, append-nil))
 
--- the way up to its end is the whole way
-pub before-end : (W : ℕ → List Step) → Forest W → (x : ℕ) → before (end x (W x)) (W x) ≡ W x
-before-end W F x =
-    sym (append-nil (before (end x (W x)) (W x)))
-    ∙ ap (λ (w : List Step). before (end x (W x)) (W x) ++ w) (sym (end-root W F (W x) x refl))
-    ∙ sym (split W F (end x (W x)) x (end-on (W x) x))
+  -- what stands above has the same end
+  pub end-above : (n x : ℕ) → Above W n x → end x (W x) ≡ end n (W n)
+  end-above n x i =
+      climb (λ x. end x (W x) ≡ end n (W n)) n refl
+      (λ x s w p h j e. ap (end x) p ∙ ap (end (s .up)) (sym (F x s w p .1)) ∙ e) x i
 
--- what stands above has the same end
-pub end-above : (W : ℕ → List Step) → Forest W → (n x : ℕ) → Above W n x → end x (W x) ≡ end n (W n)
-end-above W F n x i =
-    climb W F (λ x. end x (W x) ≡ end n (W n)) n refl
-    (λ x s w p h j e. ap (end x) p ∙ ap (end (s .up)) (sym (F x s w p .1)) ∙ e) (W x) x refl i
-
--- the steps of a way begin at nodes above its term
-pub step-above : (W : ℕ → List Step) → Forest W → (w : List Step) (x : ℕ) → W x ≡ w → (s : Step) → In s w → Above W (s .node) x
-step-above W F [] x p s i = absurd i
-step-above W F (r ∷ w) x p s (inl e) = inl (ap (λ (q : Step). q .node) e ∙ F x r w p .0)
-step-above W F (r ∷ w) x p s (inr i) = from-step W F (s .node) x r w p (step-above W F w (r .up) (F x r w p .1) s i)
+  -- the steps of a way begin at nodes above its term
+  pub step-above : (w : List Step) (x : ℕ) → W x ≡ w → (s : Step) → In s w → Above W (s .node) x
+  step-above [] x p s i = absurd i
+  step-above (r ∷ w) x p s (inl e) = inl (ap (λ (q : Step). q .node) e ∙ F x r w p .0)
+  step-above (r ∷ w) x p s (inr i) = from-step (s .node) x r w p (step-above w (r .up) (F x r w p .1) s i)
 
 -- ---- the ways of a list of merges
-
--- the new edge
-abbrev pub new-step : Merge → Step
-new-step m = record { node = m .a; up = m .b; just = m .just }
 
 -- who was with the first side is hung under the second, the others stay
 way-in : (m : Merge) (ms : List Merge) (x : ℕ) → Same ms x (m .a) → way (m ∷ ms) x ≡ rehung x (way ms x) m (way ms (m .a)) (way ms (m .b))
 unfolding way find
-way-in m ms x e =
-    ap (λ (b : Bool). cond b (rehung x (way ms x) m (way ms (m .a)) (way ms (m .b))) (way ms x)) (eq-eqb (find ms x) (find ms (m .a)) e)
+way-in m ms x e = rw (eq-eqb (find ms x) (find ms (m .a)) e)
 
 way-out : (m : Merge) (ms : List Merge) (x : ℕ) → (Same ms x (m .a) → ⊥) → way (m ∷ ms) x ≡ way ms x
 unfolding way find
-way-out m ms x h =
-    ap (λ (b : Bool). cond b (rehung x (way ms x) m (way ms (m .a)) (way ms (m .b))) (way ms x)) (ne-eqb (find ms x) (find ms (m .a)) h)
+way-out m ms x h = rw (ne-eqb (find ms x) (find ms (m .a)) h)
 
 end-over : (u : List Step) (x : ℕ) (s : Step) (w : List Step) → end x (u ++ (s ∷ w)) ≡ end (s .up) w
 end-over [] x s w = refl
@@ -423,15 +397,16 @@ end-over (t ∷ u) x s w = end-over u (t .up) s w
 
 end-in : (m : Merge) (ms : List Merge) (x : ℕ) → Same ms x (m .a) → end x (way (m ∷ ms) x) ≡ end (m .b) (way ms (m .b))
 unfolding rehung
-end-in m ms x e = ap (end x) (way-in m ms x e) ∙ end-over (before n (way ms x) ++ turned (before n (way ms (m .a)))) x (new-step m) (way ms (m .b))
-  where
-    n : ℕ
-    n = common x (way ms x) (m .a) (way ms (m .a))
+end-in m ms x e =
+    let n = common x (way ms x) (m .a) (way ms (m .a)) in
+    ap (end x) (way-in m ms x e) ∙ end-over (before n (way ms x) ++ turned (before n (way ms (m .a)))) x (new-step m) (way ms (m .b))
 
 end-out : (m : Merge) (ms : List Merge) (x : ℕ) → (Same ms x (m .a) → ⊥) → end x (way (m ∷ ms) x) ≡ end x (way ms x)
 end-out m ms x h = ap (end x) (way-out m ms x h)
 
-way-end-more : (m : Merge) (ms : List Merge) (x y : ℕ) → (Same ms (m .a) (m .b) → ⊥) → ((z w : ℕ) → Same ms z w → end z (way ms z) ≡ end w (way ms w)) → Same ms x y ⊎ Across m ms x y → Dec (Same ms x (m .a)) → end x (way (m ∷ ms) x) ≡ end y (way (m ∷ ms) y)
+way-end-more : (m : Merge) (ms : List Merge) (x y : ℕ) → (Same ms (m .a) (m .b) → ⊥) →
+    ((z w : ℕ) → Same ms z w → end z (way ms z) ≡ end w (way ms w)) → Same ms x y ⊎ Across m ms x y → Dec (Same ms x (m .a)) →
+    end x (way (m ∷ ms) x) ≡ end y (way (m ∷ ms) y)
 way-end-more m ms x y j old (inl s) (yes e) = end-in m ms x e ∙ sym (end-in m ms y (sym s ∙ e))
 way-end-more m ms x y j old (inl s) (no h) = end-out m ms x h ∙ old x y s ∙ sym (end-out m ms y (λ q. h (s ∙ q)))
 way-end-more m ms x y j old (inr (inl (p, q))) d = end-in m ms x p ∙ old (m .b) y q ∙ sym (end-out m ms y (λ r. j (sym (q ∙ r))))
@@ -446,22 +421,22 @@ way-end (m ∷ ms) (j, js) x y e =
 
 -- a step of a way goes on in the class
 pub step-same : (ms : List Merge) → Forest (way ms) → (x : ℕ) (s : Step) (w : List Step) → way ms x ≡ s ∷ w → Same ms x (s .up)
-step-same ms F x s w p =
-    ap (find ms) (sym (F x s w p .0)) ∙ edge-same ms s (way-over ms x s (subst (λ (u : List Step). In s u) (sym p) (inl refl)))
+step-same ms F x s w p = ap (find ms) (sym (F x s w p .0)) ∙ edge-same ms s (way-over ms x s (rw p (inl refl)))
 
 -- a way stays in its class
 pub way-class : (ms : List Merge) → Forest (way ms) → (n x : ℕ) → Above (way ms) n x → Same ms x n
-way-class ms F n x i =
-    climb (way ms) F (λ x. Same ms x n) n refl (λ x s w p h j e. step-same ms F x s w p ∙ e) (way ms x) x refl i
+way-class ms F n x = climb (way ms) F (λ x. Same ms x n) n refl (λ x s w p h j e. step-same ms F x s w p ∙ e) x
 
 -- equal terms have a nearest common node
-pub way-meets : (ms : List Merge) → Joins ms → Forest (way ms) → (x y : ℕ) → Same ms x y → Meet (way ms) x y (common x (way ms x) y (way ms y))
+pub way-meets : (ms : List Merge) → Joins ms → Forest (way ms) → (x y : ℕ) → Same ms x y →
+    Meet (way ms) x y (common x (way ms x) y (way ms y))
 way-meets ms J F x y e =
     common-meets (way ms) F x y (end x (way ms x)) (end-on (way ms x) x)
     (subst (λ (v : ℕ). Above (way ms) v y) (sym (way-end ms J x y e)) (end-on (way ms y) y))
 
 -- a way by its first step
-climbs-by : (W : ℕ → List Step) (x : ℕ) (s : Step) (w : List Step) (t : Step) → W x ≡ t ∷ W (t .up) → t .node ≡ x → W x ≡ s ∷ w → (s .node ≡ x) × (W (s .up) ≡ w)
+climbs-by : (W : ℕ → List Step) (x : ℕ) (s : Step) (w : List Step) (t : Step) → W x ≡ t ∷ W (t .up) → t .node ≡ x → W x ≡ s ∷ w →
+    (s .node ≡ x) × (W (s .up) ≡ w)
 climbs-by W x s w t q a p =
     let h : t ≡ s = head-eq-of-cons-eq (sym q ∙ p) in
     (subst (λ (v : Step). v .node ≡ x) h a, subst (λ (v : Step). W (v .up) ≡ w) h (tail-eq-of-cons-eq (sym q ∙ p)))
@@ -491,7 +466,8 @@ module _ (m : Merge) (ms : List Merge) (J : Joins (m ∷ ms)) (F : Forest (way m
   first-side =
       hung-above (m .a) (inl refl) ∙ ap (hung []) (before-self (way ms) F (m .a)) ∙ ap (λ (w : List Step). new-step m ∷ w) (sym second-side)
 
-  pub turned-above : (v : ℕ) (s : Step) (w : List Step) → Above (way ms) v (m .a) → way ms v ≡ s ∷ w → way (m ∷ ms) (s .up) ≡ back s ∷ way (m ∷ ms) v
+  pub turned-above : (v : ℕ) (s : Step) (w : List Step) → Above (way ms) v (m .a) → way ms v ≡ s ∷ w →
+      way (m ∷ ms) (s .up) ≡ back s ∷ way (m ∷ ms) v
   unfolding hung
   turned-above v s w i p =
       hung-above (s .up) (above-trans (way ms) F (way ms (m .a)) (s .up) v (m .a) refl i (from-step (way ms) F (s .up) v s w p (inl refl)))
@@ -499,26 +475,21 @@ module _ (m : Merge) (ms : List Merge) (J : Joins (m ∷ ms)) (F : Forest (way m
       ∙ ap (λ (u : List Step). u ++ (new-step m ∷ way ms (m .b))) (turned-last (before v (way ms (m .a))) s)
       ∙ ap (λ (u : List Step). back s ∷ u) (sym (hung-above v i))
 
-  pub other-stays : (x : ℕ) (s : Step) (w : List Step) → (Above (way ms) x (m .a) → ⊥) → way ms x ≡ s ∷ w → way (m ∷ ms) x ≡ s ∷ way (m ∷ ms) (s .up)
+  pub other-stays : (x : ℕ) (s : Step) (w : List Step) → (Above (way ms) x (m .a) → ⊥) → way ms x ≡ s ∷ w →
+      way (m ∷ ms) x ≡ s ∷ way (m ∷ ms) (s .up)
   unfolding hung
-  other-stays x s w h p = go (same? ms x (m .a))
-    where
-      n : ℕ
-      n = common x (way ms x) (m .a) (way ms (m .a))
-
-      inside : Meet (way ms) x (m .a) n → (x ≡ n → ⊥) → way (m ∷ ms) x ≡ s ∷ way (m ∷ ms) (s .up)
-      inside k g =
-          hung-at x n k
-          ∙ ap (λ (u : List Step). hung u (before n (way ms (m .a)))) (before-step (way ms) F n x s w p g)
-          ∙ ap (λ (u : List Step). s ∷ u) (sym (hung-at (s .up) n (meet-up (way ms) F x (m .a) n s w p g k)))
-
-      go : Dec (Same ms x (m .a)) → way (m ∷ ms) x ≡ s ∷ way (m ∷ ms) (s .up)
-      go (yes e) =
-          let k = way-meets ms (J .1) F x (m .a) e in
-          inside k (λ q. h (subst (λ (v : ℕ). Above (way ms) v (m .a)) (sym q) (k .on-y)))
-      go (no k) =
-          way-out m ms x k ∙ p
-          ∙ ap (λ (u : List Step). s ∷ u) (sym (way-out m ms (s .up) (λ e. k (step-same ms F x s w p ∙ e)) ∙ F x s w p .1))
+  other-stays x s w h p = elim (same? ms x (m .a)) [
+    | yes e ↦
+        let n = common x (way ms x) (m .a) (way ms (m .a)) in
+        let k = way-meets ms (J .1) F x (m .a) e in
+        let g : x ≡ n → ⊥ = λ q. h (subst (λ (v : ℕ). Above (way ms) v (m .a)) (sym q) (k .on-y)) in
+        hung-at x n k
+        ∙ ap (λ (u : List Step). hung u (before n (way ms (m .a)))) (before-step (way ms) F n x s w p g)
+        ∙ ap (λ (u : List Step). s ∷ u) (sym (hung-at (s .up) n (meet-up (way ms) F x (m .a) n s w p g k)))
+    | no k ↦
+        let o = way-out m ms (s .up) (λ e. k (step-same ms F x s w p ∙ e)) ∙ F x s w p .1 in
+        way-out m ms x k ∙ p ∙ ap (λ (u : List Step). s ∷ u) (sym o)
+  ]
 
   pub other-root : (x : ℕ) → (Above (way ms) x (m .a) → ⊥) → way ms x ≡ [] → way (m ∷ ms) x ≡ []
   other-root x h p = way-out m ms x (λ e. h (subst (λ (v : ℕ). Above (way ms) v (m .a)) (root e) (end-on (way ms (m .a)) (m .a)))) ∙ p
@@ -610,33 +581,29 @@ sides-clash h m d c e f (inr (p, q)) (inr (u, v)) g k = p ∙ sym u
 module _ (W : ℕ → List Step) (F : Forest W) where
   -- a climb over merges of r stays in the class
   climb-same : (r : List Merge) (n x : ℕ) → Above W n x → Over r (before n (W x)) → Same r x n
-  climb-same r n x i =
+  climb-same r n x =
       climb W F (λ x. Over r (before n (W x)) → Same r x n) n (λ o. refl)
       (λ x s w p h j f o.
       let e = before-step W F n x s w p h in
-      ap (find r) (sym (F x s w p .0)) ∙ edge-same r s (o s (subst (λ (u : List Step). In s u) (sym e) (inl refl)))
-      ∙ f (λ t k. o t (subst (λ (u : List Step). In t u) (sym e) (inr k))))
-      (W x) x refl i
+      ap (find r) (sym (F x s w p .0)) ∙ edge-same r s (o s (rw e (inl refl))) ∙ f (λ t k. o t (rw e (inr k)))) x
 
   over-none : (r : List Merge) (n : ℕ) → Over r (before n (W n))
   over-none r n s i = absurd (subst (λ (u : List Step). In s u) (before-self W F n) i)
 
-  over-more : (r : List Merge) (n x : ℕ) (s : Step) (w : List Step) → W x ≡ s ∷ w → (x ≡ n → ⊥) → Edge r s → Over r (before n (W (s .up))) → Over r (before n (W x))
-  over-more r n x s w p h g o t i = go (subst (λ (u : List Step). In t u) (before-step W F n x s w p h) i)
-    where
-      go : In t (s ∷ before n (W (s .up))) → Edge r t
-      go (inl e) = subst (Edge r) (sym e) g
-      go (inr j) = o t j
+  over-more : (r : List Merge) (n x : ℕ) (s : Step) (w : List Step) → W x ≡ s ∷ w → (x ≡ n → ⊥) → Edge r s →
+      Over r (before n (W (s .up))) → Over r (before n (W x))
+  over-more r n x s w p h g o t i =
+      let j : In t (s ∷ before n (W (s .up))) = subst (λ (u : List Step). In t u) (before-step W F n x s w p h) i in
+      elim j [ inl e ↦ subst (Edge r) (sym e) g | inr k ↦ o t k ]
 
   -- a climb goes over the newest merge once at most
-  crosses-once : (m : Merge) (r : List Merge) (n x : ℕ) → Above W n x → Over (m ∷ r) (before n (W x)) → Over r (before n (W x)) ⊎ Crossing W m r n x
-  crosses-once m r n x i =
+  crosses-once : (m : Merge) (r : List Merge) (n x : ℕ) → Above W n x → Over (m ∷ r) (before n (W x)) →
+      Over r (before n (W x)) ⊎ Crossing W m r n x
+  crosses-once m r n x =
       climb W F (λ x. Over (m ∷ r) (before n (W x)) → Over r (before n (W x)) ⊎ Crossing W m r n x) n (λ o. inl (over-none r n))
       (λ x s w p h j f o.
       let e = before-step W F n x s w p h in
-      go x s w p h j (o s (subst (λ (u : List Step). In s u) (sym e) (inl refl)))
-      (f (λ t k. o t (subst (λ (u : List Step). In t u) (sym e) (inr k)))))
-      (W x) x refl i
+      go x s w p h j (o s (rw e (inl refl))) (f (λ t k. o t (rw e (inr k))))) x
     where
       height : ℕ → ℕ
       height v = length (W v)
@@ -645,7 +612,8 @@ module _ (W : ℕ → List Step) (F : Forest W) where
       here x s w p k e (q, inl (u, v)) = inl (sym (F x s w p .0) ∙ u ∙ ap (λ (l : Merge). l .a) e, v ∙ ap (λ (l : Merge). l .b) e)
       here x s w p k e (q, inr (u, v)) = inr (sym (F x s w p .0) ∙ u ∙ ap (λ (l : Merge). l .b) e, v ∙ ap (λ (l : Merge). l .a) e)
 
-      go : (x : ℕ) (s : Step) (w : List Step) → W x ≡ s ∷ w → (x ≡ n → ⊥) → Above W n (s .up) → Edge (m ∷ r) s → Over r (before n (W (s .up))) ⊎ Crossing W m r n (s .up) → Over r (before n (W x)) ⊎ Crossing W m r n x
+      go : (x : ℕ) (s : Step) (w : List Step) → W x ≡ s ∷ w → (x ≡ n → ⊥) → Above W n (s .up) → Edge (m ∷ r) s →
+          Over r (before n (W (s .up))) ⊎ Crossing W m r n (s .up) → Over r (before n (W x)) ⊎ Crossing W m r n x
       go x s w p h j (k, inr q, a) (inl o) = inl (over-more r n x s w p h (k, q, a) o)
       go x s w p h j (k, inr q, a) (inr z) = inr (record {
         d = z .d;
@@ -668,19 +636,25 @@ module _ (W : ℕ → List Step) (F : Forest W) where
         from = climb-same r n (s .up) j o;
       })
       go x s w p h j (k, inl q, a) (inr z) =
-          let e : x ≡ z .d = sides-clash height m x (s .up) (z .d) (z .c) (here x s w p k q a) (z .sides) (longer W F x s w p) (z .next) in
+          let e : x ≡ z .d =
+          sides-clash height m x (s .up) (z .d) (z .c) (here x s w p k q a) (z .sides) (longer W F x s w p) (z .next) in
           let g : height x ≡ height (z .d) = ap height e in
           absurd (omega (arith, longer W F x s w p, shorter W F (z .d) (s .up) (z .on-way)))
 
+  -- the climbs from x and from y to n go over merges of r
+  abbrev Climbs-over : List Merge → ℕ → ℕ → ℕ → Type 0
+  Climbs-over r n x y = Over r (before n (W x)) × Over r (before n (W y))
+
   -- equal before the newest merge: neither climb goes over it
-  age-step : (m : Merge) (r : List Merge) (n x y : ℕ) → (Same r (m .a) (m .b) → ⊥) → Same r x y → Meet W x y n → Over (m ∷ r) (before n (W x)) → Over (m ∷ r) (before n (W y)) → Over r (before n (W x)) × Over r (before n (W y))
-  age-step m r n x y h e k o q = go (crosses-once m r n x (k .on-x) o) (crosses-once m r n y (k .on-y) q)
+  age-step : (m : Merge) (r : List Merge) (n x y : ℕ) → (Same r (m .a) (m .b) → ⊥) → Same r x y → Meet W x y n →
+      Climbs-over (m ∷ r) n x y → Climbs-over r n x y
+  age-step m r n x y h e k (o, q) = go (crosses-once m r n x (k .on-x) o) (crosses-once m r n y (k .on-y) q)
     where
       joined : (d c : ℕ) → BothSides m d c → Same r d c → ⊥
       joined d c (inl (u, v)) s = h (ap (find r) (sym u) ∙ s ∙ ap (find r) v)
       joined d c (inr (u, v)) s = h (ap (find r) (sym v) ∙ sym s ∙ ap (find r) u)
 
-      go : Over r (before n (W x)) ⊎ Crossing W m r n x → Over r (before n (W y)) ⊎ Crossing W m r n y → Over r (before n (W x)) × Over r (before n (W y))
+      go : Over r (before n (W x)) ⊎ Crossing W m r n x → Over r (before n (W y)) ⊎ Crossing W m r n y → Climbs-over r n x y
       go (inl u) (inl v) = (u, v)
       go (inl u) (inr z) = absurd (joined (z .d) (z .c) (z .sides) (sym (z .to) ∙ sym e ∙ climb-same r n x (k .on-x) u ∙ sym (z .from)))
       go (inr z) (inl v) = absurd (joined (z .d) (z .c) (z .sides) (sym (z .to) ∙ e ∙ climb-same r n y (k .on-y) v ∙ sym (z .from)))
@@ -690,12 +664,11 @@ module _ (W : ℕ → List Step) (F : Forest W) where
           absurd (omega (arith, z .deeper))
 
   -- and so for any time since which they are equal
-  age : (r s : List Merge) (n x y : ℕ) → Suffix r s → Joins s → Same r x y → Meet W x y n → Over s (before n (W x)) → Over s (before n (W y)) → Over r (before n (W x)) × Over r (before n (W y))
-  age r [] n x y u J e k o q = subst (λ (s : List Merge). Over s (before n (W x)) × Over s (before n (W y))) (sym u) (o, q)
-  age r (m ∷ s) n x y (inl u) J e k o q = subst (λ (s : List Merge). Over s (before n (W x)) × Over s (before n (W y))) (sym u) (o, q)
-  age r (m ∷ s) n x y (inr u) J e k o q =
-      let (f, g) = age-step m s n x y (unequal s (m .a) (m .b) (J .0)) (same-suffix r s x y u e) k o q in
-      age r s n x y u (J .1) e k f g
+  age : (r s : List Merge) (n x y : ℕ) → Suffix r s → Joins s → Same r x y → Meet W x y n → Climbs-over s n x y → Climbs-over r n x y
+  age r [] n x y u J e k o = subst (λ (s : List Merge). Climbs-over s n x y) (sym u) o
+  age r (m ∷ s) n x y (inl u) J e k o = subst (λ (s : List Merge). Climbs-over s n x y) (sym u) o
+  age r (m ∷ s) n x y (inr u) J e k o =
+      age r s n x y u (J .1) e k (age-step m s n x y (unequal s (m .a) (m .b) (J .0)) (same-suffix r s x y u e) k o)
 
 -- A path between terms that were equal before goes over the merges of then.
 pub path-age : (ms r : List Merge) (x y : ℕ) → Joins ms → Suffix r ms → Same r x y → Over r (path ms x y)
@@ -704,5 +677,6 @@ path-age ms r x y J u e =
     let F = way-forest ms J in
     let n = common x (way ms x) y (way ms y) in
     let k = way-meets ms J F x y (same-suffix r ms x y u e) in
-    let (f, g) = age (way ms) F r ms n x y u J e k (λ s i. way-over ms x s (before-in n (way ms x) s i)) (λ s i. way-over ms y s (before-in n (way ms y) s i)) in
+    let over : (z : ℕ) → Over ms (before n (way ms z)) = λ z. before-over ms n (way ms z) (way-over ms z) in
+    let (f, g) = age (way ms) F r ms n x y u J e k (over x, over y) in
     over-append r (before n (way ms x)) (before n (way ms y)) f g

@@ -1,7 +1,7 @@
 -- Sizes of classes, and bounds: merges among N terms are fewer than N, and a class has at most one term more than there are merges.
 use Prim.Native.Nat.{ℕ, zero, suc, _+_, _≤_, _<_}
 use mathlib.Core.Path.{_≡_, refl, sym, subst, ap, _∙_}
-use mathlib.Core.Logic.{inl, inr}
+use mathlib.Core.Logic.{inl, inr, ⊎-elim}
 use mathlib.Core.Bool.{false}
 use mathlib.Core.List.{List, [], _∷_, map}
 use native.Mathlib.Decide.{ℕ-discrete}
@@ -19,28 +19,22 @@ use Rattle.theory.proofs.Forest.{Joins}
 -- ---- roots
 
 -- the root of a side is a root, where all roots were
-side-rooted : (ms : List Merge) (m : Merge) → ((z : ℕ) → find ms (find ms z) ≡ find ms z) → (find ms (child-of ms m) ≡ child-of ms m) × (find ms (root-of ms m) ≡ root-of ms m)
-side-rooted ms m f = go (roots m ms)
-  where
-    own : (r z : ℕ) → r ≡ find ms z → find ms r ≡ r
-    own r z e = ap (find ms) e ∙ f z ∙ sym e
-
-    go : Roots m ms (child-of ms m) (root-of ms m) → (find ms (child-of ms m) ≡ child-of ms m) × (find ms (root-of ms m) ≡ root-of ms m)
-    go (inl (p, q)) = (own (child-of ms m) (m .a) p, own (root-of ms m) (m .b) q)
-    go (inr (p, q)) = (own (child-of ms m) (m .b) p, own (root-of ms m) (m .a) q)
+side-rooted : (ms : List Merge) (m : Merge) → ((z : ℕ) → find ms (find ms z) ≡ find ms z) →
+    (find ms (child-of ms m) ≡ child-of ms m) × (find ms (root-of ms m) ≡ root-of ms m)
+side-rooted ms m f =
+    let own : (r z : ℕ) → r ≡ find ms z → find ms r ≡ r = λ r z e. ap (find ms) e ∙ f z ∙ sym e in
+    elim (roots m ms) [
+      | inl (p, q) ↦ (own (child-of ms m) (m .a) p, own (root-of ms m) (m .b) q)
+      | inr (p, q) ↦ (own (child-of ms m) (m .b) p, own (root-of ms m) (m .a) q)
+    ]
 
 -- the root of a term is its own root
 pub find-find : (ms : List Merge) (x : ℕ) → find ms (find ms x) ≡ find ms x
 find-find [] x = ap (find []) (find-alone x)
-find-find (m ∷ ms) x = go (find-find ms) (ℕ-discrete (find ms x) (child-of ms m))
-  where
-    go : ((z : ℕ) → find ms (find ms z) ≡ find ms z) → Dec (find ms x ≡ child-of ms m) → find (m ∷ ms) (find (m ∷ ms) x) ≡ find (m ∷ ms) x
-    go f (yes s) =
-        let e = find-child m ms x s in
-        ap (find (m ∷ ms)) e ∙ find-root m ms (root-of ms m) (side-rooted ms m f .1) ∙ sym e
-    go f (no k) =
-        let e = find-kept m ms x k in
-        ap (find (m ∷ ms)) e ∙ find-kept m ms (find ms x) (λ s. k (sym (f x) ∙ s)) ∙ f x ∙ sym e
+find-find (m ∷ ms) x = elim (ℕ-discrete (find ms x) (child-of ms m)) [
+  | yes s ↦ let e = find-child m ms x s in rw (e, find-root m ms (root-of ms m) (side-rooted ms m (find-find ms) .1))
+  | no k ↦ let e = find-kept m ms x k in rw (e, find-kept m ms (find ms x) (λ s. k (sym (find-find ms x) ∙ s)), find-find ms x)
+]
 
 pub child-rooted : (m : Merge) (ms : List Merge) → find ms (child-of ms m) ≡ child-of ms m
 child-rooted m ms = side-rooted ms m (find-find ms) .0
@@ -49,32 +43,33 @@ pub root-rooted : (m : Merge) (ms : List Merge) → find ms (root-of ms m) ≡ r
 root-rooted m ms = side-rooted ms m (find-find ms) .1
 
 -- a root after the merge was one before, and is not the one that went under
-root-stays : (m : Merge) (ms : List Merge) → are-equal ms (m .a) (m .b) ≡ false → (r : ℕ) → find (m ∷ ms) r ≡ r → (find ms r ≡ r) × (r ≡ child-of ms m → ⊥)
-root-stays m ms j r e = go (ℕ-discrete (find ms r) (child-of ms m))
-  where
-    go : Dec (find ms r ≡ child-of ms m) → (find ms r ≡ r) × (r ≡ child-of ms m → ⊥)
-    go (yes s) = absurd (roots-apart m ms j (sym s ∙ ap (find ms) (sym e ∙ find-child m ms r s) ∙ root-rooted m ms))
-    go (no h) = let q = sym (find-kept m ms r h) ∙ e in (q, λ p. h (q ∙ p))
+root-stays : (m : Merge) (ms : List Merge) → are-equal ms (m .a) (m .b) ≡ false → (r : ℕ) → find (m ∷ ms) r ≡ r →
+    (find ms r ≡ r) × (r ≡ child-of ms m → ⊥)
+root-stays m ms j r e = elim (ℕ-discrete (find ms r) (child-of ms m)) [
+  | yes s ↦ absurd (roots-apart m ms j (sym s ∙ ap (find ms) (sym e ∙ find-child m ms r s) ∙ root-rooted m ms))
+  | no h ↦ let q = sym (find-kept m ms r h) ∙ e in (q, λ p. h (q ∙ p))
+]
 
 -- the sides of all merges are terms below n
 abbrev pub Within : ℕ → List Merge → Type 0
 Within n ms = (m : Merge) → In m ms → (m .a < n) × (m .b < n)
 
 -- the roots of a merge of terms below n are below n, where all roots were
-roots-within : (n : ℕ) (m : Merge) (ms : List Merge) → ((z : ℕ) → z < n → find ms z < n) → (m .a < n) × (m .b < n) → (child-of ms m < n) × (root-of ms m < n)
-roots-within n m ms f h = go (roots m ms) (f (m .a) (h .0)) (f (m .b) (h .1))
-  where
-    go : Roots m ms (child-of ms m) (root-of ms m) → find ms (m .a) < n → find ms (m .b) < n → (child-of ms m < n) × (root-of ms m < n)
-    go (inl (p, q)) a b = omega arith
-    go (inr (p, q)) a b = omega arith
+roots-within : (n : ℕ) (m : Merge) (ms : List Merge) → ((z : ℕ) → z < n → find ms z < n) → (m .a < n) × (m .b < n) →
+    (child-of ms m < n) × (root-of ms m < n)
+roots-within n m ms f h =
+    let a = f (m .a) (h .0) in
+    let b = f (m .b) (h .1) in
+    elim (roots m ms) [ inl (p, q) ↦ omega arith | inr (p, q) ↦ omega arith ]
 
 pub find-within : (n : ℕ) (ms : List Merge) → Within n ms → (x : ℕ) → x < n → find ms x < n
 find-within n [] w x l = subst (λ (z : ℕ). z < n) (sym (find-alone x)) l
-find-within n (m ∷ ms) w x l = go (find-within n ms (λ k i. w k (inr i))) (ℕ-discrete (find ms x) (child-of ms m))
-  where
-    go : ((z : ℕ) → z < n → find ms z < n) → Dec (find ms x ≡ child-of ms m) → find (m ∷ ms) x < n
-    go f (yes s) = let e = find-child m ms x s in let b = roots-within n m ms f (w m (inl refl)) in omega arith
-    go f (no k) = let e = find-kept m ms x k in let b = f x l in omega arith
+find-within n (m ∷ ms) w x l =
+    let f : (z : ℕ) → z < n → find ms z < n = find-within n ms (λ k i. w k (inr i)) in
+    elim (ℕ-discrete (find ms x) (child-of ms m)) [
+      | yes s ↦ let e = find-child m ms x s in let b = roots-within n m ms f (w m (inl refl)) in omega arith
+      | no k ↦ let e = find-kept m ms x k in let b = f x l in omega arith
+    ]
 
 module _ (n : ℕ) (m : Merge) (ms : List Merge) (w : Within n ms) (h : (m .a < n) × (m .b < n)) where
   pub child-within : child-of ms m < n
@@ -128,12 +123,10 @@ length-range k (suc n) = ap suc (length-range (suc k) n)
 pub merges-fewer : (n : ℕ) (ms : List Merge) → 0 < n → Joins ms → Within n ms → length ms < n
 merges-fewer n ms l j w =
     let g = gone-of n ms j w in
-    let h = apart-length (find ms 0 ∷ g .gone) (range 0 n) (g .never 0, g .apart) (λ z i. in-range 0 n z (omega arith) (below g z i)) in
+    let below : (z : ℕ) → In z (find ms 0 ∷ g .gone) → z < 0 + n =
+    λ z. ⊎-elim (λ e. let h = find-within n ms w 0 l in omega arith) (λ i. let h = g .within z i in omega arith) in
+    let h = apart-length (find ms 0 ∷ g .gone) (range 0 n) (g .never 0, g .apart) (λ z i. in-range 0 n z (omega arith) (below z i)) in
     omega (arith, length-range 0 n, g .count)
-  where
-    below : (g : Gone n ms) (z : ℕ) → In z (find ms 0 ∷ g .gone) → z < 0 + n
-    below g z (inl e) = let h = find-within n ms w 0 l in omega arith
-    below g z (inr i) = let h = g .within z i in omega arith
 
 -- ---- classes are small
 
@@ -142,10 +135,10 @@ abbrev sizes : List Merge → List ℕ → ℕ
 sizes ms rs = total (map (λ r. classes ms .size r) rs)
 
 module _ (m : Merge) (ms : List Merge) where
-  size-other : (r : ℕ) → (r ≡ root-of ms m → ⊥) → classes (m ∷ ms) .size r ≡ classes ms .size r
+  pub size-other : (r : ℕ) → (r ≡ root-of ms m → ⊥) → classes (m ∷ ms) .size r ≡ classes ms .size r
   size-other r h = let d = ne-eqb r (root-of ms m) h in size-more m ms r ∙ rw d
 
-  size-root : (r : ℕ) → r ≡ root-of ms m → classes (m ∷ ms) .size r ≡ classes ms .size (child-of ms m) + classes ms .size r
+  pub size-root : (r : ℕ) → r ≡ root-of ms m → classes (m ∷ ms) .size r ≡ classes ms .size (child-of ms m) + classes ms .size r
   size-root r e = let d = eq-eqb r (root-of ms m) e in size-more m ms r ∙ rw d (rw e)
 
   sizes-other : (rs : List ℕ) → (In (root-of ms m) rs → ⊥) → sizes (m ∷ ms) rs ≡ sizes ms rs
@@ -157,11 +150,12 @@ module _ (m : Merge) (ms : List Merge) where
   sizes-grow : (rs : List ℕ) → Apart rs → sizes (m ∷ ms) rs ≤ classes ms .size (child-of ms m) + sizes ms rs
   unfolding total
   sizes-grow [] a = omega arith
-  sizes-grow (r ∷ rs) (h, a) = go (ℕ-discrete r (root-of ms m)) (sizes-grow rs a)
-    where
-      go : Dec (r ≡ root-of ms m) → sizes (m ∷ ms) rs ≤ classes ms .size (child-of ms m) + sizes ms rs → classes (m ∷ ms) .size r + sizes (m ∷ ms) rs ≤ classes ms .size (child-of ms m) + (classes ms .size r + sizes ms rs)
-      go (yes e) l = omega (arith, size-root r e, sizes-other rs (λ i. h (subst (λ (z : ℕ). In z rs) (sym e) i)))
-      go (no k) l = omega (arith, size-other r k)
+  sizes-grow (r ∷ rs) (h, a) =
+      let l = sizes-grow rs a in
+      elim (ℕ-discrete r (root-of ms m)) [
+        | yes e ↦ omega (arith, size-root r e, sizes-other rs (λ i. h (subst (λ (z : ℕ). In z rs) (sym e) i)))
+        | no k ↦ omega (arith, size-other r k)
+      ]
 
 sizes-alone : (rs : List ℕ) → sizes [] rs ≡ length rs
 unfolding total classes singletons
@@ -169,7 +163,8 @@ sizes-alone [] = refl
 sizes-alone (r ∷ rs) = let e = sizes-alone rs in omega arith
 
 -- Different roots have together at most one term each and one for each merge.
-pub sizes-bound : (ms : List Merge) → Joins ms → (rs : List ℕ) → Apart rs → ((r : ℕ) → In r rs → find ms r ≡ r) → total (map (λ r. classes ms .size r) rs) ≤ length ms + length rs
+pub sizes-bound : (ms : List Merge) → Joins ms → (rs : List ℕ) → Apart rs → ((r : ℕ) → In r rs → find ms r ≡ r) →
+    sizes ms rs ≤ length ms + length rs
 unfolding total
 sizes-bound [] j rs a f = omega (arith, sizes-alone rs)
 sizes-bound (m ∷ ms) j rs a f =
@@ -184,14 +179,11 @@ sizes-bound (m ∷ ms) j rs a f =
     rooted r (inr i) = stays r i .0
 
 -- two classes together
-sizes-two : (ms : List Merge) (m : Merge) → Joins (m ∷ ms) → classes ms .size (child-of ms m) + classes ms .size (root-of ms m) ≤ length ms + 2
+sizes-two : (ms : List Merge) (m : Merge) → Joins (m ∷ ms) →
+    classes ms .size (child-of ms m) + classes ms .size (root-of ms m) ≤ length ms + 2
 unfolding total
-sizes-two ms m j = omega (arith, sizes-bound ms (j .1) (child-of ms m ∷ root-of ms m ∷ []) (differ, (λ i. i, tt)) rooted)
+sizes-two ms m j = omega (arith, sizes-bound ms (j .1) (child-of ms m ∷ root-of ms m ∷ []) (⊎-elim (roots-apart m ms (j .0)) (λ i. i), (λ i. i, tt)) rooted)
   where
-    differ : In (child-of ms m) (root-of ms m ∷ []) → ⊥
-    differ (inl e) = roots-apart m ms (j .0) e
-    differ (inr i) = i
-
     rooted : (r : ℕ) → In r (child-of ms m ∷ root-of ms m ∷ []) → find ms r ≡ r
     rooted r (inl e) = ap (find ms) e ∙ child-rooted m ms ∙ sym e
     rooted r (inr (inl e)) = ap (find ms) e ∙ root-rooted m ms ∙ sym e
@@ -201,8 +193,9 @@ sizes-two ms m j = omega (arith, sizes-bound ms (j .1) (child-of ms m ∷ root-o
 pub size-bound : (ms : List Merge) → Joins ms → (r : ℕ) → classes ms .size r ≤ suc (length ms)
 unfolding classes singletons
 size-bound [] j r = omega arith
-size-bound (m ∷ ms) j r = go (size-bound ms (j .1) r) (ℕ-discrete r (root-of ms m))
-  where
-    go : classes ms .size r ≤ suc (length ms) → Dec (r ≡ root-of ms m) → classes (m ∷ ms) .size r ≤ suc (suc (length ms))
-    go l (yes e) = let h = ap (λ (z : ℕ). classes ms .size z) e in omega (arith, size-root m ms r e, sizes-two ms m j)
-    go l (no k) = omega (arith, size-other m ms r k)
+size-bound (m ∷ ms) j r =
+    let l = size-bound ms (j .1) r in
+    elim (ℕ-discrete r (root-of ms m)) [
+      | yes e ↦ let h = ap (λ (z : ℕ). classes ms .size z) e in omega (arith, size-root m ms r e, sizes-two ms m j)
+      | no k ↦ omega (arith, size-other m ms r k)
+    ]

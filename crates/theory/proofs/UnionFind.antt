@@ -2,7 +2,7 @@
 use Prim.Native.Nat.{ℕ, suc, _+_, _<_}
 use mathlib.Core.Path.{_≡_, refl, sym, subst, ap, _∙_}
 use mathlib.Core.Logic.{_⊎_, inl, inr}
-use mathlib.Core.Bool.{Bool, true, false, cond}
+use mathlib.Core.Bool.{true, false, cond}
 use mathlib.Core.List.{List, [], _∷_}
 use native.Mathlib.Omega.{arith}
 use native.Mathlib.Decide.{ℕ-discrete}
@@ -22,35 +22,34 @@ depth (m ∷ ms) x = cond (eqb (find ms x) (child-of ms m)) (suc (depth ms x)) (
 
 depth-child : (m : Merge) (ms : List Merge) (x : ℕ) → find ms x ≡ child-of ms m → depth (m ∷ ms) x ≡ suc (depth ms x)
 unfolding depth
-depth-child m ms x e = ap (λ (b : Bool). cond b (suc (depth ms x)) (depth ms x)) (eq-eqb (find ms x) (child-of ms m) e)
+depth-child m ms x e = rw (eq-eqb (find ms x) (child-of ms m) e)
 
 depth-kept : (m : Merge) (ms : List Merge) (x : ℕ) → (find ms x ≡ child-of ms m → ⊥) → depth (m ∷ ms) x ≡ depth ms x
 unfolding depth
-depth-kept m ms x n = ap (λ (b : Bool). cond b (suc (depth ms x)) (depth ms x)) (ne-eqb (find ms x) (child-of ms m) n)
+depth-kept m ms x n = rw (ne-eqb (find ms x) (child-of ms m) n)
 
 pub parent-child : (m : Merge) (ms : List Merge) (x : ℕ) → x ≡ child-of ms m → parent (m ∷ ms) x ≡ root-of ms m
 unfolding parent
-parent-child m ms x e = ap (λ (b : Bool). cond b (root-of ms m) (parent ms x)) (eq-eqb x (child-of ms m) e)
+parent-child m ms x e = rw (eq-eqb x (child-of ms m) e)
 
 pub parent-kept : (m : Merge) (ms : List Merge) (x : ℕ) → (x ≡ child-of ms m → ⊥) → parent (m ∷ ms) x ≡ parent ms x
 unfolding parent
-parent-kept m ms x n = ap (λ (b : Bool). cond b (root-of ms m) (parent ms x)) (ne-eqb x (child-of ms m) n)
+parent-kept m ms x n = rw (ne-eqb x (child-of ms m) n)
 
 -- a root is at no distance
 root-depth : (ms : List Merge) → Joins ms → (r : ℕ) → find ms r ≡ r → depth ms r ≡ 0
 unfolding depth
 root-depth [] js r e = refl
-root-depth (m ∷ ms) (j, js) r e = go (ℕ-discrete (find ms r) (child-of ms m)) (root-depth ms js r)
-  where
-    go : Dec (find ms r ≡ child-of ms m) → (find ms r ≡ r → depth ms r ≡ 0) → depth (m ∷ ms) r ≡ 0
-    go (yes q) ih =
-        let h : r ≡ root-of ms m = sym e ∙ find-child m ms r q in
-        absurd (roots-apart m ms j (sym q ∙ ap (find ms) h ∙ root-rooted m ms))
-    go (no n) ih = depth-kept m ms r n ∙ ih (sym (find-kept m ms r n) ∙ e)
+root-depth (m ∷ ms) (j, js) r e = elim (ℕ-discrete (find ms r) (child-of ms m)) [
+  | yes q ↦ absurd (roots-apart m ms j (sym q ∙ ap (find ms) (sym e ∙ find-child m ms r q) ∙ root-rooted m ms))
+  | no n ↦ depth-kept m ms r n ∙ root-depth ms js r (sym (find-kept m ms r n) ∙ e)
+]
 
 -- what is known of a node and its parent: the node is a root, or its parent is nearer to the same root
 abbrev pub Up : List Merge → ℕ → Type 0
-Up ms x = ((parent ms x ≡ x) × (find ms x ≡ x)) ⊎ ((parent ms x ≡ x → ⊥) × (find ms (parent ms x) ≡ find ms x) × (depth ms (parent ms x) < depth ms x))
+Up ms x =
+    ((parent ms x ≡ x) × (find ms x ≡ x))
+    ⊎ ((parent ms x ≡ x → ⊥) × (find ms (parent ms x) ≡ find ms x) × (depth ms (parent ms x) < depth ms x))
 
 module _ (m : Merge) (ms : List Merge) (j : are-equal ms (m .a) (m .b) ≡ false) (js : Joins ms) (x : ℕ) where
   not-child : find ms (root-of ms m) ≡ child-of ms m → ⊥
@@ -67,7 +66,7 @@ module _ (m : Merge) (ms : List Merge) (j : are-equal ms (m .a) (m .b) ≡ false
       inr (
         (λ q. roots-apart m ms j (sym e ∙ sym q ∙ p)),
         ap (find (m ∷ ms)) p ∙ find-kept m ms (root-of ms m) not-child ∙ root-rooted m ms ∙ sym (find-child m ms x r),
-        subst (λ (y : ℕ). depth (m ∷ ms) y < depth (m ∷ ms) x) (sym p) (omega arith),
+        rw p (omega arith),
       )
 
   -- any other root
@@ -75,21 +74,17 @@ module _ (m : Merge) (ms : List Merge) (j : are-equal ms (m .a) (m .b) ≡ false
   up-root n p f = inl (parent-kept m ms x n ∙ p, find-kept m ms x (λ q. n (sym f ∙ q)) ∙ f)
 
   -- any other node
-  up-node : (x ≡ child-of ms m → ⊥) → (parent ms x ≡ x → ⊥) → find ms (parent ms x) ≡ find ms x → depth ms (parent ms x) < depth ms x → Up (m ∷ ms) x
+  up-node : (x ≡ child-of ms m → ⊥) → (parent ms x ≡ x → ⊥) → find ms (parent ms x) ≡ find ms x →
+      depth ms (parent ms x) < depth ms x → Up (m ∷ ms) x
   up-node n p f d =
       let e = parent-kept m ms x n in
-      inr (
-        (λ q. p (sym e ∙ q)),
-        ap (find (m ∷ ms)) e ∙ same-root,
-        subst (λ (y : ℕ). depth (m ∷ ms) y < depth (m ∷ ms) x) (sym e) (go (ℕ-discrete (find ms x) (child-of ms m))),
-      )
+      inr ((λ q. p (sym e ∙ q)), rw (e, find-more m ms (parent ms x), find-more m ms x, f), rw e nearer)
     where
-      same-root : find (m ∷ ms) (parent ms x) ≡ find (m ∷ ms) x
-      same-root = find-more m ms (parent ms x) ∙ ap (λ (r : ℕ). cond (eqb r (child-of ms m)) (root-of ms m) r) f ∙ sym (find-more m ms x)
-
-      go : Dec (find ms x ≡ child-of ms m) → depth (m ∷ ms) (parent ms x) < depth (m ∷ ms) x
-      go (yes q) = let a = depth-child m ms (parent ms x) (f ∙ q) in let b = depth-child m ms x q in omega arith
-      go (no q) = let a = depth-kept m ms (parent ms x) (λ w. q (sym f ∙ w)) in let b = depth-kept m ms x q in omega arith
+      nearer : depth (m ∷ ms) (parent ms x) < depth (m ∷ ms) x
+      nearer = elim (ℕ-discrete (find ms x) (child-of ms m)) [
+        | yes q ↦ omega (arith, depth-child m ms (parent ms x) (f ∙ q), depth-child m ms x q)
+        | no q ↦ omega (arith, depth-kept m ms (parent ms x) (λ w. q (sym f ∙ w)), depth-kept m ms x q)
+      ]
 
 pub up : (ms : List Merge) → Joins ms → (x : ℕ) → Up ms x
 unfolding parent
@@ -103,18 +98,18 @@ up (m ∷ ms) (j, js) x = go (ℕ-discrete x (child-of ms m)) (up ms js x)
 
 -- the root that goes under was its own parent
 pub child-parent : (m : Merge) (ms : List Merge) → Joins ms → parent ms (child-of ms m) ≡ child-of ms m
-child-parent m ms js = go (up ms js (child-of ms m))
-  where
-    go : Up ms (child-of ms m) → parent ms (child-of ms m) ≡ child-of ms m
-    go (inl (p, f)) = p
-    go (inr (n, f, l)) = let d = root-depth ms js (child-of ms m) (child-rooted m ms) in absurd (omega arith)
+child-parent m ms js = elim (up ms js (child-of ms m)) [
+  | inl (p, f) ↦ p
+  | inr (n, f, l) ↦ let d = root-depth ms js (child-of ms m) (child-rooted m ms) in absurd (omega arith)
+]
 
 -- a node's parent is a node
 pub parent-within : (n : ℕ) (ms : List Merge) → Within n ms → (x : ℕ) → x < n → parent ms x < n
 unfolding parent
 parent-within n [] w x h = h
-parent-within n (m ∷ ms) w x h = go (eqb x (child-of ms m)) (parent-within n ms (λ k i. w k (inr i)) x h)
-  where
-    go : (b : Bool) → parent ms x < n → cond b (root-of ms m) (parent ms x) < n
-    go true l = root-within n m ms (λ k i. w k (inr i)) (w m (inl refl))
-    go false l = l
+parent-within n (m ∷ ms) w x h =
+    let old : Within n ms = λ k i. w k (inr i) in
+    elim (eqb x (child-of ms m)) as (λ b. cond b (root-of ms m) (parent ms x) < n) [
+      | true ↦ root-within n m ms old (w m (inl refl))
+      | false ↦ parent-within n ms old x h
+    ]

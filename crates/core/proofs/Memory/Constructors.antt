@@ -4,7 +4,7 @@ use mathlib.Core.Path.{_≡_, refl, sym, ap, ap₂, _∙_}
 use mathlib.Core.Bool.{Bool, true, false, not, _&&_}
 use mathlib.Core.List.{List}
 use native.Mathlib.Omega.{arith}
-use borrow.Author.Tests.{ne-eqb}
+use borrow.Author.Tests.{eq-eqb, ne-eqb}
 use lib.Dec.{eqb}
 use Rattle.core.specs.Lists.{keep, every, any, range}
 use Rattle.core.specs.Context.{is-constructor, is-datatype-sort, symbol, builds, dt-constructors, has-plain-fields, grounded, all-grounded}
@@ -13,7 +13,7 @@ use Rattle.core.specs.Memory.Table.{SORT, OWNER, RESULT, ARITY, sorts#, 
 use Rattle.core.proofs.Lists.{and-no}
 use Rattle.core.proofs.Memory.Codes.{ctor-role}
 use Rattle.core.proofs.Memory.Counted.{counted-range}
-use Rattle.core.proofs.Memory.Searching.{NoneFrom, any-found, any-missing, every-by-any, any-kept}
+use Rattle.core.proofs.Memory.Searching.{Searched, search-next, any-found, any-missing, every-by-any, any-kept}
 use Rattle.core.proofs.Memory.Views.{sorts-length, symbols-length, datatype-word, role-is, result-is, params-are}
 
 -- ---- constructors
@@ -44,38 +44,53 @@ module _ (t : List ℕ) (dt s w : ℕ) (h : s < symbols# t) (e : w ≡ at t OWNE
       ap is-constructor (sym (role-is t s h) ∙ ap (role-of s) (sym e ∙ q) ∙ ctor-role s) in
       ap (λ (x : ℕ). eqb x dt) (p ∙ result-is t s h) ∙ ap (λ (b : Bool). b && eqb (symbol (context t) s .result) dt) (sym c)
 
-module _ (t : List ℕ) (dt : ℕ) {from s n : ℕ} (e : n ≡ symbols# t) (a : from ≤ s) (w : NoneFrom (builds (context t) dt) from s) where
-  pub seek-found : s < n → true ≡ builds (context t) dt s → NextConstructor t dt from s
-  seek-found h b = let l = symbols-length t in record { after = a; within = omega arith; between = w; here = λ l. sym b }
+module _ (t : List ℕ) (dt : ℕ) {from s n : ℕ} (w : Searched (builds (context t) dt) from s n) (e : n ≡ symbols# t) where
+  pub seek-found : (b : Bool) → s < n → b ≡ builds (context t) dt s → b ≡ true → NextConstructor t dt from s
+  seek-found b h r q =
+      let l = symbols-length t in record { after = w .after; within = omega arith; between = w .none; here = λ g. sym r ∙ q }
 
-  pub seek-none : s ≤ n → n ≤ s → NextConstructor t dt from s
-  seek-none h l = let m = symbols-length t in record { after = a; within = omega arith; between = w; here = λ g. absurd (omega arith) }
+  pub seek-next : (b : Bool) → s < n → b ≡ builds (context t) dt s → b ≡ false → Searched (builds (context t) dt) from (s + 1) n
+  seek-next b h r q = search-next w h (sym r ∙ q)
+
+  pub seek-none : n ≤ s → NextConstructor t dt from s
+  seek-none l =
+      let m = symbols-length t in
+      let h = w .within in
+      record { after = w .after; within = omega arith; between = w .none; here = λ g. absurd (omega arith) }
 
 -- ---- question 10: fields
 
 -- field i of symbol s is no plain one
-abbrev pub DatatypeField : List ℕ → ℕ → ℕ → Bool
+unfoldable pub DatatypeField : List ℕ → ℕ → ℕ → Bool
 DatatypeField t s i = not (not (is-datatype-sort (context t) (param-at t s i)))
 
-pub field-word : (t : List ℕ) (s i : ℕ) {p r : ℕ} → p ≡ param-at t s i → p < sorts# t → r ≡ at t SORT p →
-    is-datatype-sort (context t) (param-at t s i) ≡ eqb r 1
-field-word t s i {p} {r} e h w = ap (is-datatype-sort (context t)) (sym e) ∙ sym (datatype-word t p r h w)
-
-module _ (t : List ℕ) (s n : ℕ) (h : s < symbols# t) (e : n ≡ at t ARITY s) where
+module _ (t : List ℕ) (s n : ℕ) (e : n ≡ at t ARITY s) where
   abbrev field-test : ℕ → Bool
   field-test f = not (not (is-datatype-sort (context t) f))
 
-  plain-fields : not (any field-test (counted (param-at t s) n)) ≡ has-plain-fields (context t) s
+  plain-fields : s < symbols# t → not (any field-test (counted (param-at t s) n)) ≡ has-plain-fields (context t) s
   unfolding has-plain-fields
-  plain-fields =
+  plain-fields h =
       sym (every-by-any (λ f. not (is-datatype-sort (context t) f)) (counted (param-at t s) n))
       ∙ ap (every (λ f. not (is-datatype-sort (context t) f))) (ap (counted (param-at t s)) e ∙ sym (params-are t s h))
 
-  pub field-is-datatype : (i : ℕ) → i < n → is-datatype-sort (context t) (param-at t s i) ≡ true → false ≡ has-plain-fields (context t) s
-  field-is-datatype i l d = sym (ap not (any-found field-test (param-at t s) n i l (ap (λ (b : Bool). not (not b)) d))) ∙ plain-fields
+  module _ (i p r : ℕ) (l : i < n) (q : p ≡ param-at t s i) (d : p < sorts# t) (w : r ≡ at t SORT p) where
+    field-word : DatatypeField t s i ≡ not (not (eqb r 1))
+    unfolding DatatypeField
+    field-word = ap (λ (b : Bool). not (not b)) (ap (is-datatype-sort (context t)) (sym q) ∙ sym (datatype-word t p r d w))
 
-  pub fields-are-plain : (i : ℕ) → n ≤ i → NoneFrom (DatatypeField t s) 0 i → true ≡ has-plain-fields (context t) s
-  fields-are-plain i l w = sym (ap not (any-missing field-test (param-at t s) n (λ k a b. w k a (omega arith)))) ∙ plain-fields
+    pub field-next : Searched (DatatypeField t s) 0 i n → (r ≡ 1 → ⊥) → Searched (DatatypeField t s) 0 (i + 1) n
+    field-next v o = search-next v l (field-word ∙ ap (λ (b : Bool). not (not b)) (ne-eqb r 1 o))
+
+    pub field-is-datatype : s < symbols# t → r ≡ 1 → false ≡ has-plain-fields (context t) s
+    unfolding DatatypeField
+    field-is-datatype h o =
+        sym (ap not (any-found field-test (param-at t s) n i l (field-word ∙ ap (λ (b : Bool). not (not b)) (eq-eqb r 1 o)))) ∙ plain-fields h
+
+  pub fields-are-plain : (i : ℕ) → s < symbols# t → n ≤ i → Searched (DatatypeField t s) 0 i n → true ≡ has-plain-fields (context t) s
+  unfolding DatatypeField
+  fields-are-plain i h l w =
+      sym (ap not (any-missing field-test (param-at t s) n (λ k a b. w .none k a (omega arith)))) ∙ plain-fields h
 
 -- ---- datatypes
 
@@ -83,13 +98,14 @@ module _ (t : List ℕ) (s n : ℕ) (h : s < symbols# t) (e : n ≡ at t ARITY s
 unfoldable pub Grounds : List ℕ → ℕ → ℕ → Bool
 Grounds t dt s = builds (context t) dt s && has-plain-fields (context t) s
 
-pub not-built : (t : List ℕ) (dt s : ℕ) (r : Bool) → r ≡ builds (context t) dt s → r ≡ false → Grounds t dt s ≡ false
-unfolding Grounds
-not-built t dt s r e q = ap (λ (b : Bool). b && has-plain-fields (context t) s) (sym e ∙ q)
+module _ (t : List ℕ) (dt s : ℕ) {r : Bool} where
+  pub not-built : r ≡ builds (context t) dt s → r ≡ false → Grounds t dt s ≡ false
+  unfolding Grounds
+  not-built e q = ap (λ (b : Bool). b && has-plain-fields (context t) s) (sym e ∙ q)
 
-pub not-plain : (t : List ℕ) (dt s : ℕ) (r : Bool) → r ≡ has-plain-fields (context t) s → r ≡ false → Grounds t dt s ≡ false
-unfolding Grounds
-not-plain t dt s r e q = ap (λ (b : Bool). builds (context t) dt s && b) (sym e ∙ q) ∙ and-no (builds (context t) dt s)
+  pub not-plain : r ≡ has-plain-fields (context t) s → r ≡ false → Grounds t dt s ≡ false
+  unfolding Grounds
+  not-plain e q = ap (λ (b : Bool). builds (context t) dt s && b) (sym e ∙ q) ∙ and-no (builds (context t) dt s)
 
 module _ (t : List ℕ) (dt n : ℕ) (e : n ≡ symbols# t) where
   grounded-is : any (Grounds t dt) (counted (λ i. i) n) ≡ grounded (context t) dt
@@ -99,13 +115,14 @@ module _ (t : List ℕ) (dt n : ℕ) (e : n ≡ symbols# t) where
       ∙ sym (any-kept (builds (context t) dt) (has-plain-fields (context t)) (range 0 n))
       ∙ ap (λ (m : ℕ). any (has-plain-fields (context t)) (keep (builds (context t) dt) (range 0 m))) (e ∙ sym (symbols-length t))
 
-  pub grounded-by : (s : ℕ) → s < n → true ≡ builds (context t) dt s → true ≡ has-plain-fields (context t) s →
-      true ≡ grounded (context t) dt
+  pub grounded-by : (s : ℕ) (b p : Bool) → s < n → b ≡ builds (context t) dt s → b ≡ true → p ≡ has-plain-fields (context t) s →
+      p ≡ true → true ≡ grounded (context t) dt
   unfolding Grounds
-  grounded-by s h b p = sym (any-found (Grounds t dt) (λ i. i) n s h (sym (ap₂ (λ (x y : Bool). x && y) b p))) ∙ grounded-is
+  grounded-by s b p h f q g r =
+      sym (any-found (Grounds t dt) (λ i. i) n s h (ap₂ (λ (x y : Bool). x && y) (sym f ∙ q) (sym g ∙ r))) ∙ grounded-is
 
-  pub not-grounded : (s : ℕ) → n ≤ s → NoneFrom (Grounds t dt) 0 s → false ≡ grounded (context t) dt
-  not-grounded s h w = sym (any-missing (Grounds t dt) (λ i. i) n (λ k a b. w k a (omega arith))) ∙ grounded-is
+  pub not-grounded : (s : ℕ) → n ≤ s → Searched (Grounds t dt) 0 s n → false ≡ grounded (context t) dt
+  not-grounded s h w = sym (any-missing (Grounds t dt) (λ i. i) n (λ k a b. w .none k a (omega arith))) ∙ grounded-is
 
 -- sort s is a datatype that is not grounded
 unfoldable pub Ungrounded : List ℕ → ℕ → Bool
@@ -115,9 +132,9 @@ pub other-sort : (t : List ℕ) (s r : ℕ) → s < sorts# t → r ≡ at t SORT
 unfolding Ungrounded
 other-sort t s r h e n = ap (λ (b : Bool). b && not (grounded (context t) s)) (sym (datatype-word t s r h e) ∙ ne-eqb r 1 n)
 
-pub is-grounded : (t : List ℕ) (s : ℕ) (r : Bool) → r ≡ grounded (context t) s → not r ≡ false → Ungrounded t s ≡ false
+pub is-grounded : (t : List ℕ) (s : ℕ) {r : Bool} → r ≡ grounded (context t) s → not r ≡ false → Ungrounded t s ≡ false
 unfolding Ungrounded
-is-grounded t s r e q =
+is-grounded t s e q =
     ap (λ (b : Bool). is-datatype-sort (context t) s && b) (sym (ap not e) ∙ q) ∙ and-no (is-datatype-sort (context t) s)
 
 module _ (t : List ℕ) (n : ℕ) (e : n ≡ sorts# t) where
@@ -130,11 +147,12 @@ module _ (t : List ℕ) (n : ℕ) (e : n ≡ sorts# t) where
       ∙ sym (every-by-any (grounded (context t)) (keep (is-datatype-sort (context t)) (range 0 n)))
       ∙ ap (λ (m : ℕ). every (grounded (context t)) (keep (is-datatype-sort (context t)) (range 0 m))) (e ∙ sym (sorts-length t))
 
-  pub one-not-grounded : (s : ℕ) → s < n → is-datatype-sort (context t) s ≡ true → grounded (context t) s ≡ false →
+  pub one-not-grounded : (s r : ℕ) (g : Bool) → s < n → r ≡ at t SORT s → r ≡ 1 → g ≡ grounded (context t) s → not g ≡ true →
       false ≡ all-grounded (context t)
   unfolding Ungrounded
-  one-not-grounded s h d g =
-      sym (ap not (any-found (Ungrounded t) (λ i. i) n s h (ap₂ (λ (x y : Bool). x && not y) d g))) ∙ all-grounded-is
+  one-not-grounded s r g h w o f q =
+      let d = sym (datatype-word t s r (omega arith) w) ∙ eq-eqb r 1 o in
+      sym (ap not (any-found (Ungrounded t) (λ i. i) n s h (ap₂ (λ (x y : Bool). x && y) d (ap not (sym f) ∙ q)))) ∙ all-grounded-is
 
-  pub each-grounded : (s : ℕ) → n ≤ s → NoneFrom (Ungrounded t) 0 s → true ≡ all-grounded (context t)
-  each-grounded s h w = sym (ap not (any-missing (Ungrounded t) (λ i. i) n (λ k a b. w k a (omega arith)))) ∙ all-grounded-is
+  pub each-grounded : (s : ℕ) → n ≤ s → Searched (Ungrounded t) 0 s n → true ≡ all-grounded (context t)
+  each-grounded s h w = sym (ap not (any-missing (Ungrounded t) (λ i. i) n (λ k a b. w .none k a (omega arith)))) ∙ all-grounded-is

@@ -24,7 +24,7 @@ use Rattle.core.specs.declared.context.Declared as Declared
 use Rattle.core.proofs.Lists.{and-no}
 use Rattle.core.proofs.Symbols.{constructor-count}
 use Rattle.core.proofs.Memory.Counted.{counted-same, counted-cut, counted-grown, counted-list}
-use Rattle.core.proofs.Memory.Stores.{other-place}
+use Rattle.core.proofs.Memory.Stores.{other-place, length-put}
 use Rattle.core.proofs.Memory.Regions.{stores}
 use Rattle.core.proofs.Memory.Index.{newest-not}
 use Rattle.core.proofs.Memory.Codes.{digit-packed, ctor-role, tester-role, selector-role}
@@ -78,20 +78,28 @@ cleared {t} {u} a e₁ e₂ e₃ e₄ e₅ =
     (cleared-sound u c, cleared-view u c)
 
 -- the buckets below i are cleared
-pub record Clearing (t : List ℕ) (i : ℕ) : Type 0 where
+pub record Clearing (t₀ t : List ℕ) (i : ℕ) : Type 0 where
   pub within : i ≤ buckets
   pub long : table-words ≤ length t
+  pub same : length t ≡ length t₀
   pub heads : (h : ℕ) → h < i → at t BUCKET h ≡ 0
 
-pub clear-next : {t u : List ℕ} {i : ℕ} → Clearing t i → i < buckets → u ≡ put t BUCKET i 0 → Clearing u (i + 1)
-clear-next {t} {u} {i} c h e =
+pub clear-first : {t : List ℕ} → table-words ≤ length t → Clearing t t 0
+clear-first l = record { within = omega arith; long = l; same = refl; heads = λ h g. absurd (omega arith) }
+
+pub clear-next : {t₀ t u : List ℕ} {i : ℕ} → Clearing t₀ t i → i < buckets → u ≡ put t BUCKET i 0 → Clearing t₀ u (i + 1)
+clear-next {t = t} {u} {i} c h e =
     let l : table-words ≤ length t = c .long in
     let r : i < 1024 = omega arith in
     record {
       within = omega arith;
       long = search (e, stores);
+      same = ap length e ∙ length-put t BUCKET i 0 ∙ c .same;
       heads = below-more (λ (x : ℕ). at u BUCKET x ≡ 0) i (λ x g. search (e, stores, c .heads)) (search (e, stores));
     }
+
+pub clear-done : {t₀ t : List ℕ} {i : ℕ} → Clearing t₀ t i → buckets ≤ i → NoTerms t
+clear-done c h = record { long = c .long; heads = λ x l. c .heads x (omega arith) }
 
 -- ---- terms taken back
 
@@ -143,9 +151,9 @@ pub record Dropping (t₀ : List ℕ) (n : ℕ) (t : List ℕ) (i : ℕ) : Type 
   pub view : context t ≡ cut-terms i (context t₀)
   pub long : length t ≡ length t₀
 
-pub drop-first : (t : List ℕ) (n i : ℕ) → ContextSound t → n ≤ length (context t .terms) → i ≡ terms# t → Dropping t n t i
+pub drop-first : {t : List ℕ} {n i : ℕ} → ContextSound t → n ≤ length (context t .terms) → i ≡ terms# t → Dropping t n t i
 unfolding cut-terms
-drop-first t n i z h e =
+drop-first {t} {n} {i} z h e =
     let all = sym (take-all i (context t .terms) (omega arith)) in
     record {
       sound = z;
@@ -155,10 +163,11 @@ drop-first t n i z h e =
       long = refl;
     }
 
-pub drop-next : {t₀ : List ℕ} {n : ℕ} {t : List ℕ} {i j : ℕ} {u : List ℕ} → Dropping t₀ n t i → n < i → j ≡ i - 1 → length u ≡ length t →
-    ContextSound u → context u ≡ cut-terms j (context t) → Dropping t₀ n u j
+pub drop-next : {t₀ : List ℕ} {n : ℕ} {t : List ℕ} {i : ℕ} {u : List ℕ} → Dropping t₀ n t i → n < i → length u ≡ length t →
+    ContextSound u → context u ≡ cut-terms (i - 1) (context t) → Dropping t₀ n u (i - 1)
 unfolding cut-terms
-drop-next {t₀} {t = t} {i} {j} {u} d h e l z v =
+drop-next {t₀} {t = t} {i} {u} d h l z v =
+    let j = i - 1 in
     let c = d .count in
     let long = d .long in
     let n₀ = ap (λ (x : Context). length (x .terms)) v in
@@ -204,10 +213,10 @@ accepted t cx u z e =
 
 -- ---- one more sort
 
-pub no-more-sorts : (t : List ℕ) (n : ℕ) (node : SortNode) → ContextSound t → n ≡ sorts# t → n ≡ max-sorts →
+pub no-more-sorts : {t : List ℕ} {n : ℕ} (node : SortNode) → ContextSound t → n ≡ sorts# t → n ≡ max-sorts →
     Declares t (declare-sort (context t) node) Declared.the-variants.NoRoom t
 unfolding declare-sort
-no-more-sorts t n node z e q =
+no-more-sorts {t} {n} node z e q =
     let m = length-append (context t .sorts) (node ∷ []) in
     refused t (declare-sort (context t) node) z (too-many-sorts (declare-sort (context t) node) (omega arith))
 
@@ -350,7 +359,7 @@ too-many t new h z =
     refused t (with-symbols (context t) new) z (too-many-symbols (with-symbols (context t) new) (omega arith))
 
 -- room for one symbol, by what the view has
-pub symbol-room : {t : List ℕ} {n owner result : ℕ} {params : List ℕ} → MayDeclare t result params → n ≡ symbols# t → n < max-symbols →
+symbol-room : {t : List ℕ} {n owner result : ℕ} {params : List ℕ} → MayDeclare t result params → n ≡ symbols# t → n < max-symbols →
     owner ≤ n + 1 → SymbolRoom t n owner result params
 symbol-room a e r o =
     let z = a .sound in
@@ -378,10 +387,13 @@ single-room t n owner result dt z e r o d q =
 
 -- ---- a function
 
-pub no-function : (t : List ℕ) (n result : ℕ) (params : List ℕ) → ContextSound t → n ≡ symbols# t → n ≡ max-symbols →
-    Declares t (declare-fun (context t) result params) Declared.the-variants.NoRoom t
-unfolding declare-fun
-no-function t n result params z e q = too-many t (record { role = Function; params = params; result = result } ∷ []) (omega arith) z
+module _ {t : List ℕ} {n result : ℕ} {params : List ℕ} (a : MayDeclare t result params) (e : n ≡ symbols# t) where
+  pub no-function : n ≡ max-symbols → Declares t (declare-fun (context t) result params) Declared.the-variants.NoRoom t
+  unfolding declare-fun
+  no-function q = too-many t (record { role = Function; params = params; result = result } ∷ []) (omega arith) (a .sound)
+
+  pub function-room : (n ≡ max-symbols → ⊥) → SymbolRoom t n 0 result params
+  function-room q = let z = a .sound in symbol-room a e (omega arith) (omega arith)
 
 pub function-added : {t : List ℕ} {n result : ℕ} {params u : List ℕ} → SymbolAdded t n 0 result params u →
     Declares t (declare-fun (context t) result params) Declared.the-variants.Done u
@@ -457,12 +469,16 @@ module _ {t₀ : List ℕ} {c dt : ℕ} {fields : List ℕ} where
 
 -- ---- a constructor
 
-pub no-constructor : (t : List ℕ) (n dt : ℕ) (fields : List ℕ) → ContextSound t → n ≡ symbols# t → max-symbols - n < length fields + 2 →
-    Declares t (dt-add-constructor (context t) dt fields) Declared.the-variants.NoRoom t
-unfolding dt-add-constructor
-no-constructor t n dt fields z e h =
-    let l = constructor-count (length (context t .symbols)) dt fields in
-    too-many t (constructor-symbols (length (context t .symbols)) dt fields) (omega arith) z
+module _ {t : List ℕ} {n dt : ℕ} {fields : List ℕ} (m : MayDeclare t dt fields) (e : n ≡ symbols# t) where
+  pub no-constructor : max-symbols - n < length fields + 2 →
+      Declares t (dt-add-constructor (context t) dt fields) Declared.the-variants.NoRoom t
+  unfolding dt-add-constructor
+  no-constructor h =
+      let l = constructor-count (length (context t .symbols)) dt fields in
+      too-many t (constructor-symbols (length (context t .symbols)) dt fields) (omega arith) (m .sound)
+
+  pub constructor-room : length fields + 2 ≤ max-symbols - n → SymbolRoom t n (n + 1) dt fields
+  constructor-room h = symbol-room m e (omega arith) (omega arith)
 
 -- its symbols one after the other: itself, its tester, its selectors
 module _ {t : List ℕ} {n dt : ℕ} {fields t₁ : List ℕ} (e : n ≡ symbols# t) (a : SymbolAdded t n (n + 1) dt fields t₁) where

@@ -22,6 +22,19 @@ none-yet p from k l h = absurd (omega arith)
 pub none-more : (p : ℕ → Bool) (from i : ℕ) → NoneFrom p from i → p i ≡ false → NoneFrom p from (i + 1)
 none-more p from i n e k l h = below-more (λ (j : ℕ). from ≤ j → p j ≡ false) i (λ j g m. n j m g) (λ m. e) k h l
 
+-- a loop has come from one number to i, on its way to n
+pub record Searched (p : ℕ → Bool) (from i n : ℕ) : Type 0 where
+  pub after : from ≤ i
+  pub within : i ≤ n
+  pub none : NoneFrom p from i
+
+pub search-first : (p : ℕ → Bool) (from n : ℕ) → from ≤ n → Searched p from from n
+search-first p from n h = record { after = omega arith; within = h; none = none-yet p from }
+
+pub search-next : {p : ℕ → Bool} {from i n : ℕ} → Searched p from i n → i < n → p i ≡ false → Searched p from (i + 1) n
+search-next {p} {from} {i} {n} w h e =
+    record { after = let a = w .after in omega arith; within = omega arith; none = none-more p from i (w .none) e }
+
 module _ {A : Type 0} (q : A → Bool) (f : ℕ → A) where
   -- the entries from k on, n of them
   abbrev Rest : ℕ → ℕ → List A

@@ -23,7 +23,7 @@ use Rattle.core.specs.Memory.Codes.{made-answer, made-context, MkApp}
 use Rattle.core.specs.declared.context.Made as Made
 use Rattle.core.proofs.Lists.{T-and, true-T, and-no, same-list-eq, same-list-true, same-list-false, same-list-longer}
 use Rattle.core.proofs.Memory.Counted.{counted-more, counted-grown, counted-list, stretch-length, stretch-at}
-use Rattle.core.proofs.Memory.Searching.{NoneFrom, none-yet, first-found, first-missing}
+use Rattle.core.proofs.Memory.Searching.{NoneFrom, Searched, none-yet, search-next, first-found, first-missing}
 use Rattle.core.proofs.Memory.Stores.{other-place}
 use Rattle.core.proofs.Memory.Regions.{stores}
 use Rattle.core.proofs.Memory.Index.{newest-is, newest-not, newest-found, newest-in}
@@ -40,21 +40,23 @@ same-op-codes (suc a) zero = sym (ne-eqb (suc a) zero (omega arith))
 same-op-codes (suc a) (suc b) = sym (eqb·suc-suc a b)
 
 -- argument k is not the word at its place
-abbrev pub ArgDiffers : List ℕ → ℕ → List ℕ → ℕ → Bool
+unfoldable pub ArgDiffers : List ℕ → ℕ → List ℕ → ℕ → Bool
 ArgDiffers t start args k = not (eqb (at t POOL (start + k)) (getD args k 0))
 
-pub arg-same : (t : List ℕ) (start : ℕ) (args : List ℕ) (k w : ℕ) → w ≡ at t POOL (start + k) → w ≡ getD args k 0 →
-    ArgDiffers t start args k ≡ false
-arg-same t start args k w e q = ap not (eq-eqb (at t POOL (start + k)) (getD args k 0) (sym e ∙ q))
-
 module _ (t : List ℕ) (start : ℕ) (args : List ℕ) where
-  pub args-same : (i : ℕ) → length args ≤ i → NoneFrom (ArgDiffers t start args) 0 i →
+  pub arg-next : {k w : ℕ} → Searched (ArgDiffers t start args) 0 k (length args) → k < length args → w ≡ at t POOL (start + k) →
+      w ≡ getD args k 0 → Searched (ArgDiffers t start args) 0 (k + 1) (length args)
+  unfolding ArgDiffers
+  arg-next {k} {w} s h e q = search-next s h (ap not (eq-eqb (at t POOL (start + k)) (getD args k 0) (sym e ∙ q)))
+
+  pub args-same : (i : ℕ) → length args ≤ i → Searched (ArgDiffers t start args) 0 i (length args) →
       true ≡ same-list args (stretch t POOL start (length args))
+  unfolding ArgDiffers
   args-same i h w =
       sym
       (same-list-true args (stretch t POOL start (length args)) (sym (stretch-length t POOL start (length args)))
       (λ k l.
-      let e = not-false (eqb (at t POOL (start + k)) (getD args k 0)) (w k (omega arith) (omega arith)) in
+      let e = not-false (eqb (at t POOL (start + k)) (getD args k 0)) (w .none k (omega arith) (omega arith)) in
       sym (stretch-at t POOL start (length args) k l ∙ eqb-true (at t POOL (start + k)) (getD args k 0) e)))
 
   pub args-differ : (k w : ℕ) → k < length args → w ≡ at t POOL (start + k) → (w ≡ getD args k 0 → ⊥) →
@@ -67,14 +69,14 @@ abbrev pub Fits : List ℕ → ℕ → List ℕ → ℕ → Bool
 Fits t code args i = same-term (op-of code) args (term-at t i)
 
 module _ (t : List ℕ) (code : ℕ) (args : List ℕ) where
-  module _ (i : ℕ) {w : ℕ} (o : w ≡ at t OP i) where
+  module _ (i w : ℕ) (o : w ≡ at t OP i) where
     pub app-other-op : (w ≡ code → ⊥) → false ≡ Fits t code args i
     unfolding same-term term-at
     app-other-op n =
         let e = same-op-codes code (at t OP i) ∙ ne-eqb code (at t OP i) (λ q. n (o ∙ sym q)) in
         sym (ap (λ (b : Bool). b && same-list args (args-at t i)) e)
 
-    module _ {a e : ℕ} (p : a ≡ at t OFFSET i) (q : e ≡ at t OFFSET (i + 1)) where
+    module _ (a e : ℕ) (p : a ≡ at t OFFSET i) (q : e ≡ at t OFFSET (i + 1)) where
       length-is : e - a ≡ length (args-at t i)
       unfolding args-at
       length-is = ap₂ (λ (x y : ℕ). x - y) q p ∙ sym (stretch-length t POOL (at t OFFSET i) (at t OFFSET (i + 1) - at t OFFSET i))
@@ -85,10 +87,10 @@ module _ (t : List ℕ) (code : ℕ) (args : List ℕ) where
           let op = same-op (op-of code) (op-of (at t OP i)) in
           sym (ap (λ (b : Bool). op && b) (same-list-longer args (args-at t i) (λ l. n (length-is ∙ sym l))) ∙ and-no op)
 
-      pub app-same : {r : Bool} → w ≡ code → e - a ≡ length args → r ≡ same-list args (stretch t POOL a (length args)) →
+      pub app-same : (r : Bool) → w ≡ code → e - a ≡ length args → r ≡ same-list args (stretch t POOL a (length args)) →
           r ≡ Fits t code args i
       unfolding same-term term-at args-at
-      app-same c l s =
+      app-same r c l s =
           let op = same-op-codes code (at t OP i) ∙ eq-eqb code (at t OP i) (sym c ∙ o) in
           s
           ∙ ap (λ (n : ℕ). same-list args (stretch t POOL a n)) (sym l)
@@ -132,7 +134,7 @@ pub record Walking (t : List ℕ) (code : ℕ) (args : List ℕ) (h k : ℕ) : T
   pub rest : NoneFrom (Fits t code args) k (terms# t)
 
 -- the walk goes on from the newest before term n
-module _ {t : List ℕ} (code : ℕ) (args : List ℕ) {h : ℕ} (z : ContextSound t) (e : h ≡ bucket code args) where
+module _ {t : List ℕ} {code : ℕ} {args : List ℕ} {h : ℕ} (z : ContextSound t) (e : h ≡ bucket code args) where
   onwards : (n k : ℕ) → n ≤ terms# t → k ≡ newest (bucket-of t) h n → NoneFrom (Fits t code args) n (terms# t) → Walking t code args h k
   onwards n k m q w =
       let f = newest-found (bucket-of t) h n in
@@ -153,24 +155,31 @@ module _ {t : List ℕ} {code : ℕ} {args : List ℕ} {h k : ℕ} (w : Walking 
         let p : k ≡ suc (k - 1) = omega arith in
         newest-in (bucket-of t) h (k - 1) (subst (λ (x : ℕ). newest (bucket-of t) h x ≡ x) p (w .here))
 
-    pub walk-next : {r : ℕ} → r ≡ at t LINK (k - 1) → Fits t code args (k - 1) ≡ false → Walking t code args h r × (r < k)
-    walk-next {r} q no-fit =
+    stepped : {r : ℕ} {b : Bool} → r ≡ at t LINK (k - 1) → b ≡ Fits t code args (k - 1) → b ≡ false → Walking t code args h r × (r < k)
+    stepped {r} q f o =
         let within = w .within in
         let i : r ≡ newest (bucket-of t) h (k - 1) =
         q ∙ w .sound .index .links (k - 1) (omega arith) ∙ ap (λ (x : ℕ). newest (bucket-of t) x (k - 1)) in-bucket in
-        let f = newest-found (bucket-of t) h (k - 1) .within in
-        (onwards code args (w .sound) (w .hash) (k - 1) r (omega arith) i (λ j l g. each j l g (decLe k j)), omega arith)
+        let v = newest-found (bucket-of t) h (k - 1) .within in
+        (onwards (w .sound) (w .hash) (k - 1) r (omega arith) i (λ j l g. each j l g (decLe k j)), omega arith)
       where
         each : (j : ℕ) → k - 1 ≤ j → j < terms# t → Dec (k ≤ j) → Fits t code args j ≡ false
-        each j l g (yes o) = w .rest j o g
-        each j l g (no o) = let p : j ≡ k - 1 = omega arith in rw p no-fit
+        each j l g (yes m) = w .rest j m g
+        each j l g (no m) = let p : j ≡ k - 1 = omega arith in rw p (sym f ∙ o)
+
+    pub walk-next : {r : ℕ} {b : Bool} → r ≡ at t LINK (k - 1) → b ≡ Fits t code args (k - 1) → b ≡ false → Walking t code args h r
+    walk-next q f o = stepped q f o .0
+
+    pub walk-less : {r : ℕ} {b : Bool} → r ≡ at t LINK (k - 1) → b ≡ Fits t code args (k - 1) → b ≡ false → r < k
+    walk-less q f o = stepped q f o .1
 
     -- no term stands twice, so none below it fits
-    pub walk-found : true ≡ Fits t code args (k - 1) → FindsApp t code args (k - 1)
+    pub walk-found : {b : Bool} → b ≡ Fits t code args (k - 1) → b ≡ true → FindsApp t code args (k - 1)
     unfolding context
-    walk-found s =
+    walk-found f o =
+        let s = sym o ∙ f in
         let within = w .within in
-        let none-below : NoneFrom (Fits t code args) 0 (k - 1) = λ j a b. lower j b (Fits t code args j) refl in
+        let none-below : NoneFrom (Fits t code args) 0 (k - 1) = λ j a l. lower j l (Fits t code args j) refl in
         record {
           within = omega arith;
           found = λ l. first-found (same-term (op-of code) args) (term-at t) (terms# t) (k - 1) l none-below (sym s);
@@ -182,7 +191,7 @@ module _ {t : List ℕ} {code : ℕ} {args : List ℕ} {h k : ℕ} (w : Walking 
         lower j l false q = refl
         lower j l true q =
             let within = w .within in
-            let same = fits-term t code args j q ∙ sym (fits-term t code args (k - 1) (sym s)) in
+            let same = fits-term t code args j q ∙ sym (fits-term t code args (k - 1) (sym f ∙ o)) in
             let i = w .sound .index .once j (k - 1) (omega arith) (omega arith) same in
             absurd (omega arith)
 
@@ -411,71 +420,76 @@ module _ {t : List ℕ} {o : Op} {args : List ℕ} {k : ℕ} {cx : Context}
   unfolding made-answer made-context
   accept b y v = record { sound = y; answer = rw (m, b); view = rw (m, b) v; unchanged = λ q. absurd (true≢false (sym b ∙ (rw m at q))) }
 
-module _ (t : List ℕ) (code : ℕ) (args : List ℕ) (z : ContextSound t) (n k : ℕ) (e : n ≡ terms# t) (f : FindsApp t code args k) where
+-- where the next arguments would begin
+begins : {t : List ℕ} {code : ℕ} {args : List ℕ} {n start : ℕ} → MayIntern t code args → n ≡ terms# t → start ≡ at t OFFSET n →
+    (start ≡ places (context t)) × (start ≤ max-places)
+begins {t} a e o =
+    let p = o ∙ ap (at t OFFSET) e in
+    let f = a .sound .places-fit in
+    (p ∙ sym (places-are t (a .sound)), omega arith)
+
+pub start-fits : {t : List ℕ} {code : ℕ} {args : List ℕ} {n start : ℕ} → MayIntern t code args → n ≡ terms# t → start ≡ at t OFFSET n →
+    start ≤ max-places
+start-fits a e o = begins a e o .1
+
+module _ {t : List ℕ} {code : ℕ} {args : List ℕ} {n k : ℕ} (a : MayIntern t code args) (e : n ≡ terms# t) (f : FindsApp t code args k) where
   pub made-old : k < n → MkApp t (op-of code) args (Made.the-variants.At (record { 0 = k })) t
   unfolding mk-app intern
   made-old h =
+      let z = a .sound in
       let l = places-are t z in
       accept (ap (intern (context t) (op-of code) args) (f .found (omega arith))) (fits (context t) (omega arith) (omega arith)) z refl
 
-  -- the context with the term at its end
-  more : Context
-  more = intern (context t) (op-of code) args none .context
+  module _ (h : n ≤ k) where
+    -- the context with the term at its end
+    more : Context
+    more = intern (context t) (op-of code) args none .context
 
-  made-none : n ≤ k → mk-app (context t) (op-of code) args ≡ record { id = n; context = more }
-  unfolding mk-app intern more
-  made-none h =
-      let w = f .within in
-      let l : length (context t .terms) ≡ n = terms-length t ∙ sym e in
-      ap (intern (context t) (op-of code) args) (f .missing (omega arith)) ∙ (λ i. record { id = l i; context = more })
+    made-none : mk-app (context t) (op-of code) args ≡ record { id = n; context = more }
+    unfolding mk-app intern more
+    made-none =
+        let w = f .within in
+        let l : length (context t .terms) ≡ n = terms-length t ∙ sym e in
+        ap (intern (context t) (op-of code) args) (f .missing (omega arith)) ∙ (λ i. record { id = l i; context = more })
 
-  pub no-more-terms : n ≤ k → n ≡ max-terms → MkApp t (op-of code) args Made.the-variants.NoRoom t
-  unfolding more
-  no-more-terms h q =
-      let s = more-terms (context t) (op-of code) args in refuse (made-none h) (too-many more (omega arith)) z
-
-  module _ (start : ℕ) (o : start ≡ at t OFFSET n) where
-    begins : start ≡ places (context t)
-    begins = o ∙ ap (at t OFFSET) e ∙ sym (places-are t z)
-
-    pub start-fits : start ≤ max-places
-    start-fits = let p = begins in let q = places-are t z in omega arith
-
-    pub no-more-places : n ≤ k → max-places - start < length args → MkApp t (op-of code) args Made.the-variants.NoRoom t
+    pub no-more-terms : n ≡ max-terms → MkApp t (op-of code) args Made.the-variants.NoRoom t
     unfolding more
-    no-more-places h q =
-        let p = begins in
-        let s = more-places (context t) (op-of code) args in
-        let b = start-fits in
-        refuse (made-none h) (too-wide more (omega arith)) z
+    no-more-terms q =
+        let s = more-terms (context t) (op-of code) args in refuse made-none (too-many more (omega arith)) (a .sound)
 
-    pub made-new : (u : List ℕ) → n ≤ k → (n ≡ max-terms → ⊥) → length args ≤ max-places - start → Appended t code args u →
-        MkApp t (op-of code) args (Made.the-variants.At (record { 0 = n })) u
-    unfolding more
-    made-new u h r q a =
-        let p = begins in
-        let b = start-fits in
-        let st = more-terms (context t) (op-of code) args in
-        let sp = more-places (context t) (op-of code) args in
-        accept (made-none h) (fits more (omega arith) (omega arith)) (a .sound) (a .view)
+    module _ {start : ℕ} (o : start ≡ at t OFFSET n) where
+      pub no-more-places : max-places - start < length args → MkApp t (op-of code) args Made.the-variants.NoRoom t
+      unfolding more
+      no-more-places q =
+          let p = begins a e o in
+          let s = more-places (context t) (op-of code) args in
+          refuse made-none (too-wide more (omega arith)) (a .sound)
 
-pub appendable : {t : List ℕ} {n k start code : ℕ} {args : List ℕ} → MayIntern t code args → n ≡ terms# t → FindsApp t code args k →
-    n ≤ k → (n ≡ max-terms → ⊥) →
-    start ≡ at t OFFSET n → length args ≤ max-places - start → Appendable t n start code args
-appendable {t} {n} {start = start} m e f g r o h =
-    let z = m .sound in
-    let w = f .within in
-    let p : start ≡ at t OFFSET (terms# t) = o ∙ ap (at t OFFSET) e in
-    record {
-      sound = z;
-      next = e;
-      begins = o;
-      room = omega arith;
-      places = omega arith;
-      declared = m .declared;
-      terms = λ j l. let q = m .terms j l in omega arith;
-      new = λ i l. f .new (omega arith) i (omega arith);
-    }
+      module _ (r : n ≡ max-terms → ⊥) (q : length args ≤ max-places - start) where
+        pub appendable : Appendable t n start code args
+        appendable =
+            let z = a .sound in
+            let p = begins a e o in
+            let w = f .within in
+            record {
+              sound = z;
+              next = e;
+              begins = o;
+              room = omega arith;
+              places = omega arith;
+              declared = a .declared;
+              terms = λ j l. let g = a .terms j l in omega arith;
+              new = λ i l. f .new (omega arith) i (omega arith);
+            }
+
+        pub made-new : {u : List ℕ} → Appended t code args u → MkApp t (op-of code) args (Made.the-variants.At (record { 0 = n })) u
+        unfolding more
+        made-new b =
+            let z = a .sound in
+            let p = begins a e o in
+            let st = more-terms (context t) (op-of code) args in
+            let sp = more-places (context t) (op-of code) args in
+            accept made-none (fits more (omega arith) (omega arith)) (b .sound) (b .view)
 
 -- ---- the two public ways to make a term
 

@@ -29,7 +29,8 @@ pub record Clearing (t₀ t : List ℕ) (n : ℕ) : Type 0 where
   pub level : level-word t ≡ 0
   pub alone : (x : ℕ) → x < n → Alone t x
 
-pub clear-first : (t : List ℕ) {t₁ t₂ : List ℕ} → engine-size ≤ length t → t₁ ≡ put t COUNTS MERGES 0 → t₂ ≡ put t₁ COUNTS LEVEL 0 → Clearing t₂ t₂ 0
+pub clear-first : (t : List ℕ) {t₁ t₂ : List ℕ} → engine-size ≤ length t → t₁ ≡ put t COUNTS MERGES 0 → t₂ ≡ put t₁ COUNTS LEVEL 0 →
+    Clearing t₂ t₂ 0
 clear-first t l e₁ e₂ = record {
   same-length = refl;
   long = search (e₂, e₁, stores);
@@ -38,7 +39,8 @@ clear-first t l e₁ e₂ = record {
   alone = λ x h. absurd (omega arith);
 }
 
-pub clear-next : {t₀ t u : List ℕ} {n : ℕ} → Clearing t₀ t n → IsNode n → u ≡ put (put (put t PARENT n n) SIZE n 1) FPARENT n n → Clearing t₀ u (n + 1)
+pub clear-next : {t₀ t u : List ℕ} {n : ℕ} → Clearing t₀ t n → IsNode n → u ≡ put (put (put t PARENT n n) SIZE n 1) FPARENT n n →
+    Clearing t₀ u (n + 1)
 clear-next {t₀} {t} {u} {n} c h e =
     let l = c .long in
     let k = c .same-length in

@@ -443,7 +443,8 @@ module _ {t m o : List ℕ} {i k v : ℕ} (z : Explaining t m o) (h : i < merges
       record {
         ready = record { ordered = omega arith; each = λ j b c. record { in-force = omega arith; nodes = nodes j b c } };
         as-old = sym (ap (λ (j : EqJust). pairs-age (merges t) (pairs-of j)) is);
-        goes = λ {m} {o} {m₁} {o₁} g. subst (λ (j : EqJust). Goes t m o m₁ o₁ (Label j)) (sym is) (record { answer = g .answer; shows = g .shows });
+        goes = λ {m} {o} {m₁} {o₁} g. subst (λ (j : EqJust). Goes t m o m₁ o₁ (Label j)) (sym is)
+            (record { answer = g .answer; shows = g .shows });
       }
     where
       is : just-at t i ≡ Congruence (pairs-from t v a)

@@ -30,19 +30,22 @@ merge-one : (ms : List Merge) (l a b : ℕ) (j : EqJust) → are-equal ms a b �
 unfolding merge
 merge-one ms l a b j e = ap (λ (d : Bool). cond d ms (record { a = a; b = b; just = j; level = l } ∷ ms)) e
 
-merge-two : {ms : List Merge} {a b : ℕ} (l : ℕ) (j : EqJust) → are-equal ms a b ≡ false → merge ms l a b j ≡ record { a = a; b = b; just = j; level = l } ∷ ms
+merge-two : {ms : List Merge} {a b : ℕ} (l : ℕ) (j : EqJust) → are-equal ms a b ≡ false →
+    merge ms l a b j ≡ record { a = a; b = b; just = j; level = l } ∷ ms
 unfolding merge
 merge-two {ms} {a} {b} l j e = ap (λ (d : Bool). cond d ms (record { a = a; b = b; just = j; level = l } ∷ ms)) e
 
 -- within one class nothing changes
-pub merged-one : {t : List ℕ} {a b : ℕ} {r : Bool} (j : EqJust) → TwoNodes t a b → r ≡ are-equal (merges t) a b → r ≡ true → Merges t t a b j
+pub merged-one : {t : List ℕ} {a b : ℕ} {r : Bool} (j : EqJust) → TwoNodes t a b → r ≡ are-equal (merges t) a b → r ≡ true →
+    Merges t t a b j
 merged-one {t} {a} {b} j s p e = record {
   engine = record { sound = s .sound; log = sym (merge-one (merges t) (level-word t) a b j (sym p ∙ e)); at-level = refl };
   unchanged = λ q. refl;
 }
 
 -- what a join ensures, as a merge
-merged-two : {t u : List ℕ} {a b : ℕ} (i j : EqJust) → are-equal (merges t) a b ≡ false → i ≡ j → Engine u (record { a = a; b = b; just = i; level = level-word t } ∷ merges t) (level-word t) → Merges t u a b j
+merged-two : {t u : List ℕ} {a b : ℕ} (i j : EqJust) → are-equal (merges t) a b ≡ false → i ≡ j →
+    Engine u (record { a = a; b = b; just = i; level = level-word t } ∷ merges t) (level-word t) → Merges t u a b j
 merged-two {t} {u} {a} {b} i j e q g = record {
   engine = record {
     sound = g .sound;
@@ -56,60 +59,33 @@ merged-two {t} {u} {a} {b} i j e q g = record {
 
 -- ---- a label without pairs
 
-module _ (t : List ℕ) (n : ℕ) where
-  -- what the words of such a label are
-  record Plain (j : Given.EqJust) (kind h v : ℕ) : Type 0 where
-    known : kind < 3
-    theory : h < kind-unit
-    value : v < 4294967296
-    start : begins kind v n ≡ n
-    none : pairs-of (label t kind h v n) ≡ []
-    is : label t kind h v n ≡ just-meaning j
+plain : (j : Given.EqJust) → pairs-of (just-meaning j) ≡ []
+unfolding pairs-of just-meaning
+plain (Given.the-variants.Asserted l) = refl
+plain (Given.the-variants.Interface k) = refl
 
-  plain : (j : Given.EqJust) (w : LabelWords.LabelWords) → HoldsLabel j w → Plain j (w .kind) (w .theory) (w .value)
-  unfolding label begins pairs-of just-meaning
-  plain (Given.the-variants.Asserted l) w s =
-      let k = s .kind in
-      let h = s .theory in
-      record {
-        known = omega arith;
-        theory = omega arith;
-        value = s .fits;
-        start = ap (λ (i : ℕ). begins i (w .value) n) k;
-        none = ap (λ (i : ℕ). pairs-of (label t i (w .theory) (w .value) n)) k;
-        is = ap (λ (i : ℕ). label t i (w .theory) (w .value) n) k ∙ ap Asserted (s .value);
-      }
-  plain (Given.the-variants.Interface g) w s =
-      let k = s .kind in
-      record {
-        known = omega arith;
-        theory = s .known;
-        value = s .fits;
-        start = ap (λ (i : ℕ). begins i (w .value) n) k;
-        none = ap (λ (i : ℕ). pairs-of (label t i (w .theory) (w .value) n)) k;
-        is = ap (λ (i : ℕ). label t i (w .theory) (w .value) n) k ∙ ap₂ Interface (s .theory) (s .value);
-      }
-
-module _ {t : List ℕ} {a b : ℕ} {r : Bool} (n : ℕ) (j : Given.EqJust) (w : LabelWords.LabelWords) (h : HoldsLabel j w) (q : r ≡ are-equal (merges t) a b) (two : r ≡ false) where
+module _ {t : List ℕ} {a b : ℕ} {r : Bool} (n : ℕ) (j : Given.EqJust) (w : LabelWords.LabelWords) (h : HoldsLabel j w)
+    (q : r ≡ are-equal (merges t) a b) (two : r ≡ false) where
   pub joinable-label : TwoNodes t a b → n ≡ pairs-in-force (merges t) → n ≤ max-pairs → Joinable t a b (w .kind) (w .theory) (w .value) n
   joinable-label s p top =
-      let c = plain t n j w h in
-      let start = c .start in
+      let start = h .no-pairs n in
       record {
         sound = s .sound;
         nodes = (s .first, s .second);
         two = sym q ∙ two;
-        known = c .known;
-        theory = c .theory;
-        value = c .value;
+        known = h .known;
+        theory = h .theory;
+        value = h .value;
         start = start ∙ p;
         ordered = omega arith;
         fit = top;
-        pairs = λ x i. absurd (subst (λ (ps : List (ℕ × ℕ)). In x ps) (c .none) i);
+        pairs = λ x i. absurd (subst (λ (ps : List (ℕ × ℕ)). In x ps) (ap pairs-of (h .is t n) ∙ plain j) i);
       }
 
-  pub merged-label : {u : List ℕ} → Engine u (record { a = a; b = b; just = label t (w .kind) (w .theory) (w .value) n; level = level-word t } ∷ merges t) (level-word t) → Merges t u a b (just-meaning j)
-  merged-label = merged-two (label t (w .kind) (w .theory) (w .value) n) (just-meaning j) (sym q ∙ two) (plain t n j w h .is)
+  pub merged-label : {u : List ℕ} →
+      Engine u (record { a = a; b = b; just = label t (w .kind) (w .theory) (w .value) n; level = level-word t } ∷ merges t)
+      (level-word t) → Merges t u a b (just-meaning j)
+  merged-label = merged-two (label t (w .kind) (w .theory) (w .value) n) (just-meaning j) (sym q ∙ two) (h .is t n)
 
 -- ---- argument pairs written one after the other
 
@@ -132,7 +108,8 @@ copying-first {t} r = record {
   new = λ j h. absurd (omega arith);
 }
 
-pub copying-next : {t₀ t u v : List ℕ} {start : ℕ} {xs ys : List ℕ} {i x y : ℕ} → CopyingPairs t₀ t start xs ys i → i < length xs → x ≡ at xs 0 i → y ≡ at ys 0 i → u ≡ put t LEFT (start + i) x → v ≡ put u RIGHT (start + i) y → CopyingPairs t₀ v start xs ys (i + 1)
+pub copying-next : {t₀ t u v : List ℕ} {start : ℕ} {xs ys : List ℕ} {i x y : ℕ} → CopyingPairs t₀ t start xs ys i → i < length xs →
+    x ≡ at xs 0 i → y ≡ at ys 0 i → u ≡ put t LEFT (start + i) x → v ≡ put u RIGHT (start + i) y → CopyingPairs t₀ v start xs ys (i + 1)
 copying-next {t₀} {t} {u} {v} {start} {xs} {ys} {i} {x} {y} c h p q e g =
     let l = c .long in
     let ws = LEFT ∷ RIGHT ∷ [] in
@@ -160,7 +137,8 @@ copying-next {t₀} {t} {u} {v} {start} {xs} {ys} {i} {x} {y} c h p q e g =
         let d : eqb j (start + i) ≡ false = ne-eqb j (start + i) (omega arith) in
         search (g, e, d, stores)
 
-pub copying-done : {t₀ t : List ℕ} {start : ℕ} {xs ys : List ℕ} {i : ℕ} → CopyingPairs t₀ t start xs ys i → length xs ≤ i → Copied t₀ t start xs ys
+pub copying-done : {t₀ t : List ℕ} {start : ℕ} {xs ys : List ℕ} {i : ℕ} → CopyingPairs t₀ t start xs ys i → length xs ≤ i →
+    Copied t₀ t start xs ys
 copying-done c h = record { kept = c .kept; older = c .older; new = λ j k. c .new j (omega arith) }
 
 -- ---- a label of pairs
@@ -172,7 +150,8 @@ zip-length (x ∷ xs) [] e = absurd (omega arith)
 zip-length (x ∷ xs) (y ∷ ys) e = ap suc (zip-length xs ys (omega arith))
 
 -- a merge whose pairs fit leaves room for them
-pub pairs-room : {t : List ℕ} {a b start : ℕ} {xs ys : List ℕ} {r : Bool} → Congruent t a b xs ys → r ≡ are-equal (merges t) a b → r ≡ false → start ≡ pairs-in-force (merges t) → PairRoom t start xs ys
+pub pairs-room : {t : List ℕ} {a b start : ℕ} {xs ys : List ℕ} {r : Bool} → Congruent t a b xs ys → r ≡ are-equal (merges t) a b →
+    r ≡ false → start ≡ pairs-in-force (merges t) → PairRoom t start xs ys
 unfolding pairs-of
 pairs-room {t} {a} {b} {start} {xs} {ys} s q two p =
     let j = Congruence (zip xs ys) in
@@ -183,7 +162,8 @@ pairs-room {t} {a} {b} {start} {xs} {ys} s q two p =
     record { long = s .nodes .sound .long; same-count = s .same-count; fit = omega arith }
 
 -- and pairs for which there is room fit
-pub room-pairs : (ms : List Merge) (l a b : ℕ) (xs ys : List ℕ) → length xs ≡ length ys → pairs-in-force ms + length xs ≤ max-pairs → pairs-in-force (merge ms l a b (Congruence (zip xs ys))) ≤ max-pairs
+pub room-pairs : (ms : List Merge) (l a b : ℕ) (xs ys : List ℕ) → length xs ≡ length ys → pairs-in-force ms + length xs ≤ max-pairs →
+    pairs-in-force (merge ms l a b (Congruence (zip xs ys))) ≤ max-pairs
 unfolding merge pairs-of
 room-pairs ms l a b xs ys e f = go (are-equal ms a b)
   where
@@ -192,7 +172,8 @@ room-pairs ms l a b xs ys e f = go (are-equal ms a b)
     go false = omega (arith, zip-length xs ys e, pairs-more (record { a = a; b = b; just = Congruence (zip xs ys); level = l }) ms)
 
 -- pairs by their places
-zip-words : (f g : ℕ → ℕ) (xs ys : List ℕ) (k : ℕ) → length xs ≡ length ys → ((j : ℕ) → j < length xs → (f (k + j) ≡ at xs 0 j) × (g (k + j) ≡ at ys 0 j)) → map (λ j. (f j, g j)) (range k (length xs)) ≡ zip xs ys
+zip-words : (f g : ℕ → ℕ) (xs ys : List ℕ) (k : ℕ) → length xs ≡ length ys →
+    ((j : ℕ) → j < length xs → (f (k + j) ≡ at xs 0 j) × (g (k + j) ≡ at ys 0 j)) → map (λ j. (f j, g j)) (range k (length xs)) ≡ zip xs ys
 unfolding zip range at
 zip-words f g [] ys k e h = refl
 zip-words f g (x ∷ xs) [] k e h = absurd (omega arith)
@@ -208,7 +189,8 @@ zip-words f g (x ∷ xs) (y ∷ ys) k e h =
     shift : (x : ℕ) (xs : List ℕ) (j : ℕ) → at (x ∷ xs) 0 (suc j) ≡ at xs 0 j
     shift x xs j = rw (zero-add (suc j), zero-add j)
 
-module _ {t u : List ℕ} {start : ℕ} {xs ys : List ℕ} {a b : ℕ} {r : Bool} (s : Congruent t a b xs ys) (p : start ≡ pairs-in-force (merges t)) (c : Copied t u start xs ys) (q : r ≡ are-equal (merges t) a b) (two : r ≡ false) where
+module _ {t u : List ℕ} {start : ℕ} {xs ys : List ℕ} {a b : ℕ} {r : Bool} (s : Congruent t a b xs ys)
+    (p : start ≡ pairs-in-force (merges t)) (c : Copied t u start xs ys) (q : r ≡ are-equal (merges t) a b) (two : r ≡ false) where
   z : EngineSound t
   z = s .nodes .sound
 
@@ -269,10 +251,13 @@ module _ {t u : List ℕ} {start : ℕ} {xs ys : List ℕ} {a b : ℕ} {r : Bool
             (subst (λ (ms : List Merge). EqualPairs ms (zip xs ys)) (sym copied-merges) (s .equal));
       }
 
-  pub merged-pairs : {v : List ℕ} {n : ℕ} → n ≡ start + length xs → Engine v (record { a = a; b = b; just = label u 1 0 start n; level = level-word u } ∷ merges u) (level-word u) → Merges t v a b (Congruence (zip xs ys))
+  pub merged-pairs : {v : List ℕ} {n : ℕ} → n ≡ start + length xs →
+      Engine v (record { a = a; b = b; just = label u 1 0 start n; level = level-word u } ∷ merges u) (level-word u) → Merges t v a b
+      (Congruence (zip xs ys))
   merged-pairs {v} {n} e g =
       merged-two (label u 1 0 start n) (Congruence (zip xs ys)) (sym q ∙ two) (label-is n e) (record {
         sound = g .sound;
-        log = g .log ∙ ap₂ (λ (l : ℕ) (ms : List Merge). record { a = a; b = b; just = label u 1 0 start n; level = l } ∷ ms) level-kept copied-merges;
+        log = g .log ∙ ap₂ (λ (l : ℕ) (ms : List Merge). record { a = a; b = b; just = label u 1 0 start n; level = l } ∷ ms) level-kept
+            copied-merges;
         at-level = g .at-level ∙ level-kept;
       })

@@ -58,7 +58,8 @@ merge-same t u i s p =
 pub start-same : (t u : List ℕ) (i : ℕ) → SameEntry t u i → pairs-start u i ≡ pairs-start t i
 unfolding pairs-start
 start-same t u i s =
-    ap (λ (w : ℕ). begins (kind-of w) (value-word u i) (after-word u i)) (s .label) ∙ ap₂ (begins (kind-of (label-word t i))) (s .value) (s .after)
+    ap (λ (w : ℕ). begins (kind-of w) (value-word u i) (after-word u i)) (s .label) ∙ ap₂ (begins (kind-of (label-word t i))) (s .value)
+    (s .after)
 
 pub log-shorter : (t u : List ℕ) (n m : ℕ) → m ≤ n → SameLog t u n → SameLog t u m
 log-shorter t u n m l s = record { entries = λ i h. s .entries i (omega arith); pairs = λ i h. s .pairs i (omega arith) }
@@ -140,7 +141,8 @@ newest-pairs : (t : List ℕ) (i : ℕ) → EngineSound t → merges# t ≡ suc 
 unfolding merges
 newest-pairs t i z e = after-is t i z (omega arith) ∙ ap (λ (k : ℕ). pairs-in-force (merges-below t k)) (sym e)
 
-pub pairs-newest : {t : List ℕ} {n r : ℕ} → EngineSound t → n ≡ merges# t → (n ≡ 0 → ⊥) → r ≡ after-word t (n - 1) → (r ≡ pairs-in-force (merges t)) × (r ≤ max-pairs)
+pub pairs-newest : {t : List ℕ} {n r : ℕ} → EngineSound t → n ≡ merges# t → (n ≡ 0 → ⊥) → r ≡ after-word t (n - 1) →
+    (r ≡ pairs-in-force (merges t)) × (r ≤ max-pairs)
 pairs-newest {t} {n} z e h f =
     let p = newest-pairs t (n - 1) z (omega arith) in
     let b = z .entries (n - 1) (omega arith) .fit in
@@ -159,7 +161,8 @@ unfolding merges-below
 pairs-fewer t i zero h = let e : i ≡ 0 = omega arith in let q = ap (λ (k : ℕ). pairs-in-force (merges-below t k)) e in omega arith
 pairs-fewer t i (suc n) h = go (decLe i n) (pairs-fewer t i n)
   where
-    go : Dec (i ≤ n) → (i ≤ n → pairs-in-force (merges-below t i) ≤ pairs-in-force (merges-below t n)) → pairs-in-force (merges-below t i) ≤ pairs-in-force (merges-below t (suc n))
+    go : Dec (i ≤ n) → (i ≤ n → pairs-in-force (merges-below t i) ≤ pairs-in-force (merges-below t n)) →
+        pairs-in-force (merges-below t i) ≤ pairs-in-force (merges-below t (suc n))
     go (yes l) f = let r = f l in omega (arith, pairs-more (merge-at t n) (merges-below t n))
     go (no l) f = let e : i ≡ suc n = omega arith in let q = ap (λ (k : ℕ). pairs-in-force (merges-below t k)) e in omega arith
 

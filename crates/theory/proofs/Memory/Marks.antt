@@ -50,7 +50,12 @@ record Stored (b : Bool) (ks ls : List ℕ) (j : ℕ) : Type 0 where
 store : (b : Bool) (ks : List ℕ) (j : ℕ) → j < length ks → Stored b ks (cond b (put ks MARKS j 1) ks) j
 unfolding marked at put
 store true ks j h =
-    record { long = length-put ks MARKS j 1; rest = λ i. other-place ks MARKS j i 1; mark = ap marked (getD-set-same ks (MARKS + j) 1 0 (omega arith)) }
+    record {
+      long = length-put ks MARKS j 1;
+      rest = λ i. other-place ks MARKS j i 1;
+      mark = ap marked
+          (getD-set-same ks (MARKS + j) 1 0 (omega arith));
+    }
 store false ks j h = record { long = refl; rest = λ i d. refl; mark = refl }
 
 -- the pairs below j are marked as they should be, the others as they were

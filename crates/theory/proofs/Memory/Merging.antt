@@ -33,9 +33,16 @@ use Rattle.theory.proofs.Memory.SoundTables.{edge-words, Grown, grown-m
 -- ---- the forest
 
 pub upward-root : {t : List ℕ} {a b r : ℕ} → TwoNodes t a b → r ≡ end a (way (merges t) a) → Upward t a r
-upward-root {t} {a} s e = record { sound = s .sound; is-node = s .first; above = subst (λ (n : ℕ). On n a (way (merges t) a)) (sym e) (end-on (way (merges t) a) a) }
+upward-root {t} {a} s e = record {
+  sound = s .sound;
+  is-node = s .first;
+  above = subst (λ (n : ℕ). On n a (way (merges t) a)) (sym e)
+      (end-on (way (merges t) a) a);
+}
 
-module _ {t t₁ t₂ t₃ t₄ : List ℕ} {a b i r : ℕ} (s : TwoNodes t a b) (k : i < max-terms) (e : r ≡ end a (way (merges t) a)) (c : Rerooted t t₁ a (before r (way (merges t) a))) (e₂ : t₂ ≡ put t₁ FPARENT a b) (e₃ : t₃ ≡ put t₂ FEDGE a i) (e₄ : t₄ ≡ put t₃ FROOT i r) where
+module _ {t t₁ t₂ t₃ t₄ : List ℕ} {a b i r : ℕ} (s : TwoNodes t a b) (k : i < max-terms) (e : r ≡ end a (way (merges t) a))
+    (c : Rerooted t t₁ a (before r (way (merges t) a))) (e₂ : t₂ ≡ put t₁ FPARENT a b) (e₃ : t₃ ≡ put t₂ FEDGE a i)
+    (e₄ : t₄ ≡ put t₃ FROOT i r) where
   whole : before r (way (merges t) a) ≡ way (merges t) a
   whole = ap (λ (n : ℕ). before n (way (merges t) a)) e ∙ before-end (way (merges t)) (sound-forest t (s .sound)) a
 
@@ -79,12 +86,14 @@ module _ {t t₁ t₂ t₃ t₄ : List ℕ} {a b i r : ℕ} (s : TwoNodes t a b)
 
 -- ---- the two roots by the test of their sizes
 
-pub united-second : (t : List ℕ) (ra rb i : ℕ) {u : List ℕ} {x y : ℕ} → x ≡ size-word t rb → y ≡ size-word t ra → x ≤ y → u ≡ united t rb ra i → u ≡ united t (child (size-word t) ra rb) (root (size-word t) ra rb) i
+pub united-second : (t : List ℕ) (ra rb i : ℕ) {u : List ℕ} {x y : ℕ} → x ≡ size-word t rb → y ≡ size-word t ra → x ≤ y →
+    u ≡ united t rb ra i → u ≡ united t (child (size-word t) ra rb) (root (size-word t) ra rb) i
 unfolding child root
 united-second t ra rb i {u} p q h c =
     subst (λ (v : Bool). u ≡ united t (cond v rb ra) (cond v ra rb) i) (sym (le-leb (size-word t rb) (size-word t ra) (omega arith))) c
 
-pub united-first : (t : List ℕ) (ra rb i : ℕ) {u : List ℕ} {x y : ℕ} → x ≡ size-word t rb → y ≡ size-word t ra → y < x → u ≡ united t ra rb i → u ≡ united t (child (size-word t) ra rb) (root (size-word t) ra rb) i
+pub united-first : (t : List ℕ) (ra rb i : ℕ) {u : List ℕ} {x y : ℕ} → x ≡ size-word t rb → y ≡ size-word t ra → y < x →
+    u ≡ united t ra rb i → u ≡ united t (child (size-word t) ra rb) (root (size-word t) ra rb) i
 unfolding child root
 united-first t ra rb i {u} p q h c =
     subst (λ (v : Bool). u ≡ united t (cond v rb ra) (cond v ra rb) i) (sym (lt-leb (size-word t rb) (size-word t ra) (omega arith))) c
@@ -92,7 +101,9 @@ united-first t ra rb i {u} p q h c =
 -- ---- the forest with the new edge
 
 -- the words of the forest after a splice, in a table where the new merge stands in the log
-module _ {t s u : List ℕ} {m : Merge} (z : EngineSound t) (two : are-equal (merges t) (m .a) (m .b) ≡ false) (c : Spliced t s (m .a) (m .b) (merges# t)) (log : SameLog t u (merges# t)) (count : merges# u ≡ suc (merges# t)) (new : merge-at u (merges# t) ≡ m) (f : (x : ℕ) → IsNode x → SameNode s u x) where
+module _ {t s u : List ℕ} {m : Merge} (z : EngineSound t) (two : are-equal (merges t) (m .a) (m .b) ≡ false)
+    (c : Spliced t s (m .a) (m .b) (merges# t)) (log : SameLog t u (merges# t)) (count : merges# u ≡ suc (merges# t))
+    (new : merge-at u (merges# t) ≡ m) (f : (x : ℕ) → IsNode x → SameNode s u x) where
   W : ℕ → List Step
   W = way (merges t)
 
@@ -128,7 +139,8 @@ module _ {t s u : List ℕ} {m : Merge} (z : EngineSound t) (two : are-equal (me
   unfolding W F
   edge-turned x h (v, s′, w, i, p, e) =
       let first : In s′ (W v) = subst (λ (y : List Step). In s′ y) (sym p) (inl refl) in
-      let o = c .turned s′ (subst (λ (y : List Step). In s′ y) (sym (split W F v (m .a) i)) (in-right s′ (before v (W (m .a))) (W v) first)) in
+      let o = c .turned s′ (subst (λ (y : List Step). In s′ y) (sym (split W F v (m .a) i))
+      (in-right s′ (before v (W (m .a))) (W v) first)) in
       let q : s′ .node ≡ v = F v s′ w p .0 in
       let (a, b, j, d) = subst (FirstEdge t v) p (z .forest v (subst IsNode q (way-within t z v s′ first .0))) in
       let k = merge-at t (fedge-word t v) in
@@ -162,25 +174,26 @@ module _ {t s u : List ℕ} {m : Merge} (z : EngineSound t) (two : are-equal (me
 
 -- ---- all steps together
 
--- what stands in u after the stores of entry n and of the class that goes under
-record Written (s u : List ℕ) (n low high a b w v e : ℕ) : Type 0 where
+-- what stands in u after the stores of entry n, by which the root `under` goes under the root `over`
+record Written (s u : List ℕ) (n under over a b w v e : ℕ) : Type 0 where
   long : engine-size ≤ length u
   count : merges# u ≡ n + 1
   level : level-word u ≡ level-word s
-  parents : (x : ℕ) → IsNode x → parent-word u x ≡ cond (eqb x low) high (parent-word s x)
-  sizes : (x : ℕ) → IsNode x → size-word u x ≡ cond (eqb x high) (size-word s low + size-word s high) (size-word s x)
+  parents : (x : ℕ) → IsNode x → parent-word u x ≡ cond (eqb x under) over (parent-word s x)
+  sizes : (x : ℕ) → IsNode x → size-word u x ≡ cond (eqb x over) (size-word s under + size-word s over) (size-word s x)
   nodes : (x : ℕ) → IsNode x → SameNode s u x
   side-a : a-word u n ≡ a
   side-b : b-word u n ≡ b
   label-now : label-word u n ≡ w
   value-now : value-word u n ≡ v
-  child-now : child-word u n ≡ low
+  child-now : child-word u n ≡ under
   froot-now : froot-word u n ≡ froot-word s n
   after-now : after-word u n ≡ e
   older : (j : ℕ) → j < n → SameEntry s u j
   pairs : (j : ℕ) → j < max-pairs → (left-word u j ≡ left-word s j) × (right-word u j ≡ right-word s j)
 
-written : {s u : List ℕ} {n low high a b w v e : ℕ} → engine-size ≤ length s → n < max-terms → IsNode low → IsNode high → u ≡ put (logged (united s low high n) n a b w v e) COUNTS MERGES (n + 1) → Written s u n low high a b w v e
+written : {s u : List ℕ} {n under over a b w v e : ℕ} → engine-size ≤ length s → n < max-terms → IsNode under → IsNode over →
+    u ≡ put (logged (united s under over n) n a b w v e) COUNTS MERGES (n + 1) → Written s u n under over a b w v e
 unfolding united logged
 written {n = n} l k p q f = record {
   long = search (f, stores);
@@ -200,7 +213,8 @@ written {n = n} l k p q f = record {
   pairs = λ j h. search (f, stores);
 }
 
-module _ {t t₁ : List ℕ} {a b kind h v e ra rb : ℕ} (J : Joinable t a b kind h v e) (fa : ra ≡ find (merges t) a) (fb : rb ≡ find (merges t) b) (c : Spliced t t₁ a b (merges# t)) where
+module _ {t t₁ : List ℕ} {a b kind h v e ra rb : ℕ} (J : Joinable t a b kind h v e) (fa : ra ≡ find (merges t) a)
+    (fb : rb ≡ find (merges t) b) (c : Spliced t t₁ a b (merges# t)) where
   m : Merge
   m = record { a = a; b = b; just = label t kind h v e; level = level-word t }
 
@@ -213,27 +227,24 @@ module _ {t t₁ : List ℕ} {a b kind h v e ra rb : ℕ} (J : Joinable t a b ki
   root-b : IsNode rb
   root-b = subst IsNode (sym fb) (find-within max-terms (merges t) (merges-within t (J .sound)) b (J .nodes .1))
 
-  compared : leb (size-word t₁ rb) (size-word t₁ ra) ≡ leb (classes (merges t) .size (find (merges t) b)) (classes (merges t) .size (find (merges t) a))
-  compared =
-      ap₂ leb (sizes-then rb root-b ∙ ap (λ (k : ℕ). classes (merges t) .size k) fb) (sizes-then ra root-a ∙ ap (λ (k : ℕ). classes (merges t) .size k) fa)
-
-  low-is : child (size-word t₁) ra rb ≡ child-of (merges t) m
+  child-is : child (size-word t₁) ra rb ≡ child-of (merges t) m
   unfolding child child-of find m
-  low-is = ap (λ (d : Bool). cond d rb ra) compared ∙ ap₂ (cond (leb (classes (merges t) .size (find (merges t) b)) (classes (merges t) .size (find (merges t) a)))) fb fa
+  child-is = rw (sizes-then ra root-a, sizes-then rb root-b, fa, fb)
 
-  high-is : root (size-word t₁) ra rb ≡ root-of (merges t) m
+  root-is : root (size-word t₁) ra rb ≡ root-of (merges t) m
   unfolding root root-of find m
-  high-is = ap (λ (d : Bool). cond d ra rb) compared ∙ ap₂ (cond (leb (classes (merges t) .size (find (merges t) b)) (classes (merges t) .size (find (merges t) a)))) fa fb
+  root-is = rw (sizes-then ra root-a, sizes-then rb root-b, fa, fb)
 
-  low-node : IsNode (child-of (merges t) m)
+  child-node : IsNode (child-of (merges t) m)
   unfolding m
-  low-node = child-within max-terms m (merges t) (merges-within t (J .sound)) (J .nodes)
+  child-node = child-within max-terms m (merges t) (merges-within t (J .sound)) (J .nodes)
 
-  high-node : IsNode (root-of (merges t) m)
+  root-node : IsNode (root-of (merges t) m)
   unfolding m
-  high-node = root-within max-terms m (merges t) (merges-within t (J .sound)) (J .nodes)
+  root-node = root-within max-terms m (merges t) (merges-within t (J .sound)) (J .nodes)
 
-  module _ {u : List ℕ} (w : Written t₁ u (merges# t) (child-of (merges t) m) (root-of (merges t) m) a b (label-code (level-word t) kind h) v e) where
+  module _ {u : List ℕ} (w : Written t₁ u (merges# t) (child-of (merges t) m) (root-of (merges t) m) a b
+      (label-code (level-word t) kind h) v e) where
     same-log : SameLog t u (merges# t)
     same-log = record {
       entries = λ j g.
@@ -265,24 +276,27 @@ module _ {t t₁ : List ℕ} {a b kind h v e ra rb : ℕ} (J : Joinable t a b ki
     start-now : pairs-start u (merges# t) ≡ begins kind v e
     unfolding pairs-start
     start-now =
-        ap (λ (k : ℕ). begins k (value-word u (merges# t)) (after-word u (merges# t))) code ∙ ap₂ (begins kind) (w .value-now) (w .after-now)
+        ap (λ (k : ℕ). begins k (value-word u (merges# t)) (after-word u (merges# t))) code ∙ ap₂ (begins kind) (w .value-now)
+        (w .after-now)
 
     merge-now : merge-at u (merges# t) ≡ m
     unfolding merge-at m
     merge-now =
         let j = just-now in
-        let l : level-of (label-word u (merges# t)) ≡ level-word t = ap level-of (w .label-now) ∙ level-is (level-word t) kind h (J .known) (J .theory) in
+        let l : level-of (label-word u (merges# t)) ≡ level-word t = ap level-of (w .label-now) ∙ level-is (level-word t) kind h
+        (J .known) (J .theory) in
         λ n. record { a = w .side-a n; b = w .side-b n; just = j n; level = l n }
 
     parents-now : (x : ℕ) → IsNode x → parent-word u x ≡ parent (m ∷ merges t) x
     unfolding parent
-    parents-now x l = w .parents x l ∙ ap (cond (eqb x (child-of (merges t) m)) (root-of (merges t) m)) (c .kept .rest PARENT x tt l ∙ J .sound .parents x l)
+    parents-now x l = w .parents x l ∙ ap (cond (eqb x (child-of (merges t) m)) (root-of (merges t) m))
+        (c .kept .rest PARENT x tt l ∙ J .sound .parents x l)
 
     sizes-now : (x : ℕ) → IsNode x → size-word u x ≡ classes (m ∷ merges t) .size x
     sizes-now x l =
         w .sizes x l
         ∙ ap₂ (cond (eqb x (root-of (merges t) m)))
-        (ap₂ _+_ (sizes-then (child-of (merges t) m) low-node) (sizes-then (root-of (merges t) m) high-node))
+        (ap₂ _+_ (sizes-then (child-of (merges t) m) child-node) (sizes-then (root-of (merges t) m) root-node))
         (sizes-then x l)
         ∙ sym (size-more m (merges t) x)
 
@@ -308,22 +322,28 @@ module _ {t t₁ : List ℕ} {a b kind h v e ra rb : ℕ} (J : Joinable t a b ki
     }
 
 -- the label of the words is the new merge's, at the present level
-pub joined : {t t₁ t₂ t₃ u : List ℕ} {a b kind h v e ra rb i l : ℕ} → Joinable t a b kind h v e → i ≡ merges# t → l ≡ level-word t → ra ≡ find (merges t) a → rb ≡ find (merges t) b → Spliced t t₁ a b i → t₂ ≡ united t₁ (child (size-word t₁) ra rb) (root (size-word t₁) ra rb) i → t₃ ≡ logged t₂ i a b (label-code l kind h) v e → u ≡ put t₃ COUNTS MERGES (i + 1) → Engine u (record { a = a; b = b; just = label t kind h v e; level = level-word t } ∷ merges t) (level-word t)
+pub joined : {t t₁ t₂ t₃ u : List ℕ} {a b kind h v e ra rb i l : ℕ} → Joinable t a b kind h v e → i ≡ merges# t → l ≡ level-word t →
+    ra ≡ find (merges t) a → rb ≡ find (merges t) b → Spliced t t₁ a b i → t₂ ≡ united t₁ (child (size-word t₁) ra rb)
+    (root (size-word t₁) ra rb) i → t₃ ≡ logged t₂ i a b (label-code l kind h) v e → u ≡ put t₃ COUNTS MERGES (i + 1) → Engine u
+    (record { a = a; b = b; just = label t kind h v e; level = level-word t } ∷ merges t) (level-word t)
 unfolding m
 joined {t} {t₁} {t₂} {t₃} {u} {a} {b} {kind} {h} {v} {e} {ra} {rb} {i} {l} J p q fa fb s e₂ e₃ e₄ =
     let c = subst (Spliced t t₁ a b) p s in
     let z = J .sound in
     let long : engine-size ≤ length t₁ = let k = c .kept .long in let n = z .long in omega arith in
-    let n = low-is J fa fb c in
-    let o = high-is J fa fb c in
-    let stored = e₄ ∙ ap (λ (y : List ℕ). put y COUNTS MERGES (i + 1)) (e₃ ∙ ap (λ (y : List ℕ). logged y i a b (label-code l kind h) v e) e₂) in
-    let w : Written t₁ u (merges# t) (child-of (merges t) (m J fa fb c)) (root-of (merges t) (m J fa fb c)) a b (label-code (level-word t) kind h) v e =
-    written long (z .fewer) (low-node J fa fb c) (high-node J fa fb c) (rw (← n, ← o, ← p, ← q) stored) in
+    let n = child-is J fa fb c in
+    let o = root-is J fa fb c in
+    let stored = e₄ ∙ ap (λ (y : List ℕ). put y COUNTS MERGES (i + 1))
+    (e₃ ∙ ap (λ (y : List ℕ). logged y i a b (label-code l kind h) v e) e₂) in
+    let w : Written t₁ u (merges# t) (child-of (merges t) (m J fa fb c)) (root-of (merges t) (m J fa fb c)) a b
+    (label-code (level-word t) kind h) v e =
+    written long (z .fewer) (child-node J fa fb c) (root-node J fa fb c) (rw (← n, ← o, ← p, ← q) stored) in
     let g = grown J fa fb c w in
     record { sound = grown-sound z g; log = grown-merges z g; at-level = g .level }
 
 -- two classes have fewer terms than a word holds
-pub classes-fit : {t t₁ : List ℕ} {a b i ra rb : ℕ} → EngineSound t → i ≡ merges# t → Spliced t t₁ a b i → IsNode ra → IsNode rb → TwoClasses t₁ ra rb i
+pub classes-fit : {t t₁ : List ℕ} {a b i ra rb : ℕ} → EngineSound t → i ≡ merges# t → Spliced t t₁ a b i → IsNode ra → IsNode rb →
+    TwoClasses t₁ ra rb i
 classes-fit {t} {t₁} {a} {b} {i} {ra} {rb} z k c h g =
     let p : size-word t₁ ra ≡ classes (merges t) .size ra = c .kept .rest SIZE ra tt h ∙ z .sizes ra h in
     let q : size-word t₁ rb ≡ classes (merges t) .size rb = c .kept .rest SIZE rb tt g ∙ z .sizes rb g in

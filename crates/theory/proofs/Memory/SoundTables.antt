@@ -25,7 +25,8 @@ use Rattle.theory.proofs.Memory.Log.{just-same, merge-same, start-same,
 -- ---- first edges
 
 -- the first edge of a node, by its words and an entry of the log that was there
-pub edge-words : {t u : List ℕ} {n x e : ℕ} (s : Step) (w : List Step) → SameLog t u n → e < n → e < merges# u → fparent-word u x ≡ s .up → fedge-word u x ≡ e → just-at t e ≡ s .just → BothSides (merge-at t e) x (s .up) → FirstEdge u x (s ∷ w)
+pub edge-words : {t u : List ℕ} {n x e : ℕ} (s : Step) (w : List Step) → SameLog t u n → e < n → e < merges# u →
+    fparent-word u x ≡ s .up → fedge-word u x ≡ e → just-at t e ≡ s .just → BothSides (merge-at t e) x (s .up) → FirstEdge u x (s ∷ w)
 edge-words {t} {u} {n} {x} {e} s w g h l p q j b =
     let je = just-same t u e (g .entries e h) (g .pairs e h) in
     let me = merge-same t u e (g .entries e h) (g .pairs e h) in (
@@ -36,7 +37,8 @@ edge-words {t} {u} {n} {x} {e} s w g h l p q j b =
     )
 
 -- a first edge stays where its words and the log do
-pub edge-kept : {t u : List ℕ} {x : ℕ} (w : List Step) → SameLog t u (merges# t) → merges# t ≤ merges# u → SameNode t u x → FirstEdge t x w → FirstEdge u x w
+pub edge-kept : {t u : List ℕ} {x : ℕ} (w : List Step) → SameLog t u (merges# t) → merges# t ≤ merges# u → SameNode t u x →
+    FirstEdge t x w → FirstEdge u x w
 edge-kept [] g c k e = k .parent ∙ e
 edge-kept (s ∷ w) g c k (f, l, j, b) = edge-words s w g l (omega arith) (k .parent ∙ f) (k .edge) j b
 
@@ -97,7 +99,8 @@ module _ {t u : List ℕ} {n : ℕ} (z : EngineSound t) (s : Shortened t u n) wh
     justified = subst Justified (sym shorter-merges) (justified-suffix (merges-below t n) (merges t) suffix (z .justified));
     pair-nodes = λ m i p j.
         z .pair-nodes m (in-suffix (merges-below t n) (merges t) m suffix (subst (λ (ms : List Merge). In m ms) shorter-merges i)) p j;
-    entries = λ i h. let k = there i h in entry-same (log-shorter t u n i (omega arith) (s .log)) (s .log .entries i k) (s .log .pairs i k) (z .entries i (inside i k));
+    entries = λ i h. let k = there i h in entry-same (log-shorter t u n i (omega arith) (s .log)) (s .log .entries i k)
+        (s .log .pairs i k) (z .entries i (inside i k));
     levels-fit = s .levels-fit;
     levels = λ i h. let k = there i h in let e = level-same i k in let f = s .levels i k in omega arith;
     levels-rise = λ i h.
@@ -114,7 +117,8 @@ module _ {t u : List ℕ} {n : ℕ} (z : EngineSound t) (s : Shortened t u n) wh
 -- ---- the level alone
 
 -- another level, not below that of any merge
-module _ {t u : List ℕ} {v : ℕ} (z : EngineSound t) (e : u ≡ put t COUNTS LEVEL v) (f : v ≤ max-levels) (g : (i : ℕ) → i < merges# t → level-of (label-word t i) ≤ v) where
+module _ {t u : List ℕ} {v : ℕ} (z : EngineSound t) (e : u ≡ put t COUNTS LEVEL v) (f : v ≤ max-levels)
+    (g : (i : ℕ) → i < merges# t → level-of (label-word t i) ≤ v) where
   level-now : level-word u ≡ v
   level-now = let l = z .long in search (e, stores)
 
@@ -146,7 +150,8 @@ module _ {t u : List ℕ} {v : ℕ} (z : EngineSound t) (e : u ≡ put t COUNTS 
   unfolding merges
   level-put = record { sound = shorter-sound z levelled; log = shorter-merges z levelled; at-level = level-now }
 
-pub pushed : {t u : List ℕ} {n : ℕ} → EngineSound t → level-word t < max-levels → n ≡ level-word t → u ≡ put t COUNTS LEVEL (n + 1) → Engine u (merges t) (suc (level-word t))
+pub pushed : {t u : List ℕ} {n : ℕ} → EngineSound t → level-word t < max-levels → n ≡ level-word t → u ≡ put t COUNTS LEVEL (n + 1) →
+    Engine u (merges t) (suc (level-word t))
 pushed {t} {u} {n} z h e f =
     let g = level-put z f (omega arith) (λ i l. let k = z .levels i l in omega arith) in
     record { sound = g .sound; log = g .log; at-level = g .at-level ∙ add-one n ∙ ap suc e }
@@ -242,7 +247,8 @@ module _ {t u : List ℕ} {m : Merge} (z : EngineSound t) (g : Grown t u m) wher
         justified = subst Justified (sym grown-merges) justified-now;
         pair-nodes = λ k i p j. pair-nodes-now k (subst (λ (ms : List Merge). In k ms) grown-merges i) p j;
         entries = every-merge (EntrySound u)
-            (λ i h. entry-same (log-shorter t u (merges# t) i (omega arith) (g .log)) (g .log .entries i h) (g .log .pairs i h) (z .entries i h))
+            (λ i h. entry-same (log-shorter t u (merges# t) i (omega arith) (g .log)) (g .log .entries i h) (g .log .pairs i h)
+            (z .entries i h))
             (record {
               nodes = let f = g .nodes in let a = side-a in let b = side-b in (omega arith, omega arith);
               child = g .child ∙ ap₂ child-of (sym rest) (sym (g .new));

@@ -66,7 +66,8 @@ pub record Turning (t₀ t : List ℕ) (node top prev edge cur : ℕ) : Type 0 w
   pub turned : (s : Step) → In s done → Turned t₀ t s
   pub others : (x : ℕ) → IsNode x → (In x (ups done) → ⊥) → SameNode t₀ t x
 
-pub turn-first : {t : List ℕ} {node top edge cur : ℕ} → Upward t node top → edge ≡ fedge-word t node → edge < 4294967296 → cur ≡ fparent-word t node → Turning t t node top node edge cur
+pub turn-first : {t : List ℕ} {node top edge cur : ℕ} → Upward t node top → edge ≡ fedge-word t node → edge < 4294967296 →
+    cur ≡ fparent-word t node → Turning t t node top node edge cur
 turn-first {t} {node} {cur = cur} u e f g = record {
   from = u;
   kept = kept-none engine-room (FPARENT ∷ FEDGE ∷ []) t;
@@ -129,7 +130,8 @@ module _ {t₀ t : List ℕ} {node top prev edge cur : ℕ} (c : Turning t₀ t 
     written : (fparent-word v cur ≡ prev) × (fedge-word v cur ≡ edge)
     written = let w = c .up-within in let l = c .long in search (f, e, stores)
 
-    pub turn-next : {next next-edge : ℕ} → next ≡ fparent-word t cur → next-edge ≡ fedge-word t cur → next-edge < 4294967296 → Turning t₀ v node top cur next-edge next
+    pub turn-next : {next next-edge : ℕ} → next ≡ fparent-word t cur → next-edge ≡ fedge-word t cur → next-edge < 4294967296 →
+        Turning t₀ v node top cur next-edge next
     unfolding W F
     turn-next {next} {next-edge} p q b = go (onward n)
       where
@@ -158,7 +160,8 @@ module _ {t₀ t : List ℕ} {node top prev edge cur : ℕ} (c : Turning t₀ t 
             let ws = FPARENT ∷ FEDGE ∷ [] in
             record {
               from = c .from;
-              kept = rw (f, e) (kept-put engine-room ws t₀ (put t FPARENT cur prev) FEDGE cur edge tt w (kept-put engine-room ws t₀ t FPARENT cur prev tt w (c .kept)));
+              kept = rw (f, e) (kept-put engine-room ws t₀ (put t FPARENT cur prev) FEDGE cur edge tt w
+                  (kept-put engine-room ws t₀ t FPARENT cur prev tt w (c .kept)));
               long = search (f, e, stores);
               within = w;
               up-within = up-node t₀ (c .from .sound) cur next w (p ∙ o .parent);
@@ -166,7 +169,8 @@ module _ {t₀ t : List ℕ} {node top prev edge cur : ℕ} (c : Turning t₀ t 
               done = c .done ++ (g .step ∷ []);
               whole =
                   c .whole
-                  ∙ ap (λ (x : List Step). c .done ++ x) (g .is ∙ ap (λ (x : List Step). g .step ∷ x) (sym (F prev (g .step) (g .rest) (g .is) .1)))
+                  ∙ ap (λ (x : List Step). c .done ++ x) (g .is ∙ ap (λ (x : List Step). g .step ∷ x)
+                  (sym (F prev (g .step) (g .rest) (g .is) .1)))
                   ∙ sym (append-assoc (c .done) (g .step ∷ []) (W (g .step .up)))
                   ∙ ap (λ (x : ℕ). (c .done ++ (g .step ∷ [])) ++ W x) (g .up);
               above = i;
@@ -202,13 +206,15 @@ module _ {t₀ t : List ℕ} {node top prev edge cur : ℕ} (c : Turning t₀ t 
   }
     where
       same-other : (x : ℕ) → IsNode x → (x ≡ node → ⊥) → SameNode t u x
-      same-other x b d = let h = c .from .is-node in let l = c .long in let q : eqb x node ≡ false = ne-eqb x node d in search (e, q, stores)
+      same-other x b d = let h = c .from .is-node in let l = c .long in let q : eqb x node ≡ false = ne-eqb x node d in search
+          (e, q, stores)
 
       -- a way does not come back to its first node
       below : (s : Step) → In s (c .done) → s .up ≡ node → ⊥
       below s i r =
           apart W F (W node) node refl .0 (subst (λ (k : ℕ). In k (ups (W node))) r
-          (subst (λ (w : List Step). In (s .up) (ups w)) (sym (c .whole)) (ups-left (s .up) (c .done) (way (merges t₀) prev) (in-ups s (c .done) i))))
+          (subst (λ (w : List Step). In (s .up) (ups w)) (sym (c .whole))
+          (ups-left (s .up) (c .done) (way (merges t₀) prev) (in-ups s (c .done) i))))
 
       same-word : (s : Step) → In s (c .done) → SameNode t u (s .up)
       same-word s i = same-other (s .up) (done-within s i) (below s i)

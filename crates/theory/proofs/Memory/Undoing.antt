@@ -19,9 +19,9 @@ use Rattle.theory.specs.Memory.Table.{engine-size, COUNTS, MERGES, LEVEL
 use Rattle.theory.specs.Memory.Replay.{ups, On}
 use Rattle.theory.specs.Memory.Steps.{SameLog, Upward, SameNode, Rerooted, Separable, separated, Undoes, newest-above, Drops}
 use Rattle.theory.proofs.Members.{in-right}
-use Rattle.theory.proofs.Classes.{Same, unequal, turned-sides, size-more, roots-apart}
+use Rattle.theory.proofs.Classes.{Same, unequal, turned-sides, roots-apart}
 use Rattle.theory.proofs.Forest.{Joins, Forest, Above, way-over, above?, split, apart, back, new-step, end-on, end-above, step-above, way-forest, step-same, before-skip, before-stop, turned-in, in-turned, turned-above, other-stays, other-root, from-old-root}
-use Rattle.theory.proofs.Sizes.{Within, child-within, root-within}
+use Rattle.theory.proofs.Sizes.{size-other, size-root, Within, child-within, root-within}
 use Rattle.theory.proofs.UnionFind.{child-parent, parent-child, parent-kept}
 use Rattle.theory.proofs.Memory.EngineStores.{stores}
 use Rattle.theory.proofs.Memory.Log.{merges-within, sound-joins, newest-first}
@@ -91,7 +91,8 @@ module _ (t : List ℕ) (i : ℕ) (z : EngineSound t) (N : merges# t ≡ suc i) 
   root-way = ap (λ (l : List Merge). way l (end (m .a) (way ms (m .a)))) split-log ∙ from-old-root m ms joins F
 
   -- steps none of which begins at n, before one that does
-  before-all : (n : ℕ) (u : List Step) (s : Step) (r : List Step) → ((q : Step) → In q u → q .node ≡ n → ⊥) → s .node ≡ n → before n (u ++ (s ∷ r)) ≡ u
+  before-all : (n : ℕ) (u : List Step) (s : Step) (r : List Step) → ((q : Step) → In q u → q .node ≡ n → ⊥) → s .node ≡ n →
+      before n (u ++ (s ∷ r)) ≡ u
   before-all n [] s r f e = before-stop n s r e
   before-all n (q ∷ u) s r f e =
       before-skip n q (u ++ (s ∷ r)) (f q (inl refl)) ∙ ap (λ (w : List Step). q ∷ w) (before-all n u s r (λ p j. f p (inr j)) e)
@@ -143,23 +144,24 @@ module _ (t : List ℕ) (i : ℕ) (z : EngineSound t) (N : merges# t ≡ suc i) 
       z .parents (child-word t i) child-node ∙ ap (λ (l : List Merge). parent l (child-word t i)) split-log
       ∙ parent-child m ms (child-word t i) child-noted
 
-  size-then : (x : ℕ) → IsNode x → size-word t x ≡ cond (eqb x (root-of ms m)) (classes ms .size (child-of ms m) + classes ms .size (root-of ms m)) (classes ms .size x)
-  size-then x h = z .sizes x h ∙ ap (λ (l : List Merge). classes l .size x) split-log ∙ size-more m ms x
+  size-was : (x : ℕ) → IsNode x → size-word t x ≡ classes (m ∷ ms) .size x
+  size-was x h = z .sizes x h ∙ ap (λ (l : List Merge). classes l .size x) split-log
 
-  size-root : size-word t (root-of ms m) ≡ classes ms .size (child-of ms m) + classes ms .size (root-of ms m)
-  size-root = let d = eq-eqb (root-of ms m) (root-of ms m) refl in size-then (root-of ms m) root-of-node ∙ rw d
+  size-over : size-word t (root-of ms m) ≡ classes ms .size (child-of ms m) + classes ms .size (root-of ms m)
+  size-over = size-was (root-of ms m) root-of-node ∙ size-root m ms (root-of ms m) refl
 
-  size-other : (x : ℕ) → IsNode x → (x ≡ root-of ms m → ⊥) → size-word t x ≡ classes ms .size x
-  size-other x h d = let q = ne-eqb x (root-of ms m) d in size-then x h ∙ rw q
+  size-kept : (x : ℕ) → IsNode x → (x ≡ root-of ms m → ⊥) → size-word t x ≡ classes ms .size x
+  size-kept x h d = size-was x h ∙ size-other m ms x d
 
   size-child : size-word t (child-word t i) ≡ classes ms .size (child-of ms m)
   size-child =
-      size-other (child-word t i) child-node (λ q. roots-apart m ms (joins .0) (sym child-noted ∙ q))
+      size-kept (child-word t i) child-node (λ q. roots-apart m ms (joins .0) (sym child-noted ∙ q))
       ∙ ap (λ (k : ℕ). classes ms .size k) child-noted
 
   -- ---- the table after it
 
-  module _ {t₁ u : List ℕ} (c : Rerooted t t₁ (froot-word t i) (before (a-word t i) (way (merges t) (froot-word t i)))) (e : u ≡ put (separated t₁ (child-word t i) (parent-word t₁ (child-word t i))) COUNTS MERGES i) where
+  module _ {t₁ u : List ℕ} (c : Rerooted t t₁ (froot-word t i) (before (a-word t i) (way (merges t) (froot-word t i))))
+      (e : u ≡ put (separated t₁ (child-word t i) (parent-word t₁ (child-word t i))) COUNTS MERGES i) where
     long₁ : engine-size ≤ length t₁
     long₁ = let l = c .kept .long in let k = z .long in omega arith
 
@@ -173,7 +175,8 @@ module _ (t : List ℕ) (i : ℕ) (z : EngineSound t) (N : merges# t ≡ suc i) 
       level : level-word u ≡ level-word t
       log : SameLog t u i
       parents : (x : ℕ) → IsNode x → parent-word u x ≡ cond (eqb x (child-word t i)) (child-word t i) (parent-word t x)
-      sizes : (x : ℕ) → IsNode x → size-word u x ≡ cond (eqb x (root-of ms m)) (size-word t (root-of ms m) - size-word t (child-word t i)) (size-word t x)
+      sizes : (x : ℕ) → IsNode x →
+          size-word u x ≡ cond (eqb x (root-of ms m)) (size-word t (root-of ms m) - size-word t (child-word t i)) (size-word t x)
       nodes-then : (x : ℕ) → IsNode x → SameNode t₁ u x
 
     stored : Stored
@@ -185,14 +188,16 @@ module _ (t : List ℕ) (i : ℕ) (z : EngineSound t) (N : merges# t ≡ suc i) 
         let r = root-then in
         let f = z .fewer in
         let kept = c .kept .rest in
-        let e′ = subst (λ (y : ℕ). u ≡ put (put (put t₁ SIZE y (size-word t₁ y - size-word t₁ (child-word t i))) PARENT (child-word t i) (child-word t i)) COUNTS MERGES i) r e in
+        let e′ = subst (λ (y : ℕ). u ≡ put (put (put t₁ SIZE y (size-word t₁ y - size-word t₁ (child-word t i))) PARENT (child-word t i)
+        (child-word t i)) COUNTS MERGES i) r e in
         record {
           long = search (e′, stores);
           count = search (e′, stores);
           level = search (e′, kept, stores);
           log = record {
             entries = λ j h. let w : j < max-terms = omega arith in search (e′, kept, stores);
-            pairs = λ j h p g. let w : p < max-pairs = let b = z .entries j (omega arith) .fit .1 in omega arith in search (e′, kept, stores);
+            pairs = λ j h p g. let w : p < max-pairs = let b = z .entries j (omega arith) .fit .1 in omega arith in search
+                (e′, kept, stores);
           };
           parents = λ x h. search (e′, kept, stores);
           sizes = λ x h. search (e′, kept, stores);
@@ -213,11 +218,11 @@ module _ (t : List ℕ) (i : ℕ) (z : EngineSound t) (N : merges# t ≡ suc i) 
     sizes-then : (x : ℕ) → IsNode x → Dec (x ≡ root-of ms m) → size-word u x ≡ classes ms .size x
     sizes-then x h (yes q) =
         let d = eq-eqb x (root-of ms m) q in
-        let a = size-root in
+        let a = size-over in
         let b = size-child in
         let f : classes ms .size x ≡ classes ms .size (root-of ms m) = ap (λ (k : ℕ). classes ms .size k) q in
         stored .sizes x h ∙ rw d (omega arith)
-    sizes-then x h (no n) = let d = ne-eqb x (root-of ms m) n in stored .sizes x h ∙ rw d (size-other x h n)
+    sizes-then x h (no n) = let d = ne-eqb x (root-of ms m) n in stored .sizes x h ∙ rw d (size-kept x h n)
 
     -- the edges above the first side are turned back
     edge-back : (x : ℕ) → IsNode x → Above (way ms) x (m .a) → (w : List Step) → way ms x ≡ w → FirstEdge u x w
@@ -247,7 +252,8 @@ module _ (t : List ℕ) (i : ℕ) (z : EngineSound t) (N : merges# t ≡ suc i) 
     turned-on x (inr j) =
         let (q, k, r) = ups-in x (turned (way ms (m .a))) j in
         let (s, l, g) = turned-in (way ms (m .a)) q k in
-        subst (λ (v : ℕ). Above (way ms) v (m .a)) (sym (r ∙ ap (λ (y : Step). y .up) g)) (step-above (way ms) F (way ms (m .a)) (m .a) refl s l)
+        subst (λ (v : ℕ). Above (way ms) v (m .a)) (sym (r ∙ ap (λ (y : Step). y .up) g))
+        (step-above (way ms) F (way ms (m .a)) (m .a) refl s l)
 
     -- all others stay
     edge-other : (x : ℕ) → IsNode x → (Above (way ms) x (m .a) → ⊥) → (w : List Step) → way ms x ≡ w → FirstEdge u x w
@@ -257,7 +263,8 @@ module _ (t : List ℕ) (i : ℕ) (z : EngineSound t) (N : merges# t ≡ suc i) 
         ∙ subst (FirstEdge t x) (ap (λ (l : List Merge). way l x) split-log ∙ other-root m ms joins F x n p) (z .forest x h)
     edge-other x h n (s ∷ w) p =
         let o = reroot .others x h (λ j. n (turned-on x j)) in
-        let (a, b, g, k) = subst (FirstEdge t x) (ap (λ (l : List Merge). way l x) split-log ∙ other-stays m ms joins F x s w n p) (z .forest x h) in
+        let (a, b, g, k) = subst (FirstEdge t x) (ap (λ (l : List Merge). way l x) split-log ∙ other-stays m ms joins F x s w n p)
+        (z .forest x h) in
         let l = older (fedge-word t x) x (s .up) b k (step-same ms F x s w p) in
         edge-words s w (stored .log) l (let q = stored .count in omega arith)
         (stored .nodes-then x h .parent ∙ o .parent ∙ a) (stored .nodes-then x h .edge ∙ o .edge) g k
@@ -291,7 +298,8 @@ module _ (t : List ℕ) (i : ℕ) (z : EngineSound t) (N : merges# t ≡ suc i) 
 
 -- ---- with the words as they were read
 
-module _ {t : List ℕ} {n a r child : ℕ} (z : EngineSound t) (h : 0 < merges# t) (en : n ≡ merges# t) (ea : a ≡ a-word t (n - 1)) (el : child ≡ child-word t (n - 1)) (er : r ≡ froot-word t (n - 1)) where
+module _ {t : List ℕ} {n a r child : ℕ} (z : EngineSound t) (h : 0 < merges# t) (en : n ≡ merges# t) (ea : a ≡ a-word t (n - 1))
+    (el : child ≡ child-word t (n - 1)) (er : r ≡ froot-word t (n - 1)) where
   newest : merges# t ≡ suc (n - 1)
   newest = omega arith
 
@@ -317,7 +325,7 @@ module _ {t : List ℕ} {n a r child : ℕ} (z : EngineSound t) (h : 0 < merges#
         ap (parent-word t₁) el ∙ c .kept .rest PARENT (child-word t i) tt k ∙ root-is t i z newest in
         let s : size-word t₁ child ≡ classes (merges-below t i) .size (child-of (merges-below t i) (merge-at t i)) =
         ap (size-word t₁) el ∙ c .kept .rest SIZE (child-word t i) tt k ∙ size-child t i z newest in
-        let b = ap (size-word t₁) p ∙ c .kept .rest SIZE (root-of (merges-below t i) (merge-at t i)) tt above ∙ size-root t i z newest in
+        let b = ap (size-word t₁) p ∙ c .kept .rest SIZE (root-of (merges-below t i) (merge-at t i)) tt above ∙ size-over t i z newest in
         record {
           long = let l = z .long in let m = c .kept .long in omega arith;
           is-node = subst IsNode (sym el) k;
@@ -337,7 +345,8 @@ pub newest-none : (t : List ℕ) (k : ℕ) {n : ℕ} → n ≡ merges# t → n �
 unfolding merges merges-below newest-above
 newest-none t k e f = sym (ap (λ (i : ℕ). newest-above k (merges-below t i)) (sym e ∙ f))
 
-pub newest-some : (t : List ℕ) (k n : ℕ) {r : ℕ} → n ≡ merges# t → (n ≡ 0 → ⊥) → r ≡ label-word t (n - 1) → ltb k (level-of r) ≡ newest-above k (merges t)
+pub newest-some : (t : List ℕ) (k n : ℕ) {r : ℕ} → n ≡ merges# t → (n ≡ 0 → ⊥) → r ≡ label-word t (n - 1) →
+    ltb k (level-of r) ≡ newest-above k (merges t)
 unfolding merge-at newest-above
 newest-some t k n e h f = ap (λ (w : ℕ). ltb k (level-of w)) f ∙ sym (ap (newest-above k) (newest-first t (n - 1) (omega arith)))
 
@@ -370,7 +379,8 @@ some-above t k q e = go (merges# t) (sym q ∙ e)
     go zero f = absurd (false≢true f)
     go (suc n) f = omega arith
 
-pub popping-next : {t₀ t u : List ℕ} {k : ℕ} {r : Bool} → Popping t₀ t k → r ≡ newest-above k (merges t) → r ≡ true → length u ≡ length t → Undoes t u → Popping t₀ u k
+pub popping-next : {t₀ t u : List ℕ} {k : ℕ} {r : Bool} → Popping t₀ t k → r ≡ newest-above k (merges t) → r ≡ true →
+    length u ≡ length t → Undoes t u → Popping t₀ u k
 popping-next {t₀} {t} {u} {k} c q e l d =
     let f = newest-first t (merges# u) (sym (d .one-less)) in
     record {
@@ -396,19 +406,22 @@ popping-done {t₀} {t} {k} c q e = record {
 -- ---- the level
 
 -- levels rise up to that of the newest merge
-level-newest : (t : List ℕ) (n : ℕ) → EngineSound t → n < merges# t → (i : ℕ) → i ≤ n → level-of (label-word t i) ≤ level-of (label-word t n)
+level-newest : (t : List ℕ) (n : ℕ) → EngineSound t → n < merges# t → (i : ℕ) → i ≤ n →
+    level-of (label-word t i) ≤ level-of (label-word t n)
 level-newest t zero z h i l = let q = ap (λ (j : ℕ). level-of (label-word t j)) (eq-zero l) in omega arith
   where
     eq-zero : {i : ℕ} → i ≤ 0 → i ≡ 0
     eq-zero g = omega arith
 level-newest t (suc n) z h i l = go (decLe i n) (level-newest t n z (omega arith) i)
   where
-    go : Dec (i ≤ n) → (i ≤ n → level-of (label-word t i) ≤ level-of (label-word t n)) → level-of (label-word t i) ≤ level-of (label-word t (suc n))
+    go : Dec (i ≤ n) → (i ≤ n → level-of (label-word t i) ≤ level-of (label-word t n)) →
+        level-of (label-word t i) ≤ level-of (label-word t (suc n))
     go (yes g) f = let a = f g in let b = z .levels-rise n h in omega arith
     go (no g) f = let e : i ≡ suc n = omega arith in let q = ap (λ (j : ℕ). level-of (label-word t j)) e in omega arith
 
 -- with no merge above k in front, none is above k
-all-below : (t : List ℕ) (k : ℕ) → EngineSound t → newest-above k (merges t) ≡ false → (i : ℕ) → i < merges# t → level-of (label-word t i) ≤ k
+all-below : (t : List ℕ) (k : ℕ) → EngineSound t → newest-above k (merges t) ≡ false → (i : ℕ) → i < merges# t →
+    level-of (label-word t i) ≤ k
 unfolding merges merges-below merge-at newest-above
 all-below t k z e i h = go (merges# t) refl e
   where
@@ -438,7 +451,8 @@ popped-none {t} {k} {n} z e l = record {
   unchanged = λ h. refl;
 }
 
-pub popped-some : {t u v : List ℕ} {k n : ℕ} → EngineSound t → n ≡ level-word t → k < n → Drops t u k → v ≡ put u COUNTS LEVEL k → Pops t v k
+pub popped-some : {t u v : List ℕ} {k n : ℕ} → EngineSound t → n ≡ level-word t → k < n → Drops t u k → v ≡ put u COUNTS LEVEL k →
+    Pops t v k
 popped-some {t} {u} {v} {k} z e l d f =
     let s = d .engine .sound in
     let h = z .levels-fit in

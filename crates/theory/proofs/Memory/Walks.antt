@@ -30,7 +30,8 @@ pub record Climb (t : List ℕ) (node n p : ℕ) : Type 0 where
   pub at : p ≡ parent (merges t) n
   pub same : find (merges t) n ≡ find (merges t) node
 
-climbs : {t : List ℕ} {node n p : ℕ} → EngineSound t → IsNode n → p ≡ parent-word t n → find (merges t) n ≡ find (merges t) node → Climb t node n p
+climbs : {t : List ℕ} {node n p : ℕ} → EngineSound t → IsNode n → p ≡ parent-word t n → find (merges t) n ≡ find (merges t) node →
+    Climb t node n p
 climbs {t} {n = n} z h e f =
     let a = e ∙ z .parents n h in
     record {
@@ -45,7 +46,8 @@ pub climb-first : {t : List ℕ} {node p : ℕ} → EngineSound t → IsNode nod
 climb-first z h e = climbs z h e refl
 
 -- what a step up brings
-stepped : {t : List ℕ} {node n p : ℕ} → Climb t node n p → (p ≡ n → ⊥) → (find (merges t) p ≡ find (merges t) n) × (depth (merges t) p < depth (merges t) n)
+stepped : {t : List ℕ} {node n p : ℕ} → Climb t node n p → (p ≡ n → ⊥) →
+    (find (merges t) p ≡ find (merges t) n) × (depth (merges t) p < depth (merges t) n)
 stepped {t} {node} {n} {p} c d = go (up (merges t) (sound-joins t (c .sound)) n)
   where
     go : Up (merges t) n → (find (merges t) p ≡ find (merges t) n) × (depth (merges t) p < depth (merges t) n)
@@ -210,7 +212,8 @@ pub rise-root : {t : List ℕ} {node n d p : ℕ} → Rise t node n d p → p �
 rise-root {t} {node} {n} {d} {p} c e = (sym (ap (end n) (at-a-root t (c .sound) n p (c .within) (c .at) e)) ∙ c .same, c .within)
 
 pub rise-depth : {t : List ℕ} {node n d p : ℕ} → Rise t node n d p → p ≡ n → d ≡ length (way (merges t) node)
-rise-depth {t} {node} {n} {d} {p} c e = let l = ap length (at-a-root t (c .sound) n p (c .within) (c .at) e) in let s = c .sum in omega arith
+rise-depth {t} {node} {n} {d} {p} c e = let l = ap length (at-a-root t (c .sound) n p (c .within) (c .at) e) in let s = c .sum in omega
+    arith
 
 -- ---- two walks that meet
 
@@ -223,7 +226,8 @@ pub record Nearing (t : List ℕ) (a b x y dx dy : ℕ) : Type 0 where
   pub y-depth : dy ≡ length (way (merges t) y)
   pub meet : Meet (way (merges t)) x y (common a (way (merges t) a) b (way (merges t) b))
 
-pub near-first : {t : List ℕ} {a b dx dy : ℕ} → TwoNodes t a b → are-equal (merges t) a b ≡ true → dx ≡ length (way (merges t) a) → dy ≡ length (way (merges t) b) → Nearing t a b a b dx dy
+pub near-first : {t : List ℕ} {a b dx dy : ℕ} → TwoNodes t a b → are-equal (merges t) a b ≡ true → dx ≡ length (way (merges t) a) →
+    dy ≡ length (way (merges t) b) → Nearing t a b a b dx dy
 near-first {t} {a} {b} s e p q =
     let z = s .sound in
     record {
@@ -232,7 +236,8 @@ near-first {t} {a} {b} s e p q =
       y-within = s .second;
       x-depth = p;
       y-depth = q;
-      meet = way-meets (merges t) (sound-joins t z) (sound-forest t z) a b (equal-same (merges t) a b (true-T (are-equal (merges t) a b) e));
+      meet = way-meets (merges t) (sound-joins t z) (sound-forest t z) a b
+          (equal-same (merges t) a b (true-T (are-equal (merges t) a b) e));
     }
 
 meet-turned : {W : ℕ → List Step} {x y n : ℕ} → Meet W x y n → Meet W y x n
@@ -248,7 +253,8 @@ module _ (t : List ℕ) (z : EngineSound t) where
       go (inr q) = let k = ap (λ (v : ℕ). length (way (merges t) v)) e in omega arith
 
   -- so it rises, and the common node stays
-  deeper-rises : (x y n p : ℕ) → IsNode x → p ≡ fparent-word t x → Meet (way (merges t)) x y n → length (way (merges t) y) ≤ length (way (merges t) x) → (x ≡ y → ⊥) → Rises t x p × Meet (way (merges t)) p y n
+  deeper-rises : (x y n p : ℕ) → IsNode x → p ≡ fparent-word t x → Meet (way (merges t)) x y n →
+      length (way (merges t) y) ≤ length (way (merges t) x) → (x ≡ y → ⊥) → Rises t x p × Meet (way (merges t)) p y n
   deeper-rises x y n p h e m l d = go (first-edge t z x p h e)
     where
       below : x ≡ n → ⊥
@@ -256,8 +262,11 @@ module _ (t : List ℕ) (z : EngineSound t) where
 
       go : ((way (merges t) x ≡ []) × (p ≡ x)) ⊎ Rises t x p → Rises t x p × Meet (way (merges t)) p y n
       go (inl (q, r)) = absurd (below (sym (at-root (way (merges t)) (sound-forest t z) n x q (m .on-x))))
-      go (inr r) =
-          (r, subst (λ (v : ℕ). Meet (way (merges t)) v y n) (r .up) (meet-up (way (merges t)) (sound-forest t z) x y n (r .step) (r .rest) (r .is) below m))
+      go (inr r) = (
+        r,
+        subst (λ (v : ℕ). Meet (way (merges t)) v y n) (r .up)
+            (meet-up (way (merges t)) (sound-forest t z) x y n (r .step) (r .rest) (r .is) below m),
+      )
 
 module _ {t : List ℕ} {a b x y dx dy : ℕ} (c : Nearing t a b x y dx dy) (d : x ≡ y → ⊥) where
   n : ℕ
@@ -284,7 +293,15 @@ module _ {t : List ℕ} {a b x y dx dy : ℕ} (c : Nearing t a b x y dx dy) (d :
       let u = depths in
       let (r, m) = deeper-rises t (c .sound) y x n p (c .y-within) e (meet-turned (c .meet)) (omega arith) (λ q. d (sym q)) in
       let v = r .longer in
-      record { sound = c .sound; x-within = c .x-within; y-within = r .within; x-depth = c .x-depth; y-depth = omega arith; meet = meet-turned m }
+      record {
+        sound = c .sound;
+        x-within = c .x-within;
+        y-within = r .within;
+        x-depth = c .x-depth;
+        y-depth = omega arith;
+        meet =
+            meet-turned m;
+      }
 
   pub x-deep : dy ≤ dx → 1 ≤ dx
   x-deep l = let r = x-rises (fparent-word t x) l refl .0 in let u = c .x-depth in let v = r .longer in omega arith

@@ -12,7 +12,7 @@ use Rattle.theory.specs.declared.types.EqJust as Given
 use Rattle.theory.specs.declared.eq_engine.LabelWords as LabelWords
 use Rattle.theory.specs.EqEngine.{Merge, are-equal, pop-merges, pairs-of, pairs-in-force, Step, way}
 use Rattle.theory.specs.Memory.Replay.{IsNode, end, On, EqualPairs}
-use Rattle.theory.specs.Memory.Table.{engine-size, PARENT, SIZE, FPARENT, FEDGE, SIDE-A, SIDE-B, LABEL, VALUE, CHILD, FROOT, AFTER, LEFT, RIGHT, engine-room, merges#, parent-word, size-word, fparent-word, fedge-word, a-word, b-word, label-word, value-word, child-word, froot-word, after-word, left-word, right-word, kind-unit, label, begins, merges-below, merges, level, EngineSound, Engine}
+use Rattle.theory.specs.Memory.Table.{engine-size, PARENT, SIZE, FPARENT, FEDGE, SIDE-A, SIDE-B, LABEL, VALUE, CHILD, FROOT, AFTER, LEFT, RIGHT, engine-room, merges#, parent-word, size-word, fparent-word, fedge-word, a-word, b-word, label-word, value-word, child-word, froot-word, after-word, left-word, right-word, kind-unit, label, begins, merges-below, merges, just-meaning, level, EngineSound, Engine}
 
 -- ---- the log
 
@@ -123,22 +123,12 @@ pub record Joinable (t : List ℕ) (a b kind h v e : ℕ) : Type 0 where
   pub pairs : EqualPairs (merges t) (pairs-of (label t kind h v e))
 
 -- the words of a label without pairs
-pub record AssertedWords (lit : ℕ) (w : LabelWords.LabelWords) : Type 0 where
-  pub kind : w .kind ≡ 0
-  pub theory : w .theory ≡ 0
-  pub value : w .value ≡ lit
-  pub fits : w .value < 4294967296
-
-pub record InterfaceWords (h tag : ℕ) (w : LabelWords.LabelWords) : Type 0 where
-  pub kind : w .kind ≡ 2
-  pub theory : w .theory ≡ h
-  pub value : w .value ≡ tag
-  pub known : w .theory < kind-unit
-  pub fits : w .value < 4294967296
-
-abbrev pub HoldsLabel : Given.EqJust → LabelWords.LabelWords → Type 0
-HoldsLabel (Given.the-variants.Asserted l) w = AssertedWords (l .0) w
-HoldsLabel (Given.the-variants.Interface j) w = InterfaceWords (j .theory) (j .tag) w
+pub record HoldsLabel (j : Given.EqJust) (w : LabelWords.LabelWords) : Type 0 where
+  pub known : w .kind < 3
+  pub theory : w .theory < kind-unit
+  pub value : w .value < 4294967296
+  pub no-pairs : (n : ℕ) → begins (w .kind) (w .value) n ≡ n
+  pub is : (t : List ℕ) (n : ℕ) → label t (w .kind) (w .theory) (w .value) n ≡ just-meaning j
 
 -- ---- argument pairs
 

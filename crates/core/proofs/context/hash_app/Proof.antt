@@ -12,8 +12,8 @@ abbrev μ-loop : tie.MeasureT-loop
 
 pub hash-app-spec : {M : Type 1} → statement M
 hash-app-spec =
-    tie.close (tie.spec Inv-loop μ-loop (λ c. record { within = search needs; small = c .pre; rest = refl }) (λ c. search needs)
+    tie.close (tie.spec Inv-loop μ-loop (λ c. record { within = search needs; small = search needs; rest = refl }) (λ c. search needs)
     (λ c. search needs) (λ c. search needs) (λ c. omega (arith, c .shared-slice-known .given (c .before .before .loop .i)))
     (λ c. omega (arith, c .shared-slice-known .given (c .before .before .loop .i))) (λ c. search needs) (λ c. search needs)
-    (λ c. hash-next _ _ _ _ (c .before .before .loop .inv) (c .before .loop-test .taken))
+    (λ c. search hash-next)
     (λ c. (hash-done _ _ _ _ (c .before .loop .inv) (c .loop-test .left), c .before .loop .inv .small)))

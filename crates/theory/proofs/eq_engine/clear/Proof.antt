@@ -17,15 +17,5 @@ abbrev μ-loop : tie.MeasureT-loop
 pub clear-spec : {M : Type 1} → statement M
 clear-spec =
     tie.close
-    (tie.spec
-    Inv-loop
-    μ-loop
-    (λ c κs. search needs)
-    (λ c κs. search needs)
-    (λ c. search clear-first)
-    (λ c κs. search needs)
-    (λ c. search needs)
-    (λ c. search needs)
-    (λ c. search clear-next)
-    (λ c. search needs)
-    (λ c. search clear-done))
+    (tie.spec Inv-loop μ-loop (λ c κs. search needs) (λ c κs. search needs) (λ c. search clear-first) (λ c κs. search needs)
+    (λ c. search needs) (λ c. search needs) (λ c. search clear-next) (λ c. search needs) (λ c. search clear-done))

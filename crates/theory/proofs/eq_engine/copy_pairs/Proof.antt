@@ -17,24 +17,13 @@ loop-again c =
     let second = c .before .before in
     let first = second .before .before .before .before .before in
     let test = first .before .before .before in
-    copying-next (test .before .loop .inv) (test .loop-test .taken) (first .before .get-at .ensures .0) (second .before .get-at2 .ensures .0)
+    copying-next (test .before .loop .inv) (test .loop-test .taken) (first .before .get-at .ensures .0)
+    (second .before .get-at2 .ensures .0)
     (first .put-at .ensures) (second .put-at2 .ensures)
 
 pub copy-pairs-spec : {M : Type 1} → statement M
 copy-pairs-spec =
     tie.close
-    (tie.spec
-    Inv-loop
-    μ-loop
-    (λ c. search copying-first)
-    (λ c. search needs)
-    (λ c κs. search needs)
-    (λ c κs. search needs)
-    (λ c. search needs)
-    (λ c κs. search needs)
-    (λ c κs. search needs)
-    (λ c. search needs)
-    (λ c. search needs)
-    loop-again
-    (λ c. search needs)
-    (λ c. search copying-done))
+    (tie.spec Inv-loop μ-loop (λ c. search copying-first) (λ c. search needs) (λ c κs. search needs) (λ c κs. search needs)
+    (λ c. search needs) (λ c κs. search needs) (λ c κs. search needs) (λ c. search needs) (λ c. search needs) loop-again
+    (λ c. search needs) (λ c. search copying-done))

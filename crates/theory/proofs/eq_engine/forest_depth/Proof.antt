@@ -16,13 +16,5 @@ abbrev μ-loop : tie.MeasureT-loop
 pub forest-depth-spec : {M : Type 1} → statement M
 forest-depth-spec =
     tie.close
-    (tie.spec
-    Inv-loop
-    μ-loop
-    (λ c κs. search needs)
-    (λ c. search rise-first)
-    (λ c. search needs)
-    (λ c κs. search needs)
-    (λ c. search rise-less)
-    (λ c. search rise-next)
-    (λ c. search rise-depth))
+    (tie.spec Inv-loop μ-loop (λ c κs. search needs) (λ c. search rise-first) (λ c. search needs) (λ c κs. search needs)
+    (λ c. search rise-less) (λ c. search rise-next) (λ c. search rise-depth))

@@ -14,18 +14,6 @@ abbrev μ-loop : tie.MeasureT-loop
 pub forest-nca-spec : {M : Type 1} → statement M
 forest-nca-spec =
     tie.close
-    (tie.spec
-    Inv-loop
-    μ-loop
-    (λ c κs. search needs)
-    (λ c κs. search needs)
-    (λ c. search near-first)
-    (λ c κs. search needs)
-    (λ c. search needs)
-    (λ c. search needs)
-    (λ c. search near-y)
-    (λ c κs. search needs)
-    (λ c. search x-deep)
-    (λ c. search near-less)
-    (λ c. search near-x)
-    (λ c. search near-done))
+    (tie.spec Inv-loop μ-loop (λ c κs. search needs) (λ c κs. search needs) (λ c. search near-first) (λ c κs. search needs)
+    (λ c. search needs) (λ c. search needs) (λ c. search near-y) (λ c κs. search needs) (λ c. search x-deep)
+    (λ c. search near-less) (λ c. search near-x) (λ c. search near-done))

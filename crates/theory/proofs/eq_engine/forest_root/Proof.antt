@@ -17,12 +17,6 @@ abbrev μ-loop : tie.MeasureT-loop
 pub forest-root-spec : {M : Type 1} → statement M
 forest-root-spec =
     tie.close
-    (tie.spec
-    Inv-loop
-    μ-loop
-    (λ c κs. search needs)
-    (λ c. (0, search rise-first))
-    (λ c κs. search needs)
-    (λ c. search rise-less)
-    (λ c. (c .before .before .loop .inv .0 + 1, search rise-next))
+    (tie.spec Inv-loop μ-loop (λ c κs. search needs) (λ c. (0, search rise-first)) (λ c κs. search needs)
+    (λ c. search rise-less) (λ c. (c .before .before .loop .inv .0 + 1, search rise-next))
     (λ c. rise-root (c .before .loop .inv .1) (c .loop-test .left)))

@@ -18,19 +18,11 @@ returns-2 c =
     let join = c .before .before in
     let words = join .before .before in
     let two = words .before .before .before .before .before in
-    merged-label _ (two .before .before .before .before .args .j) _ (words .label-words .ensures) (two .before .are-equal .ensures) (two .if1 .left) (join .join .ensures)
+    merged-label _ (two .before .before .before .before .args .j) _ (words .label-words .ensures) (two .before .are-equal .ensures)
+    (two .if1 .left) (join .join .ensures)
 
 pub merge-spec : {M : Type 1} → statement M
 merge-spec =
     tie.close
-    (tie.spec
-    (λ c κs. search needs)
-    (λ c. search needs)
-    (λ c. search merged-one)
-    (λ c. search needs)
-    (λ c. search needs)
-    (λ c κs. search needs)
-    (λ c κs. search needs)
-    join-requires
-    (λ c. search needs)
-    returns-2)
+    (tie.spec (λ c κs. search needs) (λ c. search needs) (λ c. search merged-one) (λ c. search needs) (λ c. search needs)
+    (λ c κs. search needs) (λ c κs. search needs) join-requires (λ c. search needs) returns-2)

@@ -7,9 +7,5 @@ use Rattle.theory.proofs.eq_engine.newest_above.Tie as tie
 pub newest-above-spec : {M : Type 1} → statement M
 newest-above-spec =
     tie.close
-    (tie.spec
-    (λ c κs. search needs)
-    (λ c. search newest-none)
-    (λ c. search needs)
-    (λ c κs. search needs)
+    (tie.spec (λ c κs. search needs) (λ c. search newest-none) (λ c. search needs) (λ c κs. search needs)
     (λ c. search newest-some))

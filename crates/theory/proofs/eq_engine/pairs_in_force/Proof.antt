@@ -7,9 +7,7 @@ use Rattle.theory.proofs.eq_engine.pairs_in_force.Tie as tie
 pub pairs-in-force-spec : {M : Type 1} → statement M
 pairs-in-force-spec =
     tie.close
-    (tie.spec
+    (tie.spec (λ c κs. search needs) (λ c. pairs-none _ (c .before .get-at .ensures .0) (c .if1 .taken)) (λ c. search needs)
     (λ c κs. search needs)
-    (λ c. pairs-none _ (c .before .get-at .ensures .0) (c .if1 .taken))
-    (λ c. search needs)
-    (λ c κs. search needs)
-    (λ c. pairs-newest (c .before .before .before .before .pre) (c .before .before .get-at .ensures .0) (c .before .if1 .left) (c .get-at2 .ensures .0)))
+    (λ c. pairs-newest (c .before .before .before .before .pre) (c .before .before .get-at .ensures .0) (c .before .if1 .left)
+    (c .get-at2 .ensures .0)))

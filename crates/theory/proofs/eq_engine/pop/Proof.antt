@@ -7,11 +7,5 @@ use Rattle.theory.proofs.eq_engine.pop.Tie as tie
 pub pop-spec : {M : Type 1} → statement M
 pop-spec =
     tie.close
-    (tie.spec
-    (λ c κs. search needs)
-    (λ c. search needs)
-    (λ c. search popped-none)
-    (λ c κs. search needs)
-    (λ c κs. search needs)
-    (λ c. search needs)
-    (λ c. search popped-some))
+    (tie.spec (λ c κs. search needs) (λ c. search needs) (λ c. search popped-none) (λ c κs. search needs) (λ c κs. search needs)
+    (λ c. search needs) (λ c. search popped-some))

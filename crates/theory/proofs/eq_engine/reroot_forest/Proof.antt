@@ -25,18 +25,6 @@ loop-again c =
 pub reroot-forest-spec : {M : Type 1} → statement M
 reroot-forest-spec =
     tie.close
-    (tie.spec
-    Inv-loop
-    μ-loop
-    (λ c κs. search needs)
-    (λ c κs. search needs)
-    (λ c. search turn-first)
-    (λ c κs. search needs)
-    (λ c κs. search needs)
-    (λ c κs. search needs)
-    (λ c κs. search needs)
-    (λ c. search turn-less)
-    loop-again
-    (λ c κs. search needs)
-    (λ c. search needs)
-    (λ c. search turn-done))
+    (tie.spec Inv-loop μ-loop (λ c κs. search needs) (λ c κs. search needs) (λ c. search turn-first) (λ c κs. search needs)
+    (λ c κs. search needs) (λ c κs. search needs) (λ c κs. search needs) (λ c. search turn-less) loop-again
+    (λ c κs. search needs) (λ c. search needs) (λ c. search turn-done))

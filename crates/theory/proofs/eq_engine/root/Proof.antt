@@ -15,12 +15,5 @@ abbrev μ-loop : tie.MeasureT-loop
 pub root-spec : {M : Type 1} → statement M
 root-spec =
     tie.close
-    (tie.spec
-    Inv-loop
-    μ-loop
-    (λ c κs. search needs)
-    (λ c. search climb-first)
-    (λ c κs. search needs)
-    (λ c. search climb-less)
-    (λ c. search climb-next)
-    (λ c. climb-done (c .before .loop .inv) (c .loop-test .left)))
+    (tie.spec Inv-loop μ-loop (λ c κs. search needs) (λ c. search climb-first) (λ c κs. search needs) (λ c. search climb-less)
+    (λ c. search climb-next) (λ c. climb-done (c .before .loop .inv) (c .loop-test .left)))

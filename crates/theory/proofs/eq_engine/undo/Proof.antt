@@ -11,7 +11,8 @@ reroot-forest-requires c κs =
     let side = child .before .before in
     let count = side .before .before in
     let pre = count .before .before .before .pre in
-    reroot-asks (pre .0) (pre .1) (count .get-at .ensures .0) (side .get-at2 .ensures .0) (child .get-at3 .ensures .0) (old-root .get-at4 .ensures .0)
+    reroot-asks (pre .0) (pre .1) (count .get-at .ensures .0) (side .get-at2 .ensures .0) (child .get-at3 .ensures .0)
+    (old-root .get-at4 .ensures .0)
 
 separate-requires : tie.Need-separate-requires
 separate-requires c κs =
@@ -40,14 +41,5 @@ returns c =
 pub undo-spec : {M : Type 1} → statement M
 undo-spec =
     tie.close
-    (tie.spec
-    (λ c κs. search needs)
-    (λ c. search needs)
-    (λ c κs. search needs)
-    (λ c κs. search needs)
-    (λ c κs. search needs)
-    reroot-forest-requires
-    separate-requires
-    (λ c κs. search needs)
-    (λ c. search needs)
-    returns)
+    (tie.spec (λ c κs. search needs) (λ c. search needs) (λ c κs. search needs) (λ c κs. search needs) (λ c κs. search needs)
+    reroot-forest-requires separate-requires (λ c κs. search needs) (λ c. search needs) returns)

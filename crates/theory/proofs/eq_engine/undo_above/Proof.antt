@@ -14,13 +14,5 @@ abbrev μ-loop : tie.MeasureT-loop
 pub undo-above-spec : {M : Type 1} → statement M
 undo-above-spec =
     tie.close
-    (tie.spec
-    Inv-loop
-    μ-loop
-    (λ c. search popping-first)
-    (λ c κs. search needs)
-    (λ c κs. (search needs, search some-above))
-    (λ c. search popping-less)
-    (λ c. search popping-next)
-    (λ c. search needs)
-    (λ c. search popping-done))
+    (tie.spec Inv-loop μ-loop (λ c. search popping-first) (λ c κs. search needs) (λ c κs. (search needs, search some-above))
+    (λ c. search popping-less) (λ c. search popping-next) (λ c. search needs) (λ c. search popping-done))

@@ -7,12 +7,5 @@ use Rattle.theory.proofs.eq_engine.union.Tie as tie
 pub union-spec : {M : Type 1} → statement M
 union-spec =
     tie.close
-    (tie.spec
-    (λ c κs. search needs)
-    (λ c κs. search needs)
-    (λ c κs. search needs)
-    (λ c κs. search needs)
-    (λ c. search needs)
-    (λ c. search united-second)
-    (λ c. search needs)
-    (λ c. search united-first))
+    (tie.spec (λ c κs. search needs) (λ c κs. search needs) (λ c κs. search needs) (λ c κs. search needs) (λ c. search needs)
+    (λ c. search united-second) (λ c. search needs) (λ c. search united-first))
