@@ -18,7 +18,7 @@ use Rattle.core.specs.Term.{Role, Function, Symbol}
 use Rattle.core.specs.Context.{Context, empty-context, with-symbols, declare-sort, declare-fun, selectors-from, constructor-symbols, dt-add-constructor, cut-terms, declarations-fit}
 use Rattle.core.specs.Memory.Words.{at, put, put-all, Kept, counted}
 use Rattle.core.specs.Limits.{table-words}
-use Rattle.core.specs.Memory.Table.{COUNTS, SORTS, SYMBOLS, TERMS, SORT, OWNER, RESULT, ARITY, PARAMS, OFFSET, BUCKET, LINK, core-room, sorts#, symbols#, terms#, digit, packed, packed-words, node-of, role-of, sort-at, param-at, symbol-at, term-at, context, buckets, bucket-of, newest, AllBelow, SymbolSound, ContextSound, MayDeclare, SymbolRoom, SymbolAdded, SelectorRoom, SymbolsAdded, NoTerms}
+use Rattle.core.specs.Memory.Table.{COUNTS, SORTS, SYMBOLS, TERMS, SORT, OWNER, RESULT, ARITY, PARAMS, OP, OFFSET, BUCKET, LINK, core-room, sorts#, symbols#, terms#, digit, packed, packed-words, node-of, role-of, sort-at, param-at, symbol-at, term-at, context, buckets, bucket-of, newest, AllBelow, SymbolSound, ContextSound, MayDeclare, SymbolRoom, SymbolAdded, SelectorRoom, SymbolsAdded, NoTerms}
 use Rattle.core.specs.Memory.Codes.{Declares}
 use Rattle.core.specs.declared.context.Declared as Declared
 use Rattle.core.proofs.Lists.{and-no}
@@ -102,6 +102,9 @@ pub clear-done : {t₀ t : List ℕ} {i : ℕ} → Clearing t₀ t i → buckets
 clear-done c h = record { long = c .long; heads = λ x l. c .heads x (omega arith) }
 
 -- ---- terms taken back
+
+pub last-code : (i : ℕ) {t : List ℕ} {code : ℕ} → ContextSound t → terms# t ≡ i + 1 → code ≡ at t OP i → code < buckets
+last-code i z n e = let s = z .terms i (omega arith) in omega arith
 
 pub dropped : (i : ℕ) {t : List ℕ} {h o : ℕ} {t₁ u : List ℕ} → ContextSound t → terms# t ≡ i + 1 → h ≡ bucket-of t i → h < buckets →
     o ≡ at t LINK i →

@@ -21,7 +21,7 @@ use Rattle.core.specs.Limits.{table-words}
 use Rattle.core.specs.Memory.Table.{COUNTS, TERMS, OP, OFFSET, POOL, BUCKET, LINK, core-room, sorts#, symbols#, terms#, op-of, args-at, term-at, context, buckets, bucket, bucket-of, newest, AllBelow, TermSound, IndexSound, ContextSound, FindsApp, MayIntern, MayApply, MayEquate, Appendable, Appended}
 use Rattle.core.specs.Memory.Codes.{made-answer, made-context, MkApp}
 use Rattle.core.specs.declared.context.Made as Made
-use Rattle.core.proofs.Lists.{T-and, true-T, and-no, same-list-eq, same-list-true, same-list-false, same-list-longer}
+use Rattle.core.proofs.Lists.{T-and, true-T, and-no, not-true-false, same-list-eq, same-list-same, same-list-not}
 use Rattle.core.proofs.Memory.Counted.{counted-more, counted-grown, counted-list, stretch-length, stretch-at}
 use Rattle.core.proofs.Memory.Searching.{NoneFrom, Searched, none-yet, search-next, first-found, first-missing}
 use Rattle.core.proofs.Memory.Stores.{other-place}
@@ -51,18 +51,20 @@ module _ (t : List ℕ) (start : ℕ) (args : List ℕ) where
 
   pub args-same : (i : ℕ) → length args ≤ i → Searched (ArgDiffers t start args) 0 i (length args) →
       true ≡ same-list args (stretch t POOL start (length args))
-  unfolding ArgDiffers
+  unfolding ArgDiffers stretch
   args-same i h w =
-      sym
-      (same-list-true args (stretch t POOL start (length args)) (sym (stretch-length t POOL start (length args)))
-      (λ k l.
-      let e = not-false (eqb (at t POOL (start + k)) (getD args k 0)) (w .none k (omega arith) (omega arith)) in
-      sym (stretch-at t POOL start (length args) k l ∙ eqb-true (at t POOL (start + k)) (getD args k 0) e)))
+      let same : stretch t POOL start (length args) ≡ args =
+      counted-list (λ k. at t POOL (start + k)) (length args) args refl (λ k l.
+      eqb-true (at t POOL (start + k)) (getD args k 0)
+      (not-false (eqb (at t POOL (start + k)) (getD args k 0)) (w .none k (omega arith) (omega arith)))) in
+      sym (ap (same-list args) same ∙ same-list-same args)
 
   pub args-differ : (k w : ℕ) → k < length args → w ≡ at t POOL (start + k) → (w ≡ getD args k 0 → ⊥) →
       false ≡ same-list args (stretch t POOL start (length args))
   args-differ k w l e n =
-      sym (same-list-false args (stretch t POOL start (length args)) k l (λ q. n (e ∙ sym (q ∙ stretch-at t POOL start (length args) k l))))
+      sym
+      (same-list-not args (stretch t POOL start (length args))
+      (λ q. n (e ∙ sym (ap (λ (xs : List ℕ). getD xs k 0) q ∙ stretch-at t POOL start (length args) k l))))
 
 -- term i is the operation of a code over the arguments
 abbrev pub Fits : List ℕ → ℕ → List ℕ → ℕ → Bool
@@ -85,7 +87,7 @@ module _ (t : List ℕ) (code : ℕ) (args : List ℕ) where
       unfolding same-term term-at
       app-other-length n =
           let op = same-op (op-of code) (op-of (at t OP i)) in
-          sym (ap (λ (b : Bool). op && b) (same-list-longer args (args-at t i) (λ l. n (length-is ∙ sym l))) ∙ and-no op)
+          sym (ap (λ (b : Bool). op && b) (same-list-not args (args-at t i) (λ l. n (length-is ∙ sym (ap length l)))) ∙ and-no op)
 
       pub app-same : (r : Bool) → w ≡ code → e - a ≡ length args → r ≡ same-list args (stretch t POOL a (length args)) →
           r ≡ Fits t code args i
@@ -98,30 +100,27 @@ module _ (t : List ℕ) (code : ℕ) (args : List ℕ) where
           ∙ ap (λ (b : Bool). b && same-list args (args-at t i)) (sym op)
 
   -- a term that fits is the application, and the other way round
-  pub fits-term : (i : ℕ) → Fits t code args i ≡ true → term-at t i ≡ record { op = op-of code; args = args }
+  fits-words : (i : ℕ) → Fits t code args i ≡ true → (code ≡ at t OP i) × (args ≡ args-at t i)
   unfolding same-term term-at
-  fits-term i e =
+  fits-words i e =
       let (o, l) = T-and (same-op (op-of code) (op-of (at t OP i))) (same-list args (args-at t i)) (true-T (Fits t code args i) e) in
-      let same = eqb→eq code (at t OP i) (subst T (same-op-codes code (at t OP i)) o) in
-      λ j. record { op = op-of (sym same j); args = sym (same-list-eq args (args-at t i) l) j }
+      (eqb→eq code (at t OP i) (subst T (same-op-codes code (at t OP i)) o), same-list-eq args (args-at t i) l)
+
+  pub fits-term : (i : ℕ) → Fits t code args i ≡ true → term-at t i ≡ record { op = op-of code; args = args }
+  unfolding term-at
+  fits-term i e = let (o, l) = fits-words i e in λ j. record { op = op-of (sym o j); args = sym l j }
 
   term-fits : (i : ℕ) → term-at t i ≡ record { op = op-of code; args = args } → Fits t code args i ≡ true
   unfolding same-term
   term-fits i e =
       ap (same-term (op-of code) args) e
-      ∙ ap₂ (λ (a b : Bool). a && b) (same-op-codes code code ∙ eq-eqb code code refl) (same-list-true args args refl (λ k l. refl))
+      ∙ ap₂ (λ (a b : Bool). a && b) (same-op-codes code code ∙ eq-eqb code code refl) (same-list-same args)
 
   -- and stands in the bucket of the application
   other-bucket : (i : ℕ) → (bucket-of t i ≡ bucket code args → ⊥) → Fits t code args i ≡ false
-  unfolding same-term term-at bucket-of
-  other-bucket i d = go (Fits t code args i) refl
-    where
-      go : (b : Bool) → Fits t code args i ≡ b → b ≡ false
-      go false e = refl
-      go true e =
-          let (o, l) = T-and (same-op (op-of code) (op-of (at t OP i))) (same-list args (args-at t i)) (true-T (Fits t code args i) e) in
-          let same = eqb→eq code (at t OP i) (subst T (same-op-codes code (at t OP i)) o) in
-          absurd (d (sym (ap₂ bucket same (same-list-eq args (args-at t i) l))))
+  unfolding bucket-of
+  other-bucket i d =
+      not-true-false (Fits t code args i) (λ e. let (o, l) = fits-words i e in d (sym (ap₂ bucket o l)))
 
 -- ---- among the terms of a bucket
 
@@ -177,23 +176,21 @@ module _ {t : List ℕ} {code : ℕ} {args : List ℕ} {h k : ℕ} (w : Walking 
     pub walk-found : {b : Bool} → b ≡ Fits t code args (k - 1) → b ≡ true → FindsApp t code args (k - 1)
     unfolding context
     walk-found f o =
-        let s = sym o ∙ f in
         let within = w .within in
-        let none-below : NoneFrom (Fits t code args) 0 (k - 1) = λ j a l. lower j l (Fits t code args j) refl in
+        let s = sym f ∙ o in
         record {
           within = omega arith;
-          found = λ l. first-found (same-term (op-of code) args) (term-at t) (terms# t) (k - 1) l none-below (sym s);
+          found = λ l. first-found (same-term (op-of code) args) (term-at t) (terms# t) (k - 1) l (λ j a m. lower j m s) s;
           missing = λ q. absurd (omega arith);
           new = λ q. absurd (omega arith);
         }
       where
-        lower : (j : ℕ) → j < k - 1 → (b : Bool) → Fits t code args j ≡ b → b ≡ false
-        lower j l false q = refl
-        lower j l true q =
+        lower : (j : ℕ) → j < k - 1 → Fits t code args (k - 1) ≡ true → Fits t code args j ≡ false
+        lower j l s =
+            not-true-false (Fits t code args j) (λ q.
             let within = w .within in
-            let same = fits-term t code args j q ∙ sym (fits-term t code args (k - 1) (sym f ∙ o)) in
-            let i = w .sound .index .once j (k - 1) (omega arith) (omega arith) same in
-            absurd (omega arith)
+            let i = w .sound .index .once j (k - 1) (omega arith) (omega arith) (fits-term t code args j q ∙ sym (fits-term t code args (k - 1) s)) in
+            omega arith)
 
   pub walk-missing : {n : ℕ} → k ≡ 0 → n ≡ terms# t → FindsApp t code args n
   unfolding context
