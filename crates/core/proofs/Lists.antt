@@ -8,7 +8,7 @@ use native.Mathlib.Nat.{le-antisymm, add-zero, add-suc, suc-add}
 use native.Mathlib.Decide.{decLe}
 use native.Mathlib.Omega.{arith}
 use lib.Dec.{T, eqb, eqb→eq}
-use borrow.Author.Tests.{eq-eqb, ne-eqb}
+use borrow.Author.Tests.{eq-eqb}
 use lib.ListN.{length, getD, take, drop, set, length-set, drop-of-length-le}
 use lib.Seq.{sets, getD-set-same, getD-set-other, drop-cons}
 pub use Rattle.core.specs.Lists.{In}

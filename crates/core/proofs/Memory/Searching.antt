@@ -1,6 +1,6 @@
 -- Search loops: a loop goes up from a number and stops at the first that passes a test. One invariant, none below i passes, and what it
 -- says of a counted list: whether any or every entry passes, and which is the first.
-use Prim.Native.Nat.{ℕ, zero, suc, _+_, _-_, _≤_, _<_}
+use Prim.Native.Nat.{ℕ, zero, suc, _+_, _≤_, _<_}
 use mathlib.Core.Path.{_≡_, refl, sym, ap, _∙_}
 use mathlib.Core.Bool.{Bool, true, false, cond, not, _&&_}
 use mathlib.Core.List.{List, [], _∷_, map}

@@ -1,7 +1,7 @@
 -- Terms: an application looked up among them, one more at their end, and making one.
 use Prim.Native.Nat.{ℕ, zero, suc, _+_, _-_, _≤_, _<_}
 use mathlib.Core.Path.{_≡_, refl, sym, ap, ap₂, _∙_, subst}
-use mathlib.Core.Bool.{Bool, true, false, cond, not, _&&_, true≢false}
+use mathlib.Core.Bool.{Bool, true, false, not, _&&_, true≢false}
 use mathlib.Core.List.{List, [], _∷_, _++_, map, map-append}
 use mathlib.Core.Option.{none}
 use native.Mathlib.Nat.{zero-add, add-assoc}
@@ -28,7 +28,7 @@ use Rattle.core.proofs.Memory.Stores.{other-place}
 use Rattle.core.proofs.Memory.Regions.{stores}
 use Rattle.core.proofs.Memory.Index.{newest-is, newest-not, newest-found, newest-in}
 use Rattle.core.proofs.Memory.Views.{terms-length}
-use Rattle.core.proofs.Memory.Keeping.{TermsKept, continued, term-kept, newest-kept, links-kept, once-kept, sorts-view, symbols-view, sorts-apart, symbols-apart}
+use Rattle.core.proofs.Memory.Keeping.{TermsKept, continued, term-kept, newest-kept, links-kept, once-kept, sorts-view, symbols-view, symbols-apart}
 
 -- ---- one term
 
@@ -206,7 +206,7 @@ module _ {t : List ℕ} {code : ℕ} {args : List ℕ} {h k : ℕ} (w : Walking 
 -- ---- one more term
 
 -- what its stores leave
-record TermWords (t : List ℕ) (n start code : ℕ) (args u : List ℕ) : Type 0 where
+record TermWritten (t : List ℕ) (n start code : ℕ) (args : List ℕ) (h : ℕ) (u : List ℕ) : Type 0 where
   long : table-words ≤ length u
   sorts : sorts# u ≡ sorts# t
   symbols : symbols# u ≡ symbols# t
@@ -214,43 +214,12 @@ record TermWords (t : List ℕ) (n start code : ℕ) (args u : List ℕ) : Type 
   op : at u OP n ≡ code
   end : at u OFFSET (n + 1) ≡ start + length args
   kept : Kept core-room (COUNTS ∷ OP ∷ OFFSET ∷ POOL ∷ BUCKET ∷ LINK ∷ []) t u
-
-record TermLinked (t : List ℕ) (n h : ℕ) (u : List ℕ) : Type 0 where
+  pool : (j : ℕ) → j < length args → at u POOL (start + j) ≡ getD args j 0
+  terms : TermsKept t u n
   link : at u LINK n ≡ at t BUCKET h
   links : (i : ℕ) → i < n → at u LINK i ≡ at t LINK i
   head : at u BUCKET h ≡ n + 1
   heads : (x : ℕ) → x < buckets → (x ≡ h → ⊥) → at u BUCKET x ≡ at t BUCKET x
-
-record TermWritten (t : List ℕ) (n start code : ℕ) (args : List ℕ) (h : ℕ) (u : List ℕ) : Type 0 where
-  words : TermWords t n start code args u
-  pool : (j : ℕ) → j < length args → at u POOL (start + j) ≡ getD args j 0
-  terms : TermsKept t u n
-  linked : TermLinked t n h u
-
-module _ (t : List ℕ) (n start code : ℕ) (args : List ℕ) (h o : ℕ) (t₁ t₂ t₃ t₄ t₅ u : List ℕ) (a : Appendable t n start code args) where
-  term-written : h < buckets → o ≡ at t BUCKET h → t₁ ≡ put t LINK n o → t₂ ≡ put t₁ BUCKET h (n + 1) → t₃ ≡ put-all t₂ POOL start args →
-      t₄ ≡ put t₃ OP n code → t₅ ≡ put t₄ OFFSET (n + 1) (start + length args) → u ≡ put t₅ COUNTS TERMS (n + 1) →
-      TermWritten t n start code args h u
-  term-written b e e₁ e₂ e₃ e₄ e₅ e₆ =
-      let l : table-words ≤ length t = a .sound .long in
-      let r : n < max-terms = a .room in
-      let r₁ : n + 1 < 1025 = omega arith in
-      let p : start + length args ≤ max-places = a .places in
-      let c : h < 1024 = omega arith in
-      let begins = a .begins in
-      let in-ops : (i : ℕ) → i < n → i < max-terms = omega arith in
-      let in-offsets : (i : ℕ) → i ≤ n → i < 1025 = omega arith in
-      let old-offset : (i : ℕ) → i ≤ n → i < n + 1 = omega arith in
-      let old-pool : (j : ℕ) → j < at t OFFSET n → j < start = omega arith in
-      let in-old-pool : (j : ℕ) → j < at t OFFSET n → j < max-places = omega arith in
-      let in-pool : (j : ℕ) → j < length args → start + j < max-places = omega arith in
-      let in-buckets : (x : ℕ) → x < buckets → x < 1024 = omega arith in
-      record {
-        words = search (e₆, e₅, e₄, e₃, e₂, e₁, stores) depth 9;
-        pool = search (e₆, e₅, e₄, e₃, e₂, e₁, stores) depth 9;
-        terms = search (e₆, e₅, e₄, e₃, e₂, e₁, stores) depth 9;
-        linked = search (e₆, e₅, e₄, e₃, e₂, e₁, e, stores, other-place) depth 9;
-      }
 
 module _ {t : List ℕ} {n start code : ℕ} {args : List ℕ} {h : ℕ} {u : List ℕ}
     (a : Appendable t n start code args) (w : TermWritten t n start code args h u) where
@@ -261,14 +230,14 @@ module _ {t : List ℕ} {n start code : ℕ} {args : List ℕ} {h : ℕ} {u : Li
   unfolding args-at stretch
   new-args =
       let o = starts in
-      let e = w .words .end in
+      let e = w .end in
       let l : at u OFFSET (n + 1) - at u OFFSET n ≡ length args = omega arith in
       ap (λ (x : ℕ). stretch u POOL x (at u OFFSET (n + 1) - at u OFFSET n)) o
       ∙ counted-list (λ j. at u POOL (start + j)) (at u OFFSET (n + 1) - at u OFFSET n) args l (w .pool)
 
   new-term : term-at u n ≡ record { op = op-of code; args = args }
   unfolding term-at
-  new-term = λ i. record { op = op-of (w .words .op i); args = new-args i }
+  new-term = λ i. record { op = op-of (w .op i); args = new-args i }
 
   new-term-sound : TermSound u n
   new-term-sound =
@@ -291,7 +260,7 @@ module _ {t : List ℕ} {n start code : ℕ} {args : List ℕ} {h : ℕ} {u : Li
   module _ (e : h ≡ bucket code args) where
     new-bucket : bucket-of u n ≡ h
     unfolding bucket-of
-    new-bucket = ap₂ bucket (w .words .op) new-args ∙ sym e
+    new-bucket = ap₂ bucket (w .op) new-args ∙ sym e
 
     old-newest : (x : ℕ) → x < buckets → at t BUCKET x ≡ newest (bucket-of u) x n
     old-newest x l =
@@ -301,14 +270,14 @@ module _ {t : List ℕ} {n start code : ℕ} {args : List ℕ} {h : ℕ} {u : Li
 
     new-heads : (x : ℕ) → x < buckets → Dec (x ≡ h) → at u BUCKET x ≡ newest (bucket-of u) x (suc n)
     new-heads x l (yes q) =
-        let i = w .linked .head in
+        let i = w .head in
         ap (at u BUCKET) q ∙ i ∙ add-one n ∙ sym (newest-is (bucket-of u) x n (new-bucket ∙ sym q))
     new-heads x l (no d) =
-        w .linked .heads x l d ∙ old-newest x l ∙ sym (newest-not (bucket-of u) x n (λ q. d (sym q ∙ new-bucket)))
+        w .heads x l d ∙ old-newest x l ∙ sym (newest-not (bucket-of u) x n (λ q. d (sym q ∙ new-bucket)))
 
     new-links : h < buckets → (i : ℕ) → i < n + 1 → Dec (i ≡ n) → at u LINK i ≡ newest (bucket-of u) (bucket-of u i) i
-    new-links b i l (yes q) = rw (q, new-bucket) (w .linked .link ∙ old-newest h b)
-    new-links b i l (no d) = links-kept t u (a .sound) n (omega arith) (w .terms) (w .linked .links) i (omega arith)
+    new-links b i l (yes q) = rw (q, new-bucket) (w .link ∙ old-newest h b)
+    new-links b i l (no d) = links-kept t u (a .sound) n (omega arith) (w .terms) (w .links) i (omega arith)
 
     not-old : (i : ℕ) → i < n → term-at u i ≡ term-at u n → ⊥
     not-old i l q = true≢false (sym (term-fits t code args i (sym (old-term i l) ∙ q ∙ new-term)) ∙ a .new i l)
@@ -331,9 +300,9 @@ module _ {t : List ℕ} {n start code : ℕ} {args : List ℕ} {h : ℕ} {u : Li
   appended e b =
       let z = a .sound in
       let written = COUNTS ∷ OP ∷ OFFSET ∷ POOL ∷ BUCKET ∷ LINK ∷ [] in
-      let ys = symbols-apart t u z written (w .words .kept) tt tt tt tt in
-      let sorts = sorts-view t u z (w .words .sorts) (sorts-apart t u z written (w .words .kept) tt) in
-      let symbols = symbols-view t u z (w .words .symbols) ys in
+      let ys = symbols-apart t u z written (w .kept) tt tt tt tt in
+      let sorts = sorts-view t u z written (w .kept) tt (w .sorts) in
+      let symbols = symbols-view t u z (w .symbols) ys in
       let terms : counted (term-at u) (terms# u) ≡ counted (term-at t) (terms# t) ++ (record { op = op-of code; args = args } ∷ []) =
       counted-grown (term-at t) (term-at u) (terms# t) (terms# u) (record { op = op-of code; args = args }) (omega arith)
       (λ i l. old-term i (omega arith)) (ap (term-at u) (sym (a .next)) ∙ new-term) in
@@ -349,7 +318,21 @@ module _ {t : List ℕ} {n start code : ℕ} {args : List ℕ} {h o : ℕ} {t₁
       t₃ ≡ put-all t₂ POOL start args → t₄ ≡ put t₃ OP n code → t₅ ≡ put t₄ OFFSET (n + 1) (start + length args) →
       u ≡ put t₅ COUNTS TERMS (n + 1) → Appended t code args u
   append e b q e₁ e₂ e₃ e₄ e₅ e₆ =
-      appended a (term-written t n start code args h o t₁ t₂ t₃ t₄ t₅ u a b q e₁ e₂ e₃ e₄ e₅ e₆) e b
+      let l : table-words ≤ length t = a .sound .long in
+      let r : n < max-terms = a .room in
+      let r₁ : n + 1 < 1025 = omega arith in
+      let p : start + length args ≤ max-places = a .places in
+      let c : h < 1024 = omega arith in
+      let begins = a .begins in
+      let in-ops : (i : ℕ) → i < n → i < max-terms = omega arith in
+      let in-offsets : (i : ℕ) → i ≤ n → i < 1025 = omega arith in
+      let old-offset : (i : ℕ) → i ≤ n → i < n + 1 = omega arith in
+      let old-pool : (j : ℕ) → j < at t OFFSET n → j < start = omega arith in
+      let in-old-pool : (j : ℕ) → j < at t OFFSET n → j < max-places = omega arith in
+      let in-pool : (j : ℕ) → j < length args → start + j < max-places = omega arith in
+      let in-buckets : (x : ℕ) → x < buckets → x < 1024 = omega arith in
+      let w : TermWritten t n start code args h u = search (e₆, e₅, e₄, e₃, e₂, e₁, q, stores, other-place) depth 9 in
+      appended a w e b
 
 -- ---- argument places
 
@@ -387,14 +370,6 @@ places-are t z = places-below t z (terms# t) (omega arith)
 fits : (cx : Context) → length (cx .terms) ≤ max-terms → places cx ≤ max-places → terms-fit cx ≡ true
 unfolding terms-fit
 fits cx h l = rw (le-leb (length (cx .terms)) max-terms h, le-leb (places cx) max-places l)
-
-too-many : (cx : Context) → max-terms < length (cx .terms) → terms-fit cx ≡ false
-unfolding terms-fit
-too-many cx h = rw (lt-leb (length (cx .terms)) max-terms h)
-
-too-wide : (cx : Context) → max-places < places cx → terms-fit cx ≡ false
-unfolding terms-fit
-too-wide cx h = rw (lt-leb (places cx) max-places h) (and-no (leb (length (cx .terms)) max-terms))
 
 -- the context with one more term at its end
 more-terms : (cx : Context) (o : Op) (args : List ℕ) → length (intern cx o args none .context .terms) ≡ suc (length (cx .terms))
@@ -450,17 +425,17 @@ module _ {t : List ℕ} {code : ℕ} {args : List ℕ} {n k : ℕ} (a : MayInter
         ap (intern (context t) (op-of code) args) (f .missing (omega arith)) ∙ (λ i. record { id = l i; context = more })
 
     pub no-more-terms : n ≡ max-terms → MkApp t (op-of code) args Made.the-variants.NoRoom t
-    unfolding more
+    unfolding more terms-fit
     no-more-terms q =
-        let s = more-terms (context t) (op-of code) args in refuse made-none (too-many more (omega arith)) (a .sound)
+        let s = more-terms (context t) (op-of code) args in refuse made-none (rw (lt-leb (length (more .terms)) max-terms (omega arith))) (a .sound)
 
     module _ {start : ℕ} (o : start ≡ at t OFFSET n) where
       pub no-more-places : max-places - start < length args → MkApp t (op-of code) args Made.the-variants.NoRoom t
-      unfolding more
+      unfolding more terms-fit
       no-more-places q =
           let p = begins a e o in
           let s = more-places (context t) (op-of code) args in
-          refuse made-none (too-wide more (omega arith)) (a .sound)
+          refuse made-none (rw (lt-leb (places more) max-places (omega arith)) (and-no (leb (length (more .terms)) max-terms))) (a .sound)
 
       module _ (r : n ≡ max-terms → ⊥) (q : length args ≤ max-places - start) where
         pub appendable : Appendable t n start code args
