@@ -129,16 +129,14 @@ module _ {A : Type 0} where
   unfolding range
   map-range-cong f g k zero h = refl
   map-range-cong f g k (suc n) h =
-      ap₂ (λ (x : A) (xs : List A). x ∷ xs) (h k (omega arith) (omega arith))
-      (map-range-cong f g (suc k) n (λ i l u. h i (omega arith) (omega arith)))
+      rw (h k (omega arith) (omega arith), map-range-cong f g (suc k) n (λ i l u. h i (omega arith) (omega arith)))
 
   -- one more at the end
   pub map-range-suc : (f : ℕ → A) (k n : ℕ) → map f (range k (suc n)) ≡ map f (range k n) ++ (f (k + n) ∷ [])
   unfolding range
   map-range-suc f k zero = rw add-zero
   map-range-suc f k (suc n) =
-      ap {B = List A} (λ xs. f k ∷ xs)
-      (map-range-suc f (suc k) n ∙ ap (λ (m : ℕ). map f (range (suc k) n) ++ (f m ∷ [])) (suc-add k n ∙ sym (add-suc k n)))
+      rw (map-range-suc f (suc k) n, suc-add, add-suc)
 
   -- the first of them
   pub take-map-range : (f : ℕ → A) (k n m : ℕ) → m ≤ n → take m (map f (range k n)) ≡ map f (range k m)

@@ -189,7 +189,8 @@ module _ {t : List ℕ} {code : ℕ} {args : List ℕ} {h k : ℕ} (w : Walking 
         lower j l s =
             not-true-false (Fits t code args j) (λ q.
             let within = w .within in
-            let i = w .sound .index .once j (k - 1) (omega arith) (omega arith) (fits-term t code args j q ∙ sym (fits-term t code args (k - 1) s)) in
+            let same = fits-term t code args j q ∙ sym (fits-term t code args (k - 1) s) in
+            let i = w .sound .index .once j (k - 1) (omega arith) (omega arith) same in
             omega arith)
 
   pub walk-missing : {n : ℕ} → k ≡ 0 → n ≡ terms# t → FindsApp t code args n
@@ -427,7 +428,8 @@ module _ {t : List ℕ} {code : ℕ} {args : List ℕ} {n k : ℕ} (a : MayInter
     pub no-more-terms : n ≡ max-terms → MkApp t (op-of code) args Made.the-variants.NoRoom t
     unfolding more terms-fit
     no-more-terms q =
-        let s = more-terms (context t) (op-of code) args in refuse made-none (rw (lt-leb (length (more .terms)) max-terms (omega arith))) (a .sound)
+        let s = more-terms (context t) (op-of code) args in
+        refuse made-none (rw (lt-leb (length (more .terms)) max-terms (omega arith))) (a .sound)
 
     module _ {start : ℕ} (o : start ≡ at t OFFSET n) where
       pub no-more-places : max-places - start < length args → MkApp t (op-of code) args Made.the-variants.NoRoom t

@@ -6,7 +6,7 @@ use native.Mathlib.Omega.{arith}
 use borrow.Author.Tests.{ne-eqb}
 use lib.Dec.{eqb}
 use lib.ListN.{length, getD, take, drop}
-use Rattle.core.specs.Limits.{max-places}
+use Rattle.core.specs.Limits.{max-places, max-params}
 use Rattle.core.specs.Sort.{BoolSort, is-datatype}
 use Rattle.core.specs.Term.{Symbol, Term}
 use Rattle.core.specs.Context.{sort-node, is-datatype-sort, no-symbol, symbol, no-term, term, children}
@@ -34,7 +34,7 @@ module _ (t : List ℕ) where
   terms-length = counted-length (term-at t) (terms# t)
 
   -- a number that names something in the view names it in the table
-  pub symbols-below : (s : ℕ) → s < length (context t .symbols) → s < symbols# t
+  symbols-below : (s : ℕ) → s < length (context t .symbols) → s < symbols# t
   symbols-below s h = let e = symbols-length in omega arith
 
   terms-below : (x : ℕ) → x < length (context t .terms) → x < terms# t
@@ -72,11 +72,21 @@ module _ (t : List ℕ) where
     unfolding symbol-at
     params-are = ap (λ (x : Symbol). x .params) (symbol-is s h)
 
-    pub arity-is : at t ARITY s ≡ length (symbol (context t) s .params)
+    arity-is : at t ARITY s ≡ length (symbol (context t) s .params)
     arity-is = sym (ap length params-are ∙ counted-length (param-at t s) (at t ARITY s))
 
     pub param-is : (i : ℕ) → i < at t ARITY s → param-at t s i ≡ getD (symbol (context t) s .params) i 0
     param-is i l = sym (ap (λ (xs : List ℕ). getD xs i 0) params-are ∙ counted-at (param-at t s) (at t ARITY s) i 0 l)
+
+  module _ (s w : ℕ) (z : ContextSound t) (l : s < length (context t .symbols)) where
+    pub arity-at : w ≡ at t ARITY s → (w ≡ length (symbol (context t) s .params)) × (w ≤ max-params)
+    arity-at e = let h = symbols-below s l in let k = z .symbols s h in (e ∙ arity-is s h, omega arith)
+
+    pub result-at : w ≡ at t RESULT s → (w ≡ symbol (context t) s .result) × (w < length (context t .sorts))
+    result-at e = let h = symbols-below s l in let k = z .symbols s h in (e ∙ result-is s h, omega arith)
+
+    pub owner-at : w ≡ at t OWNER s → w ≤ s + 1
+    owner-at e = let h = z .symbols s (symbols-below s l) in omega arith
 
   pub role-at : (s w : ℕ) (r : DtRole.DtRole) → s < length (context t .symbols) → w ≡ at t OWNER s → role-meaning r ≡ role-of s w →
       RoleBelow (s + 1) r → RoleAt t s r
@@ -84,9 +94,6 @@ module _ (t : List ℕ) where
     is = m ∙ ap (role-of s) e ∙ role-is s (symbols-below s l);
     declared = role-below (s + 1) (length (context t .symbols)) r (omega arith) b;
   }
-
-  pub owner-at : (s w : ℕ) → ContextSound t → s < length (context t .symbols) → w ≡ at t OWNER s → w ≤ s + 1
-  owner-at s w z l e = let h = z .symbols s (symbols-below s l) in omega arith
 
   pub param-word : (f i : ℕ) → HasParam t f i → HasParamWord t f i
   param-word f i a =
@@ -102,8 +109,8 @@ module _ (t : List ℕ) where
   unfolding context term
   term-is x h = counted-at (term-at t) (terms# t) x no-term h
 
-  pub op-at : (x w : ℕ) (r : Op.Op) → ContextSound t → x < length (context t .terms) → w ≡ at t OP x → op-meaning r ≡ op-of w → OpBelow w r →
-      OpAt t x r
+  pub op-at : (x w : ℕ) (r : Op.Op) → ContextSound t → x < length (context t .terms) → w ≡ at t OP x → op-meaning r ≡ op-of w →
+      OpBelow w r → OpAt t x r
   unfolding term-at
   op-at x w r z l e m b =
       let h = terms-below x l in
