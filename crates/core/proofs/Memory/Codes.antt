@@ -85,12 +85,7 @@ module _ (xs : List ℕ) (a : AllBelow max-sorts xs) where
   digit-of : (q d : ℕ) → d < 4 → digit (packed xs q) d ≡ getD xs (4 * q + d) 0
   unfolding digit packed
   digit-of q d h =
-      let e = each-below xs max-sorts (omega arith) a in
-      let p₀ = e (4 * q) in
-      let p₁ = e (4 * q + 1) in
-      let p₂ = e (4 * q + 2) in
-      let p₃ = e (4 * q + 3) in
-      go d h p₀ p₁ p₂ p₃
+      let e = each-below xs max-sorts (omega arith) a in go d h (e (4 * q)) (e (4 * q + 1)) (e (4 * q + 2)) (e (4 * q + 3))
     where
       go : (d : ℕ) → d < 4 → getD xs (4 * q) 0 < 64 → getD xs (4 * q + 1) 0 < 64 → getD xs (4 * q + 2) 0 < 64 →
           getD xs (4 * q + 3) 0 < 64 → digit (packed xs q) d ≡ getD xs (4 * q + d) 0

@@ -85,7 +85,8 @@ module _ (t : List ℕ) (s n : ℕ) (e : n ≡ at t ARITY s) where
     pub field-is-datatype : s < symbols# t → r ≡ 1 → false ≡ has-plain-fields (context t) s
     unfolding DatatypeField
     field-is-datatype h o =
-        sym (ap not (any-found field-test (param-at t s) n i l (field-word ∙ ap (λ (b : Bool). not (not b)) (eq-eqb r 1 o)))) ∙ plain-fields h
+        let d = field-word ∙ ap (λ (b : Bool). not (not b)) (eq-eqb r 1 o) in
+        sym (ap not (any-found field-test (param-at t s) n i l d)) ∙ plain-fields h
 
   pub fields-are-plain : (i : ℕ) → s < symbols# t → n ≤ i → Searched (DatatypeField t s) 0 i n → true ≡ has-plain-fields (context t) s
   unfolding DatatypeField
