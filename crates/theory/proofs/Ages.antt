@@ -39,13 +39,9 @@ module _ (ms : List Merge) where
   unfolding pairs-age
   pairs-age-in [] p i = absurd i
   pairs-age-in (q ∷ ps) p (inl e) =
-      let h = larger-both (suc (age ms (q .0) (q .1))) (pairs-age ms ps) in
       let g = ap (λ (z : ℕ × ℕ). age ms (z .0) (z .1)) e in
-      omega arith
-  pairs-age-in (q ∷ ps) p (inr i) =
-      let h = larger-both (suc (age ms (q .0) (q .1))) (pairs-age ms ps) in
-      let g = pairs-age-in ps p i in
-      omega arith
+      omega (arith, larger-both (suc (age ms (q .0) (q .1))) (pairs-age ms ps))
+  pairs-age-in (q ∷ ps) p (inr i) = omega (arith, larger-both (suc (age ms (q .0) (q .1))) (pairs-age ms ps), pairs-age-in ps p i)
 
   pairs-age-least : (ps : List (ℕ × ℕ)) (k : ℕ) → ((p : ℕ × ℕ) → In p ps → age ms (p .0) (p .1) < k) → pairs-age ms ps ≤ k
   unfolding pairs-age
@@ -61,13 +57,9 @@ module _ (ms : List Merge) where
   unfolding steps-age
   steps-age-in [] s i = absurd i
   steps-age-in (u ∷ w) s (inl e) =
-      let h = larger-both (pairs-age ms (pairs-of (u .just))) (steps-age ms w) in
       let g = ap (λ (z : Step). pairs-age ms (pairs-of (z .just))) e in
-      omega arith
-  steps-age-in (u ∷ w) s (inr i) =
-      let h = larger-both (pairs-age ms (pairs-of (u .just))) (steps-age ms w) in
-      let g = steps-age-in w s i in
-      omega arith
+      omega (arith, larger-both (pairs-age ms (pairs-of (u .just))) (steps-age ms w))
+  steps-age-in (u ∷ w) s (inr i) = omega (arith, larger-both (pairs-age ms (pairs-of (u .just))) (steps-age ms w), steps-age-in w s i)
 
   steps-age-least : (w : List Step) (k : ℕ) → ((s : Step) → In s w → pairs-age ms (pairs-of (s .just)) ≤ k) → steps-age ms w ≤ k
   unfolding steps-age

@@ -4,7 +4,7 @@ use mathlib.Core.Path.{_≡_, refl, sym, subst, ap, _∙_}
 use mathlib.Core.Logic.{_⊎_, inl, inr, ⊎-elim, ⊎-map}
 use mathlib.Core.Bool.{Bool, true, false, cond}
 use mathlib.Core.List.{List, [], _∷_, _++_, append-assoc, append-cancel-right, append-nil, nil≢cons, tail-eq-of-cons-eq, head-eq-of-cons-eq}
-use mathlib.Core.Option.{Option, none, some, Option·getD}
+use mathlib.Core.Option.{none, some, Option·getD}
 use native.Mathlib.Nat.{le-antisymm}
 use native.Mathlib.Decide.{ℕ-discrete}
 use native.Mathlib.Omega.{arith}
@@ -58,10 +58,8 @@ over-append ms u w f g s i = ⊎-elim (f s) (g s) (in-either s u w i)
 pub edge-same : (ms : List Merge) (s : Step) → Edge ms s → Same ms (s .node) (s .up)
 edge-same [] s (m, i, a) = absurd i
 edge-same (n ∷ ms) s (m, inr i, a) = same-kept n ms (s .node) (s .up) (edge-same ms s (m, i, a))
-edge-same (n ∷ ms) s (m, inl e, (j, inl (p, q))) =
-    ap (find (n ∷ ms)) (p ∙ ap (λ (k : Merge). k .a) e) ∙ same-sides n ms ∙ sym (ap (find (n ∷ ms)) (q ∙ ap (λ (k : Merge). k .b) e))
-edge-same (n ∷ ms) s (m, inl e, (j, inr (p, q))) =
-    ap (find (n ∷ ms)) (p ∙ ap (λ (k : Merge). k .b) e) ∙ sym (same-sides n ms) ∙ sym (ap (find (n ∷ ms)) (q ∙ ap (λ (k : Merge). k .a) e))
+edge-same (n ∷ ms) s (m, inl e, (j, inl (p, q))) = rw (p, q, e) (same-sides n ms)
+edge-same (n ∷ ms) s (m, inl e, (j, inr (p, q))) = rw (p, q, e) (sym (same-sides n ms))
 
 -- ---- before, turned
 
@@ -270,9 +268,7 @@ module _ (W : ℕ → List Step) (F : Forest W) where
   before-next v a s w i p =
       append-cancel-right (before (s .up) (W a)) (before v (W a) ++ (s ∷ [])) (W (s .up))
       (sym (split (s .up) a (above-trans (W a) (s .up) v a refl i (from-step (s .up) v s w p (inl refl))))
-      ∙ split v a i
-      ∙ ap (λ (u : List Step). before v (W a) ++ u) (p ∙ ap (λ (u : List Step). s ∷ u) (sym (F v s w p .1)))
-      ∙ sym (append-assoc (before v (W a)) (s ∷ []) (W (s .up))))
+      ∙ split v a i ∙ rw (append-assoc, p, F v s w p .1))
 
   -- the node just below x on the way of a
   abbrev pub Below : ℕ → ℕ → Type 0
@@ -321,23 +317,23 @@ module _ (W : ℕ → List Step) (F : Forest W) where
         | true ↦ λ e. meet-below x y (mem-on y x e)
         | false ↦ λ e. absurd (not-on y x e (subst (λ (u : ℕ). Above W u x) (at-root v y p j) i))
       ] refl
-  meets x (s ∷ w) y p d v i j = go (mem y (nodes x (W x))) refl (at-step v y s w p j) (meets x w (s .up) (F y s w p .1) d v i)
-    where
-      later : Option ℕ
-      later = first (λ n. mem n (nodes x (W x))) (s .up ∷ ups w)
-
-      not-y : (u : ℕ) → mem y (nodes x (W x)) ≡ false → u ≡ y → Above W u x → ⊥
-      not-y u e q k = not-on y x e (subst (λ (z : ℕ). Above W z x) q k)
-
-      go : (b : Bool) → mem y (nodes x (W x)) ≡ b → (v ≡ y) ⊎ Above W v (s .up) →
-          (Above W v (s .up) → Meet W x (s .up) (Option·getD later d)) → Meet W x y (Option·getD (cond b (some y) later) d)
-      go true e k f = meet-below x y (mem-on y x e)
-      go false e (inl q) f = absurd (not-y v e q i)
-      go false e (inr k) f = record {
-        on-x = f k .on-x;
-        on-y = from-step (Option·getD later d) y s w p (f k .on-y);
-        lowest = λ u l o. elim (at-step u y s w p o) [ inl q ↦ absurd (not-y u e q l) | inr o ↦ f k .lowest u l o ];
-      }
+  meets x (s ∷ w) y p d v i j =
+      let later = first (λ n. mem n (nodes x (W x))) (s .up ∷ ups w) in
+      elim (mem y (nodes x (W x))) as (λ b. mem y (nodes x (W x)) ≡ b → Meet W x y (Option·getD (cond b (some y) later) d)) [
+        | true ↦ λ e. meet-below x y (mem-on y x e)
+        | false ↦ λ e.
+            let not-y : (u : ℕ) → u ≡ y → Above W u x → ⊥ = λ u q k. not-on y x e (subst (λ (z : ℕ). Above W z x) q k) in
+            elim (at-step v y s w p j) [
+              | inl q ↦ absurd (not-y v q i)
+              | inr k ↦
+                  let m = meets x w (s .up) (F y s w p .1) d v i k in
+                  record {
+                    on-x = m .on-x;
+                    on-y = from-step (Option·getD later d) y s w p (m .on-y);
+                    lowest = λ u l o. elim (at-step u y s w p o) [ inl q ↦ absurd (not-y u q l) | inr o ↦ m .lowest u l o ];
+                  }
+            ]
+      ] refl
 
   pub common-meets : (x y v : ℕ) → Above W v x → Above W v y → Meet W x y (common x (W x) y (W y))
   unfolding common nodes
@@ -455,16 +451,14 @@ module _ (m : Merge) (ms : List Merge) (J : Joins (m ∷ ms)) (F : Forest (way m
       ∙ ap (λ (v : ℕ). hung (before v (way ms x)) (before v (way ms (m .a)))) (common-is (way ms) F x (m .a) n k)
 
   hung-above : (v : ℕ) → Above (way ms) v (m .a) → way (m ∷ ms) v ≡ hung [] (before v (way ms (m .a)))
-  hung-above v i =
-      hung-at v v (meet-above (way ms) F v (m .a) i) ∙ ap (λ (u : List Step). hung u (before v (way ms (m .a)))) (before-self (way ms) F v)
+  hung-above v i = hung-at v v (meet-above (way ms) F v (m .a) i) ∙ rw (before-self (way ms) F v)
 
   pub second-side : way (m ∷ ms) (m .b) ≡ way ms (m .b)
   second-side = way-out m ms (m .b) (λ e. unequal ms (m .a) (m .b) (J .0) (sym e))
 
   pub first-side : way (m ∷ ms) (m .a) ≡ new-step m ∷ way (m ∷ ms) (m .b)
   unfolding hung turned
-  first-side =
-      hung-above (m .a) (inl refl) ∙ ap (hung []) (before-self (way ms) F (m .a)) ∙ ap (λ (w : List Step). new-step m ∷ w) (sym second-side)
+  first-side = hung-above (m .a) (inl refl) ∙ rw (before-self (way ms) F (m .a), second-side)
 
   pub turned-above : (v : ℕ) (s : Step) (w : List Step) → Above (way ms) v (m .a) → way ms v ≡ s ∷ w →
       way (m ∷ ms) (s .up) ≡ back s ∷ way (m ∷ ms) v
@@ -492,10 +486,9 @@ module _ (m : Merge) (ms : List Merge) (J : Joins (m ∷ ms)) (F : Forest (way m
   ]
 
   pub other-root : (x : ℕ) → (Above (way ms) x (m .a) → ⊥) → way ms x ≡ [] → way (m ∷ ms) x ≡ []
-  other-root x h p = way-out m ms x (λ e. h (subst (λ (v : ℕ). Above (way ms) v (m .a)) (root e) (end-on (way ms (m .a)) (m .a)))) ∙ p
-    where
-      root : Same ms x (m .a) → end (m .a) (way ms (m .a)) ≡ x
-      root e = sym (way-end ms (J .1) x (m .a) e) ∙ ap (end x) p
+  other-root x h p =
+      let root : Same ms x (m .a) → end (m .a) (way ms (m .a)) ≡ x = λ e. sym (way-end ms (J .1) x (m .a) e) ∙ ap (end x) p in
+      way-out m ms x (λ e. h (subst (λ (v : ℕ). Above (way ms) v (m .a)) (root e) (end-on (way ms (m .a)) (m .a)))) ∙ p
 
   -- the old root of the first side's tree goes the old way back, then over the new edge
   pub from-old-root : way (m ∷ ms) (end (m .a) (way ms (m .a))) ≡ turned (way ms (m .a)) ++ (new-step m ∷ way ms (m .b))
@@ -587,9 +580,6 @@ module _ (W : ℕ → List Step) (F : Forest W) where
       let e = before-step W F n x s w p h in
       ap (find r) (sym (F x s w p .0)) ∙ edge-same r s (o s (rw e (inl refl))) ∙ f (λ t k. o t (rw e (inr k)))) x
 
-  over-none : (r : List Merge) (n : ℕ) → Over r (before n (W n))
-  over-none r n s i = absurd (subst (λ (u : List Step). In s u) (before-self W F n) i)
-
   over-more : (r : List Merge) (n x : ℕ) (s : Step) (w : List Step) → W x ≡ s ∷ w → (x ≡ n → ⊥) → Edge r s →
       Over r (before n (W (s .up))) → Over r (before n (W x))
   over-more r n x s w p h g o t i =
@@ -600,7 +590,8 @@ module _ (W : ℕ → List Step) (F : Forest W) where
   crosses-once : (m : Merge) (r : List Merge) (n x : ℕ) → Above W n x → Over (m ∷ r) (before n (W x)) →
       Over r (before n (W x)) ⊎ Crossing W m r n x
   crosses-once m r n x =
-      climb W F (λ x. Over (m ∷ r) (before n (W x)) → Over r (before n (W x)) ⊎ Crossing W m r n x) n (λ o. inl (over-none r n))
+      climb W F (λ x. Over (m ∷ r) (before n (W x)) → Over r (before n (W x)) ⊎ Crossing W m r n x) n
+      (λ o. inl (λ s i. absurd (subst (λ (u : List Step). In s u) (before-self W F n) i)))
       (λ x s w p h j f o.
       let e = before-step W F n x s w p h in
       go x s w p h j (o s (rw e (inl refl))) (f (λ t k. o t (rw e (inr k))))) x
