@@ -67,7 +67,8 @@ module _ (ms : List Merge) where
   abbrev Keeps : (Explained → Explained) → Type 0
   Keeps f = (e : Explained) → AllCite e → AllCite (f e)
 
-  fold-keeps : {A : Type 0} (f : Explained → A → Explained) (xs : List A) → ((x : A) → In x xs → Keeps (λ e. f e x)) → Keeps (λ e. foldl f e xs)
+  fold-keeps : {A : Type 0} (f : Explained → A → Explained) (xs : List A) → ((x : A) → In x xs → Keeps (λ e. f e x)) →
+      Keeps (λ e. foldl f e xs)
   fold-keeps f [] h e c = c
   fold-keeps f (x ∷ xs) h e c = fold-keeps f xs (λ y i. h y (inr i)) (f e x) (h x (inl refl) e c)
 
@@ -141,10 +142,7 @@ module _ {Val : Type 0} (val : ℕ → Val) (True : EqLeaf → Type 0) where
   grown-then : (e f g : Explained) → Grown e f → Grown f g → Grown e g
   grown-then e f g h k = record {
     keeps = λ l i. k .keeps l (h .keeps l i);
-    news = λ p i. elim (k .news p i) [
-      | inl j ↦ ⊎-map (λ o. o) (forced-on f g (p .0) (p .1) k) (h .news p j)
-      | inr u ↦ inr u
-    ];
+    news = λ p i. elim (k .news p i) [ inl j ↦ ⊎-map (λ o. o) (forced-on f g (p .0) (p .1) k) (h .news p j) | inr u ↦ inr u ];
   }
 
   -- every visited pair that was equal in r is forced
@@ -359,13 +357,11 @@ in-after seen (k ∷ ls) l i =
     elim (any (same-leaf k) seen) as
     (λ b. any (same-leaf k) seen ≡ b → In l (cond b (firsts-after seen ls) (k ∷ firsts-after (k ∷ seen) ls)) ⊎ In l seen) [
       | true ↦ λ e. elim i [ inl q ↦ inr (rw q (seen-in k seen (rw e tt))) | inr j ↦ in-after seen ls l j ]
-      | false ↦ λ e. elim i [ inl q ↦ inl (inl q) | inr j ↦ later (in-after (k ∷ seen) ls l j) ]
+      | false ↦ λ e. elim i [
+        | inl q ↦ inl (inl q)
+        | inr j ↦ elim (in-after (k ∷ seen) ls l j) [ inl o ↦ inl (inr o) | inr (inl q) ↦ inl (inl q) | inr (inr o) ↦ inr o ]
+      ]
     ] refl
-  where
-    later : In l (firsts-after (k ∷ seen) ls) ⊎ In l (k ∷ seen) → In l (k ∷ firsts-after (k ∷ seen) ls) ⊎ In l seen
-    later (inl j) = inl (inr j)
-    later (inr (inl e)) = inl (inl e)
-    later (inr (inr j)) = inr j
 
 pub firsts-in : (ls : List EqLeaf) (l : EqLeaf) → In l (firsts ls) ↔ In l ls
 unfolding firsts

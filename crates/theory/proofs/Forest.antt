@@ -553,16 +553,18 @@ path-of ms J x y e =
 
 -- ---- age: a path between terms that were equal before goes over the older merges only
 
--- a climb over the sides of m, from d to c, and else over merges of r
-record Crossing (W : ℕ → List Step) (m : Merge) (r : List Merge) (n x : ℕ) : Type 0 where
+-- the sides of m, from d to c, above which the way goes over merges of r up to n
+record Crossing (W : ℕ → List Step) (m : Merge) (r : List Merge) (n : ℕ) : Type 0 where
   d : ℕ
   c : ℕ
   sides : BothSides m d c
-  on-way : Above W d x
   deeper : length (W n) < length (W d)
   next : length (W d) ≡ suc (length (W c))
-  to : Same r x d
   from : Same r c n
+
+-- a climb from x over the sides of m, and else over merges of r
+abbrev Crosses : (ℕ → List Step) → Merge → List Merge → ℕ → ℕ → Type 0
+Crosses W m r n x = (z : Crossing W m r n) × Above W (z .d) x × Same r x (z .d)
 
 -- the sides of m in either order, told apart by the length of their ways
 sides-clash : (h : ℕ → ℕ) (m : Merge) (d c e f : ℕ) → BothSides m d c → BothSides m e f → h d ≡ suc (h c) → h e ≡ suc (h f) → d ≡ e
@@ -588,9 +590,9 @@ module _ (W : ℕ → List Step) (F : Forest W) where
 
   -- a climb goes over the newest merge once at most
   crosses-once : (m : Merge) (r : List Merge) (n x : ℕ) → Above W n x → Over (m ∷ r) (before n (W x)) →
-      Over r (before n (W x)) ⊎ Crossing W m r n x
+      Over r (before n (W x)) ⊎ Crosses W m r n x
   crosses-once m r n x =
-      climb W F (λ x. Over (m ∷ r) (before n (W x)) → Over r (before n (W x)) ⊎ Crossing W m r n x) n
+      climb W F (λ x. Over (m ∷ r) (before n (W x)) → Over r (before n (W x)) ⊎ Crosses W m r n x) n
       (λ o. inl (λ s i. absurd (subst (λ (u : List Step). In s u) (before-self W F n) i)))
       (λ x s w p h j f o.
       let e = before-step W F n x s w p h in
@@ -604,33 +606,25 @@ module _ (W : ℕ → List Step) (F : Forest W) where
       here x s w p k e (q, inr (u, v)) = inr (sym (F x s w p .0) ∙ u ∙ ap (λ (l : Merge). l .b) e, v ∙ ap (λ (l : Merge). l .a) e)
 
       go : (x : ℕ) (s : Step) (w : List Step) → W x ≡ s ∷ w → (x ≡ n → ⊥) → Above W n (s .up) → Edge (m ∷ r) s →
-          Over r (before n (W (s .up))) ⊎ Crossing W m r n (s .up) → Over r (before n (W x)) ⊎ Crossing W m r n x
+          Over r (before n (W (s .up))) ⊎ Crosses W m r n (s .up) → Over r (before n (W x)) ⊎ Crosses W m r n x
       go x s w p h j (k, inr q, a) (inl o) = inl (over-more r n x s w p h (k, q, a) o)
-      go x s w p h j (k, inr q, a) (inr z) = inr (record {
-        d = z .d;
-        c = z .c;
-        sides = z .sides;
-        on-way = from-step W F (z .d) x s w p (z .on-way);
-        deeper = z .deeper;
-        next = z .next;
-        to = ap (find r) (sym (F x s w p .0)) ∙ edge-same r s (k, q, a) ∙ z .to;
-        from = z .from;
-      })
-      go x s w p h j (k, inl q, a) (inl o) = inr (record {
-        d = x;
-        c = s .up;
-        sides = here x s w p k q a;
-        on-way = inl refl;
-        deeper = omega (arith, longer W F x s w p, shorter W F n (s .up) j);
-        next = longer W F x s w p;
-        to = refl;
-        from = climb-same r n (s .up) j o;
-      })
-      go x s w p h j (k, inl q, a) (inr z) =
+      go x s w p h j (k, inr q, a) (inr (z, o, t)) =
+          inr (z, from-step W F (z .d) x s w p o, ap (find r) (sym (F x s w p .0)) ∙ edge-same r s (k, q, a) ∙ t)
+      go x s w p h j (k, inl q, a) (inl o) =
+          let crossing : Crossing W m r n = record {
+            d = x;
+            c = s .up;
+            sides = here x s w p k q a;
+            deeper = omega (arith, longer W F x s w p, shorter W F n (s .up) j);
+            next = longer W F x s w p;
+            from = climb-same r n (s .up) j o;
+          } in
+          inr (crossing, inl refl, refl)
+      go x s w p h j (k, inl q, a) (inr (z, o, t)) =
           let e : x ≡ z .d =
           sides-clash height m x (s .up) (z .d) (z .c) (here x s w p k q a) (z .sides) (longer W F x s w p) (z .next) in
           let g : height x ≡ height (z .d) = ap height e in
-          absurd (omega (arith, longer W F x s w p, shorter W F (z .d) (s .up) (z .on-way)))
+          absurd (omega (arith, longer W F x s w p, shorter W F (z .d) (s .up) o))
 
   -- the climbs from x and from y to n go over merges of r
   abbrev Climbs-over : List Merge → ℕ → ℕ → ℕ → Type 0
@@ -645,13 +639,13 @@ module _ (W : ℕ → List Step) (F : Forest W) where
       joined d c (inl (u, v)) s = h (ap (find r) (sym u) ∙ s ∙ ap (find r) v)
       joined d c (inr (u, v)) s = h (ap (find r) (sym v) ∙ sym s ∙ ap (find r) u)
 
-      go : Over r (before n (W x)) ⊎ Crossing W m r n x → Over r (before n (W y)) ⊎ Crossing W m r n y → Climbs-over r n x y
+      go : Over r (before n (W x)) ⊎ Crosses W m r n x → Over r (before n (W y)) ⊎ Crosses W m r n y → Climbs-over r n x y
       go (inl u) (inl v) = (u, v)
-      go (inl u) (inr z) = absurd (joined (z .d) (z .c) (z .sides) (sym (z .to) ∙ sym e ∙ climb-same r n x (k .on-x) u ∙ sym (z .from)))
-      go (inr z) (inl v) = absurd (joined (z .d) (z .c) (z .sides) (sym (z .to) ∙ e ∙ climb-same r n y (k .on-y) v ∙ sym (z .from)))
-      go (inr z) (inr t) =
-          let g : z .d ≡ t .d = sides-clash (λ v. length (W v)) m (z .d) (z .c) (t .d) (t .c) (z .sides) (t .sides) (z .next) (t .next) in
-          let l = k .lowest (z .d) (z .on-way) (subst (λ (v : ℕ). Above W v y) (sym g) (t .on-way)) in
+      go (inl u) (inr (z, o, t)) = absurd (joined (z .d) (z .c) (z .sides) (sym t ∙ sym e ∙ climb-same r n x (k .on-x) u ∙ sym (z .from)))
+      go (inr (z, o, t)) (inl v) = absurd (joined (z .d) (z .c) (z .sides) (sym t ∙ e ∙ climb-same r n y (k .on-y) v ∙ sym (z .from)))
+      go (inr (z, o, t)) (inr (w, o′, t′)) =
+          let g : z .d ≡ w .d = sides-clash (λ v. length (W v)) m (z .d) (z .c) (w .d) (w .c) (z .sides) (w .sides) (z .next) (w .next) in
+          let l = k .lowest (z .d) o (subst (λ (v : ℕ). Above W v y) (sym g) o′) in
           absurd (omega (arith, z .deeper))
 
   -- and so for any time since which they are equal
