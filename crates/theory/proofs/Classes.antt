@@ -162,7 +162,8 @@ pub pop-suffix : (k : ℕ) (ms : List Merge) → Suffix (pop-merges k ms) ms
 unfolding pop-merges
 pop-suffix k [] = refl
 pop-suffix k (m ∷ ms) =
-    elim (leb (m .level) k) as (λ b. Suffix (cond b (m ∷ ms) (pop-merges k ms)) (m ∷ ms)) [ true ↦ inl refl | false ↦ inr (pop-suffix k ms) ]
+    let r = pop-merges k ms in
+    elim (leb (m .level) k) as (λ b. Suffix (cond b (m ∷ ms) r) (m ∷ ms)) [ true ↦ inl refl | false ↦ inr (pop-suffix k ms) ]
 
 -- what the lower level keeps, the higher keeps
 pub pop-pop : (j k : ℕ) (ms : List Merge) → j ≤ k → pop-merges j (pop-merges k ms) ≡ pop-merges j ms

@@ -182,12 +182,11 @@ sizes-bound (m ∷ ms) j rs a f =
 sizes-two : (ms : List Merge) (m : Merge) → Joins (m ∷ ms) →
     classes ms .size (child-of ms m) + classes ms .size (root-of ms m) ≤ length ms + 2
 unfolding total
-sizes-two ms m j = omega (arith, sizes-bound ms (j .1) (child-of ms m ∷ root-of ms m ∷ []) (⊎-elim (roots-apart m ms (j .0)) (λ i. i), (λ i. i, tt)) rooted)
-  where
-    rooted : (r : ℕ) → In r (child-of ms m ∷ root-of ms m ∷ []) → find ms r ≡ r
-    rooted r (inl e) = ap (find ms) e ∙ child-rooted m ms ∙ sym e
-    rooted r (inr (inl e)) = ap (find ms) e ∙ root-rooted m ms ∙ sym e
-    rooted r (inr (inr i)) = absurd i
+sizes-two ms m j =
+    let two : Apart (child-of ms m ∷ root-of ms m ∷ []) = (⊎-elim (roots-apart m ms (j .0)) (λ i. i), (λ i. i, tt)) in
+    let rooted : (r : ℕ) → In r (child-of ms m ∷ root-of ms m ∷ []) → find ms r ≡ r = λ r. ⊎-elim
+    (λ e. rw (e, child-rooted m ms)) (⊎-elim (λ e. rw (e, root-rooted m ms)) (λ i. absurd i)) in
+    omega (arith, sizes-bound ms (j .1) (child-of ms m ∷ root-of ms m ∷ []) two rooted)
 
 -- Any size, also one that went under, is at most one more than the number of merges.
 pub size-bound : (ms : List Merge) → Joins ms → (r : ℕ) → classes ms .size r ≤ suc (length ms)

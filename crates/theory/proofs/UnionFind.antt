@@ -60,13 +60,11 @@ module _ (m : Merge) (ms : List Merge) (j : are-equal ms (m .a) (m .b) ≡ false
   up-child e =
       let p = parent-child m ms x e in
       let r = ap (find ms) e ∙ child-rooted m ms in
-      let dx = depth-child m ms x r in
-      let dh = depth-kept m ms (root-of ms m) not-child in
-      let d0 = root-depth ms js (root-of ms m) (root-rooted m ms) in
+      let d = root-depth ms js (root-of ms m) (root-rooted m ms) in
       inr (
         (λ q. roots-apart m ms j (sym e ∙ sym q ∙ p)),
         ap (find (m ∷ ms)) p ∙ find-kept m ms (root-of ms m) not-child ∙ root-rooted m ms ∙ sym (find-child m ms x r),
-        rw p (omega arith),
+        rw p (omega (arith, depth-child m ms x r, depth-kept m ms (root-of ms m) not-child)),
       )
 
   -- any other root
