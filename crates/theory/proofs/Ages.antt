@@ -1,13 +1,13 @@
 -- Ages of pairs, labels and steps: the pairs of the labels on a path were equal before its ends were.
 use Prim.Native.Nat.{ℕ, suc, _≤_, _<_}
-use mathlib.Core.Path.{_≡_, refl, sym, subst, ap}
+use mathlib.Core.Path.{_≡_, refl, subst, ap}
 use mathlib.Core.Logic.{inl, inr}
 use mathlib.Core.Bool.{true, false, cond}
 use mathlib.Core.List.{List, [], _∷_}
 use native.Mathlib.Decide.{decLe}
 use native.Mathlib.Omega.{arith}
 use borrow.Author.Tests.{ne-eqb, le-leb, lt-leb}
-use lib.Dec.{T, leb}
+use lib.Dec.{leb}
 use lib.ListN.{length}
 use Rattle.core.proofs.Lists.{In, T-true}
 use Rattle.theory.specs.Types.{EqJust}
@@ -15,8 +15,8 @@ use Rattle.theory.specs.EqEngine.{Merge, Step, find, are-equal, pairs-of
 use Rattle.theory.specs.Memory.Replay.{Justified}
 use Rattle.theory.specs.Memory.Explaining.{age, larger, pairs-age, steps-age}
 use Rattle.theory.proofs.Members.{in-left, in-right}
-use Rattle.theory.proofs.Classes.{Same, same?, same-equal, equal-same, same-suffix, Suffix, suffix-self, suffix-tail}
-use Rattle.theory.proofs.Forest.{Edge, path-age}
+use Rattle.theory.proofs.Classes.{Same, same?, same-equal, same-suffix, Suffix, suffix-self, suffix-tail}
+use Rattle.theory.proofs.Forest.{path-age}
 use Rattle.theory.proofs.Explain.{justified-joins, justified-suffix, pairs-before}
 
 -- ---- the larger of two numbers

@@ -2,7 +2,7 @@
 use Prim.Native.Nat.{ℕ, suc, _≤_, _<_}
 use mathlib.Core.Path.{_≡_, refl, sym, subst, ap, _∙_}
 use mathlib.Core.Logic.{_⊎_, inl, inr, ⊎-elim, ⊎-map}
-use mathlib.Core.Bool.{Bool, true, false, cond}
+use mathlib.Core.Bool.{true, false, cond}
 use mathlib.Core.List.{List, [], _∷_, _++_, append-assoc, append-cancel-right, append-nil, nil≢cons, tail-eq-of-cons-eq, head-eq-of-cons-eq}
 use mathlib.Core.Option.{none, some, Option·getD}
 use native.Mathlib.Nat.{le-antisymm}

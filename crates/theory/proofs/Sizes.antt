@@ -13,7 +13,7 @@ use Rattle.core.proofs.Lists.{In, in-range}
 use Rattle.theory.specs.EqEngine.{Merge, singletons, classes, find, are-equal}
 use Rattle.theory.proofs.Members.{Apart, apart-length}
 use Rattle.theory.specs.Memory.Replay.{child-of, root-of}
-use Rattle.theory.proofs.Classes.{find-alone, Roots, roots, size-more, find-child, find-kept, find-root, roots-apart}
+use Rattle.theory.proofs.Classes.{find-alone, roots, size-more, find-child, find-kept, find-root, roots-apart}
 use Rattle.theory.proofs.Forest.{Joins}
 
 -- ---- roots
