@@ -135,8 +135,7 @@ module _ {A : Type 0} where
   pub map-range-suc : (f : ℕ → A) (k n : ℕ) → map f (range k (suc n)) ≡ map f (range k n) ++ (f (k + n) ∷ [])
   unfolding range
   map-range-suc f k zero = rw add-zero
-  map-range-suc f k (suc n) =
-      rw (map-range-suc f (suc k) n, suc-add, add-suc)
+  map-range-suc f k (suc n) = rw (map-range-suc f (suc k) n, suc-add, add-suc)
 
   -- the first of them
   pub take-map-range : (f : ℕ → A) (k n m : ℕ) → m ≤ n → take m (map f (range k n)) ≡ map f (range k m)

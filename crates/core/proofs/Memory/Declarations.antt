@@ -1,6 +1,6 @@
 -- Declarations: an empty table, terms given back, one more sort, one more symbol, a function, a constructor.
 use Prim.Native.Nat.{ℕ, zero, suc, _+_, _-_, _*_, _/_, _%_, _≤_, _<_}
-use mathlib.Core.Path.{_≡_, refl, sym, ap, ap₂, _∙_}
+use mathlib.Core.Path.{_≡_, refl, sym, ap, _∙_}
 use mathlib.Core.Bool.{true, false, true≢false}
 use mathlib.Core.List.{List, [], _∷_, _++_, append-assoc, append-nil}
 use native.Mathlib.Decide.{ℕ-discrete}
@@ -14,7 +14,7 @@ use lib.Seq.{drop-cons, take-all, take-take, length-take-le}
 use Rattle.core.specs.Limits.{max-sorts, max-symbols}
 use Rattle.core.specs.Lists.{range}
 use Rattle.core.specs.Sort.{SortNode, BoolSort}
-use Rattle.core.specs.Term.{Role, Function, Symbol}
+use Rattle.core.specs.Term.{Function, Symbol}
 use Rattle.core.specs.Context.{Context, empty-context, with-symbols, declare-sort, declare-fun, selectors-from, constructor-symbols, dt-add-constructor, cut-terms, declarations-fit}
 use Rattle.core.specs.Memory.Words.{at, put, put-all, Kept, counted}
 use Rattle.core.specs.Limits.{table-words}
