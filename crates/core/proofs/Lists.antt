@@ -135,8 +135,7 @@ module _ {A : Type 0} where
   pub map-range-suc : (f : ℕ → A) (k n : ℕ) → map f (range k (suc n)) ≡ map f (range k n) ++ (f (k + n) ∷ [])
   unfolding range
   map-range-suc f k zero = rw add-zero
-  map-range-suc f k (suc n) =
-      rw (map-range-suc f (suc k) n, suc-add, add-suc)
+  map-range-suc f k (suc n) = rw (map-range-suc f (suc k) n, suc-add, add-suc)
 
   -- the first of them
   pub take-map-range : (f : ℕ → A) (k n m : ℕ) → m ≤ n → take m (map f (range k n)) ≡ map f (range k m)
@@ -200,14 +199,8 @@ pub copy-next : {t₀ : List ℕ} {at : ℕ} {vs t : List ℕ} {i : ℕ} → Cop
 copy-next {at = at} {vs} {t} {i} c h =
     let e : at + (i + 1) ≡ suc (at + i) = omega arith in
     let d : i + 1 ≡ suc i = omega arith in
-    record {
-      within = omega arith;
-      long = length-set t (at + i) (getD vs i 0) ∙ c .long;
-      rest =
-          ap₂ (λ (k m : ℕ). sets (set t (at + i) (getD vs i 0)) k (drop m vs)) e d
-          ∙ sym (ap (λ (ws : List ℕ). sets t (at + i) ws) (drop-cons vs i 0 h))
-          ∙ c .rest;
-    }
+    let r = c .rest in
+    record { within = omega arith; long = length-set t (at + i) (getD vs i 0) ∙ c .long; rest = rw (e, d) (rw (drop-cons vs i 0 h) at r) }
 
 pub copy-done : {t₀ : List ℕ} {at : ℕ} {vs t : List ℕ} {i : ℕ} → Copying t₀ at vs t i → length vs ≤ i → t ≡ sets t₀ at vs
 copy-done {at = at} {vs} {t} {i} c h = sym (ap (λ (ws : List ℕ). sets t (at + i) ws) (drop-of-length-le vs h)) ∙ c .rest

@@ -1,6 +1,6 @@
 -- Declarations: an empty table, terms given back, one more sort, one more symbol, a function, a constructor.
 use Prim.Native.Nat.{ℕ, zero, suc, _+_, _-_, _*_, _/_, _%_, _≤_, _<_}
-use mathlib.Core.Path.{_≡_, refl, sym, ap, ap₂, _∙_}
+use mathlib.Core.Path.{_≡_, refl, sym, ap, _∙_}
 use mathlib.Core.Bool.{true, false, true≢false}
 use mathlib.Core.List.{List, [], _∷_, _++_, append-assoc, append-nil}
 use native.Mathlib.Decide.{ℕ-discrete}
@@ -14,7 +14,7 @@ use lib.Seq.{drop-cons, take-all, take-take, length-take-le}
 use Rattle.core.specs.Limits.{max-sorts, max-symbols}
 use Rattle.core.specs.Lists.{range}
 use Rattle.core.specs.Sort.{SortNode, BoolSort}
-use Rattle.core.specs.Term.{Role, Function, Symbol}
+use Rattle.core.specs.Term.{Function, Symbol}
 use Rattle.core.specs.Context.{Context, empty-context, with-symbols, declare-sort, declare-fun, selectors-from, constructor-symbols, dt-add-constructor, cut-terms, declarations-fit}
 use Rattle.core.specs.Memory.Words.{at, put, put-all, Kept, counted}
 use Rattle.core.specs.Limits.{table-words}
@@ -424,14 +424,9 @@ module _ {t₀ : List ℕ} {c dt : ℕ} {fields : List ℕ} where
         ≡ with-symbols (context t₀) (selectors-from c dt 0 fields)
     unfolding selectors-from
     select-rest u h a =
-        let next : Role → Symbol = λ r. record { role = r; params = dt ∷ []; result = getD fields i 0 } in
         let p : i + 1 ≡ suc i = omega arith in
-        let rest = selectors-from c dt (suc i) (drop (suc i) fields) in
-        ap₂ (λ (x : Context) (k : ℕ). with-symbols x (selectors-from c dt k (drop k fields))) (a .view) p
-        ∙ with-both (context t) (next (role-of (c + 2 + i) (c + 1)) ∷ []) rest
-        ∙ ap (λ (r : Role). with-symbols (context t) (next r ∷ rest)) (selector-role c i)
-        ∙ sym (ap (λ (xs : List ℕ). with-symbols (context t) (selectors-from c dt i xs)) (drop-cons fields i 0 h))
-        ∙ s .rest
+        let r = s .rest in
+        rw (p, a .view, with-both, selector-role c i) (rw (drop-cons fields i 0 h) at r)
 
     pub select-next : {u : List ℕ} → i < length fields → length u ≡ length t →
         SymbolAdded t (c + 2 + i) (c + 1) (getD fields i 0) (dt ∷ []) u → Selecting t₀ c dt fields u (i + 1)
@@ -505,14 +500,5 @@ module _ {t : List ℕ} {n dt : ℕ} {fields t₁ : List ℕ} (e : n ≡ symbols
       Declares t (dt-add-constructor (context t) dt fields) Declared.the-variants.Done u
   unfolding dt-add-constructor constructor-symbols
   constructor-added {u = u} b c =
-      let ctor : Role → Symbol = λ r. record { role = r; params = fields; result = dt } in
-      let tester : Role → Symbol = λ r. record { role = r; params = dt ∷ []; result = 0 } in
-      let sels = selectors-from n dt 0 fields in
       accepted t (dt-add-constructor (context t) dt fields) u (c .sound)
-      (c .view
-      ∙ ap (λ (x : Context). with-symbols x sels) (b .view)
-      ∙ with-both (context t₁) (tester (role-of (n + 1) (n + 1)) ∷ []) sels
-      ∙ ap (λ (x : Context). with-symbols x (tester (role-of (n + 1) (n + 1)) ∷ sels)) (a .view)
-      ∙ with-both (context t) (ctor (role-of n (n + 1)) ∷ []) (tester (role-of (n + 1) (n + 1)) ∷ sels)
-      ∙ ap₂ (λ (r q : Role). with-symbols (context t) (ctor r ∷ tester q ∷ sels)) (ctor-role n) (tester-role n)
-      ∙ ap (λ (k : ℕ). with-symbols (context t) (constructor-symbols k dt fields)) (e ∙ sym (symbols-length t)))
+      (c .view ∙ rw (b .view, a .view, with-both, with-both, ctor-role n, tester-role n, symbols-length t, ← e))

@@ -66,14 +66,9 @@ pub record Hashing (code : ℕ) (args : List ℕ) (h i : ℕ) : Type 0 where
 pub hash-next : (code : ℕ) (args : List ℕ) (h i : ℕ) → Hashing code args h i → i < length args →
     Hashing code args ((31 * h + getD args i 0) % buckets) (i + 1)
 unfolding bucket
-hash-next code args h i w l = record {
-  within = omega arith;
-  small = omega arith;
-  rest =
-      ap (λ (k : ℕ). bucket ((31 * h + getD args i 0) % buckets) (drop k args)) (add-one i)
-      ∙ sym (ap (bucket h) (drop-cons args i 0 l))
-      ∙ w .rest;
-}
+hash-next code args h i w l =
+    let r = w .rest in
+    record { within = omega arith; small = omega arith; rest = rw (add-one i) (rw (drop-cons args i 0 l) at r) }
 
 pub hash-done : (code : ℕ) (args : List ℕ) (h i : ℕ) → Hashing code args h i → length args ≤ i → h ≡ bucket code args
 unfolding bucket

@@ -46,16 +46,7 @@ module _ (room : ℕ → ℕ) where
       go true q f g t = inl (f tt)
       go false q f g t = inr (g t)
 
-  -- a store in region c leaves region b as it was
-  pub other-region : (t : List ℕ) (b c x y v : ℕ) → T (apart room b c) → x < room b → y < room c → at (put t c y v) b x ≡ at t b x
-  unfolding at put
-  other-region t b c x y v a h k = getD-set-other t (c + y) (b + x) v 0 (differ (ordered b c a))
-    where
-      differ : (b + room b ≤ c) ⊎ (c + room c ≤ b) → b + x ≡ c + y → ⊥
-      differ (inl l) e = omega arith
-      differ (inr l) e = omega arith
-
-  -- and so does a run of stores
+  -- a run of stores in region c leaves region b as it was
   pub all-other : (t : List ℕ) (b c x y : ℕ) (vs : List ℕ) → T (apart room b c) → x < room b → y + length vs ≤ room c →
       at (put-all t c y vs) b x ≡ at t b x
   unfolding at put-all
@@ -64,6 +55,11 @@ module _ (room : ℕ → ℕ) where
       outside : (b + room b ≤ c) ⊎ (c + room c ≤ b) → (b + x < c + y) ⊎ (c + y + length vs ≤ b + x)
       outside (inl l) = inl (omega arith)
       outside (inr l) = inr (omega arith)
+
+  -- and so does one
+  pub other-region : (t : List ℕ) (b c x y v : ℕ) → T (apart room b c) → x < room b → y < room c → at (put t c y v) b x ≡ at t b x
+  unfolding put put-all
+  other-region t b c x y v a h k = all-other t b c x y (v ∷ []) a h (omega arith)
 
   -- ---- what stores in some regions keep
 
@@ -90,18 +86,16 @@ module _ (room : ℕ → ℕ) where
   pub kept-more : (ws vs t u : List ℕ) → T (among ws vs) → Kept room ws t u → Kept room vs t u
   kept-more ws vs t u m p = record { long = p .long; rest = λ b x a h. p .rest b x (clear-fewer b ws vs m a) h }
 
-  pub kept-put : (ws t u : List ℕ) (c y v : ℕ) → T (one-of c ws) → y < room c → Kept room ws t u → Kept room ws t (put u c y v)
-  kept-put ws t u c y v m k p = record {
-    long = length-put u c y v ∙ p .long;
-    rest = λ b x a h. other-region u b c x y v (clear-apart b c ws a m) h k ∙ p .rest b x a h;
-  }
-
   pub kept-put-all : (ws t u : List ℕ) (c y : ℕ) (vs : List ℕ) → T (one-of c ws) → y + length vs ≤ room c → Kept room ws t u →
       Kept room ws t (put-all u c y vs)
   kept-put-all ws t u c y vs m k p = record {
     long = length-put-all u c y vs ∙ p .long;
     rest = λ b x a h. all-other u b c x y vs (clear-apart b c ws a m) h k ∙ p .rest b x a h;
   }
+
+  pub kept-put : (ws t u : List ℕ) (c y v : ℕ) → T (one-of c ws) → y < room c → Kept room ws t u → Kept room ws t (put u c y v)
+  unfolding put put-all
+  kept-put ws t u c y v m k p = kept-put-all ws t u c y (v ∷ []) m (omega arith) p
 
   module _ (size : ℕ) where
     pub same-place : (t : List ℕ) (b x v : ℕ) → T (leb (b + room b) size) → size ≤ length t → x < room b → at (put t b x v) b x ≡ v

@@ -74,9 +74,7 @@ module _ (t : List ℕ) (code : ℕ) (args : List ℕ) where
   module _ (i w : ℕ) (o : w ≡ at t OP i) where
     pub app-other-op : (w ≡ code → ⊥) → false ≡ Fits t code args i
     unfolding same-term term-at
-    app-other-op n =
-        let e = same-op-codes code (at t OP i) ∙ ne-eqb code (at t OP i) (λ q. n (o ∙ sym q)) in
-        sym (ap (λ (b : Bool). b && same-list args (args-at t i)) e)
+    app-other-op n = rw (same-op-codes code (at t OP i), ne-eqb code (at t OP i) (λ q. n (o ∙ sym q)))
 
     module _ (a e : ℕ) (p : a ≡ at t OFFSET i) (q : e ≡ at t OFFSET (i + 1)) where
       length-is : e - a ≡ length (args-at t i)
@@ -86,18 +84,12 @@ module _ (t : List ℕ) (code : ℕ) (args : List ℕ) where
       pub app-other-length : (e - a ≡ length args → ⊥) → false ≡ Fits t code args i
       unfolding same-term term-at
       app-other-length n =
-          let op = same-op (op-of code) (op-of (at t OP i)) in
-          sym (ap (λ (b : Bool). op && b) (same-list-not args (args-at t i) (λ l. n (length-is ∙ sym (ap length l)))) ∙ and-no op)
+          rw (same-list-not args (args-at t i) (λ l. n (length-is ∙ sym (ap length l)))) (sym (and-no (same-op (op-of code) (op-of (at t OP i)))))
 
       pub app-same : (r : Bool) → w ≡ code → e - a ≡ length args → r ≡ same-list args (stretch t POOL a (length args)) →
           r ≡ Fits t code args i
       unfolding same-term term-at args-at
-      app-same r c l s =
-          let op = same-op-codes code (at t OP i) ∙ eq-eqb code (at t OP i) (sym c ∙ o) in
-          s
-          ∙ ap (λ (n : ℕ). same-list args (stretch t POOL a n)) (sym l)
-          ∙ ap₂ (λ (x y : ℕ). same-list args (stretch t POOL x (y - x))) p q
-          ∙ ap (λ (b : Bool). b && same-list args (args-at t i)) (sym op)
+      app-same r c l s = rw (same-op-codes code (at t OP i), eq-eqb code (at t OP i) (sym c ∙ o), ← p, ← q, l) s
 
   -- a term that fits is the application, and the other way round
   fits-words : (i : ℕ) → Fits t code args i ≡ true → (code ≡ at t OP i) × (args ≡ args-at t i)
