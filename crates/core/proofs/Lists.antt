@@ -1,16 +1,5 @@
 -- Laws of the list functions that the definitions share.
-use Prim.Native.Nat.{ℕ, zero, suc, _+_, _≤_, _<_}
-use mathlib.Core.Path.{_≡_, refl, sym, subst, ap, ap₂, _∙_}
-use mathlib.Core.Logic.{_⊎_, inl, inr}
-use mathlib.Core.Bool.{Bool, true, false, cond, _&&_, false≢true}
-use mathlib.Core.List.{List, [], _∷_, _++_, map}
-use native.Mathlib.Nat.{le-antisymm, add-zero, add-suc, suc-add}
-use native.Mathlib.Decide.{decLe}
-use native.Mathlib.Omega.{arith}
-use lib.Dec.{T, eqb, eqb→eq}
-use borrow.Author.Tests.{eq-eqb}
-use lib.ListN.{length, getD, take, drop, set, length-set, drop-of-length-le}
-use lib.Seq.{sets, getD-set-same, getD-set-other, drop-cons}
+use Rattle.core.proofs.Kit.{ℕ, zero, suc, _+_, _≤_, _<_, _≡_, refl, sym, subst, ap, ap₂, _∙_, _⊎_, inl, inr, Bool, true, false, cond, _&&_, false≢true, List, [], _∷_, _++_, map, le-antisymm, add-zero, add-suc, suc-add, decLe, arith, T, eqb, eqb→eq, eq-eqb, length, getD, take, drop, set, length-set, drop-of-length-le, sets, getD-set-same, getD-set-other, drop-cons}
 pub use Rattle.core.specs.Lists.{In}
 use Rattle.core.specs.Lists.{keep, every, any, range, same-list}
 

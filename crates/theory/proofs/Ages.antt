@@ -1,14 +1,5 @@
 -- Ages of pairs, labels and steps: the pairs of the labels on a path were equal before its ends were.
-use Prim.Native.Nat.{ℕ, suc, _≤_, _<_}
-use mathlib.Core.Path.{_≡_, refl, subst, ap}
-use mathlib.Core.Logic.{inl, inr}
-use mathlib.Core.Bool.{true, false, cond}
-use mathlib.Core.List.{List, [], _∷_}
-use native.Mathlib.Decide.{decLe}
-use native.Mathlib.Omega.{arith}
-use borrow.Author.Tests.{ne-eqb, le-leb, lt-leb}
-use lib.Dec.{leb}
-use lib.ListN.{length}
+use Rattle.core.proofs.Kit.{ℕ, suc, _≤_, _<_, _≡_, refl, subst, ap, inl, inr, true, false, cond, List, [], _∷_, decLe, arith, ne-eqb, le-leb, lt-leb, leb, length}
 use Rattle.core.proofs.Lists.{In, T-true}
 use Rattle.theory.specs.Types.{EqJust}
 use Rattle.theory.specs.EqEngine.{Merge, Step, find, are-equal, pairs-of, before, common, way, path}

@@ -1,13 +1,5 @@
 -- Explanations: each leaf labels a merge, and the leaves together force the equality that they explain.
-use Prim.Native.Nat.{ℕ, zero, suc, _≤_, _<_}
-use mathlib.Core.Path.{_≡_, refl, sym, subst, ap, ap₂, _∙_}
-use mathlib.Core.Logic.{_⊎_, inl, inr, ⊎-map, _↔_}
-use mathlib.Core.Bool.{Bool, true, false, cond, _&&_, _||_}
-use mathlib.Core.List.{List, [], _∷_, _++_, map, foldl, append-assoc, append-nil}
-use native.Mathlib.Omega.{arith}
-use lib.Dec.{T, eqb, eqb→eq, eqb-refl}
-use lib.ListN.{length, length-map}
-use borrow.Author.Tests.{eq-eqb}
+use Rattle.core.proofs.Kit.{ℕ, zero, suc, _≤_, _<_, _≡_, refl, sym, subst, ap, ap₂, _∙_, _⊎_, inl, inr, ⊎-map, _↔_, Bool, true, false, cond, _&&_, _||_, List, [], _∷_, _++_, map, foldl, append-assoc, append-nil, arith, T, eqb, eqb→eq, eqb-refl, length, length-map, eq-eqb}
 use Rattle.core.specs.Lists.{any}
 use Rattle.core.proofs.Lists.{In, any-in, T-and, T-both, cond-both}
 use Rattle.theory.specs.Types.{EqJust, Asserted, Congruence, Interface, EqLeaf, AssertedLeaf, InterfaceLeaf, same-leaf}

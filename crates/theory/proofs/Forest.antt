@@ -1,16 +1,5 @@
 -- The proof forest: ways up to a root, the nearest common node of two terms, the path between them, and its age.
-use Prim.Native.Nat.{ℕ, suc, _≤_, _<_}
-use mathlib.Core.Path.{_≡_, refl, sym, subst, ap, _∙_}
-use mathlib.Core.Logic.{_⊎_, inl, inr, ⊎-elim, ⊎-map}
-use mathlib.Core.Bool.{true, false, cond}
-use mathlib.Core.List.{List, [], _∷_, _++_, append-assoc, append-cancel-right, append-nil, nil≢cons, tail-eq-of-cons-eq, head-eq-of-cons-eq}
-use mathlib.Core.Option.{none, some, Option·getD}
-use native.Mathlib.Nat.{le-antisymm}
-use native.Mathlib.Decide.{ℕ-discrete}
-use native.Mathlib.Omega.{arith}
-use lib.Dec.{T, eqb, eqb→eq, eqb-refl}
-use lib.ListN.{length}
-use borrow.Author.Tests.{eq-eqb, ne-eqb}
+use Rattle.core.proofs.Kit.{ℕ, suc, _≤_, _<_, _≡_, refl, sym, subst, ap, _∙_, _⊎_, inl, inr, ⊎-elim, ⊎-map, true, false, cond, List, [], _∷_, _++_, append-assoc, append-cancel-right, append-nil, nil≢cons, tail-eq-of-cons-eq, head-eq-of-cons-eq, none, some, Option·getD, le-antisymm, ℕ-discrete, arith, T, eqb, eqb→eq, eqb-refl, length, eq-eqb, ne-eqb}
 use Rattle.core.specs.Lists.{first, mem}
 use Rattle.core.proofs.Lists.{In, any-in}
 pub use Rattle.theory.specs.Memory.Replay.{end, On}

@@ -1,13 +1,5 @@
 -- Sizes of classes, and bounds: merges among N terms are fewer than N, and a class has at most one term more than there are merges.
-use Prim.Native.Nat.{ℕ, zero, suc, _+_, _≤_, _<_}
-use mathlib.Core.Path.{_≡_, refl, sym, subst, ap, _∙_}
-use mathlib.Core.Logic.{inl, inr, ⊎-elim}
-use mathlib.Core.Bool.{false}
-use mathlib.Core.List.{List, [], _∷_, map}
-use native.Mathlib.Decide.{ℕ-discrete}
-use native.Mathlib.Omega.{arith}
-use lib.ListN.{length}
-use borrow.Author.Tests.{eq-eqb, ne-eqb}
+use Rattle.core.proofs.Kit.{ℕ, zero, suc, _+_, _≤_, _<_, _≡_, refl, sym, subst, ap, _∙_, inl, inr, ⊎-elim, false, List, [], _∷_, map, ℕ-discrete, arith, length, eq-eqb, ne-eqb}
 use Rattle.core.specs.Lists.{range, total}
 use Rattle.core.proofs.Lists.{In, in-range}
 use Rattle.theory.specs.EqEngine.{Merge, singletons, classes, find, are-equal}

@@ -1,10 +1,5 @@
 -- Laws of the numbers that stand for operations and roles, and of sorts packed four to a word.
-use Prim.Native.Nat.{ℕ, zero, suc, _+_, _-_, _*_, _/_, _%_, _≤_, _<_}
-use mathlib.Core.Path.{_≡_, refl, sym, ap, _∙_, subst}
-use mathlib.Core.List.{List, [], _∷_}
-use native.Mathlib.Numerals.{add-one}
-use native.Mathlib.Omega.{arith}
-use lib.ListN.{length, getD}
+use Rattle.core.proofs.Kit.{ℕ, zero, suc, _+_, _-_, _*_, _/_, _%_, _≤_, _<_, _≡_, refl, sym, ap, _∙_, subst, List, [], _∷_, add-one, arith, length, getD}
 use Rattle.core.specs.Term.{Constructor, Tester, Selector, Function, Eq, Uninterpreted}
 use Rattle.core.specs.Limits.{max-sorts, max-params}
 use Rattle.core.specs.Memory.Table.{digit, packed, packed-words, op-of, role-of, member-role, context, AllBelow}

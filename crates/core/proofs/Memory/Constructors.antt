@@ -1,11 +1,5 @@
 -- Constructors of a datatype, and question 10, by the words of the table.
-use Prim.Native.Nat.{ℕ, zero, suc, _+_, _-_, _≤_, _<_}
-use mathlib.Core.Path.{_≡_, refl, sym, ap, ap₂, _∙_}
-use mathlib.Core.Bool.{Bool, true, false, not, _&&_}
-use mathlib.Core.List.{List}
-use native.Mathlib.Omega.{arith}
-use borrow.Author.Tests.{eq-eqb, ne-eqb}
-use lib.Dec.{eqb}
+use Rattle.core.proofs.Kit.{ℕ, zero, suc, _+_, _-_, _≤_, _<_, _≡_, refl, sym, ap, ap₂, _∙_, Bool, true, false, not, _&&_, List, arith, eq-eqb, ne-eqb, eqb}
 use Rattle.core.specs.Lists.{keep, every, any, range}
 use Rattle.core.specs.Context.{is-constructor, is-datatype-sort, symbol, builds, dt-constructors, has-plain-fields, grounded, all-grounded}
 use Rattle.core.specs.Memory.Words.{at, counted}

@@ -1,15 +1,5 @@
 -- The index: the newest term of a bucket, and the loop that computes a bucket.
-use Prim.Native.Nat.{ℕ, zero, suc, _+_, _*_, _%_, _≤_, _<_}
-use mathlib.Core.Path.{_≡_, refl, sym, ap, ap₂, _∙_}
-use mathlib.Core.Bool.{Bool, cond}
-use mathlib.Core.List.{List}
-use native.Mathlib.Decide.{ℕ-discrete}
-use native.Mathlib.Numerals.{add-one}
-use native.Mathlib.Omega.{arith}
-use borrow.Author.Tests.{eq-eqb, ne-eqb}
-use lib.Dec.{eqb}
-use lib.ListN.{length, getD, drop, drop-of-length-le}
-use lib.Seq.{drop-cons}
+use Rattle.core.proofs.Kit.{ℕ, zero, suc, _+_, _*_, _%_, _≤_, _<_, _≡_, refl, sym, ap, ap₂, _∙_, Bool, cond, List, ℕ-discrete, add-one, arith, eq-eqb, ne-eqb, eqb, length, getD, drop, drop-of-length-le, drop-cons}
 use Rattle.core.specs.Memory.Table.{buckets, bucket, newest}
 
 module _ (hash : ℕ → ℕ) (h : ℕ) where

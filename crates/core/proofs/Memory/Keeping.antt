@@ -1,11 +1,5 @@
 -- A table after some stores: what they leave of its sorts, symbols and terms, and when it is sound again.
-use Prim.Native.Nat.{ℕ, _+_, _-_, _*_, _/_, _%_, _≤_, _<_}
-use mathlib.Core.Path.{_≡_, ap, ap₂, _∙_, sym}
-use mathlib.Core.List.{List}
-use native.Mathlib.Decide.{decLe}
-use native.Mathlib.Omega.{arith}
-use lib.Dec.{T}
-use lib.ListN.{length}
+use Rattle.core.proofs.Kit.{ℕ, _+_, _-_, _*_, _/_, _%_, _≤_, _<_, _≡_, ap, ap₂, _∙_, sym, List, decLe, arith, T, length}
 use Rattle.core.specs.Limits.{max-sorts, max-symbols, max-terms, max-places, max-params}
 use Rattle.core.specs.Term.{Term}
 use Rattle.core.specs.Memory.Words.{at, counted, stretch, clear-of, Kept}

@@ -1,13 +1,6 @@
 -- Search loops: a loop goes up from a number and stops at the first that passes a test. One invariant, none below i passes, and what it
 -- says of a counted list: whether any or every entry passes, and which is the first.
-use Prim.Native.Nat.{ℕ, zero, suc, _+_, _≤_, _<_}
-use mathlib.Core.Path.{_≡_, refl, sym, ap, _∙_}
-use mathlib.Core.Bool.{Bool, true, false, cond, not, _&&_}
-use mathlib.Core.List.{List, [], _∷_, map}
-use mathlib.Core.Option.{none, some}
-use native.Mathlib.Nat.{zero-add, add-zero, add-suc, suc-add}
-use native.Mathlib.Omega.{arith}
-use borrow.Author.Count.{below-more}
+use Rattle.core.proofs.Kit.{ℕ, zero, suc, _+_, _≤_, _<_, _≡_, refl, sym, ap, _∙_, Bool, true, false, cond, not, _&&_, List, [], _∷_, map, none, some, zero-add, add-zero, add-suc, suc-add, arith, below-more}
 use Rattle.core.specs.Lists.{keep, every, any, place-from, range}
 use Rattle.core.specs.Memory.Words.{counted}
 use Rattle.core.proofs.Lists.{cond-both}

@@ -1,16 +1,6 @@
 -- Stores by region: what stands in a table after words of a region were written. `room` gives the room of each region, `size` is
 -- how many words the table has at least. Whether two regions lie apart is computed, so at named regions `tt` proves it.
-use Prim.Native.Nat.{ℕ, _+_, _≤_, _<_}
-use mathlib.Core.Path.{_≡_, refl, sym, ap, _∙_, subst}
-use mathlib.Core.Logic.{_⊎_, inl, inr}
-use mathlib.Core.Bool.{Bool, true, false, cond, _||_}
-use mathlib.Core.List.{List, [], _∷_}
-use native.Mathlib.Decide.{ℕ-discrete}
-use native.Mathlib.Omega.{arith}
-use borrow.Author.Tests.{eq-eqb, ne-eqb, eqb-true}
-use lib.Dec.{T, eqb, leb, leb→le}
-use lib.ListN.{length, getD, length-set}
-use lib.Seq.{getD-set-same, getD-set-other, length-sets, sets}
+use Rattle.core.proofs.Kit.{ℕ, _+_, _≤_, _<_, _≡_, refl, sym, ap, _∙_, subst, _⊎_, inl, inr, Bool, true, false, cond, _||_, List, [], _∷_, ℕ-discrete, arith, eq-eqb, ne-eqb, eqb-true, T, eqb, leb, leb→le, length, getD, length-set, getD-set-same, getD-set-other, length-sets, sets}
 use Rattle.core.specs.Memory.Words.{at, put, put-all, apart, clear-of, one-of, among, Kept}
 use Rattle.core.proofs.Lists.{T-and, T-both, getD-sets-in, getD-sets-out}
 

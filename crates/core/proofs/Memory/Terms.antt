@@ -1,16 +1,5 @@
 -- Terms: an application looked up among them, one more at their end, and making one.
-use Prim.Native.Nat.{ℕ, zero, suc, _+_, _-_, _≤_, _<_}
-use mathlib.Core.Path.{_≡_, refl, sym, ap, ap₂, _∙_, subst}
-use mathlib.Core.Bool.{Bool, true, false, not, _&&_, true≢false}
-use mathlib.Core.List.{List, [], _∷_, _++_, map, map-append}
-use mathlib.Core.Option.{none}
-use native.Mathlib.Nat.{zero-add, add-assoc}
-use native.Mathlib.Numerals.{add-one}
-use native.Mathlib.Decide.{decLe, ℕ-discrete}
-use native.Mathlib.Omega.{arith}
-use borrow.Author.Tests.{eq-eqb, ne-eqb, eqb-true, not-false, le-leb, lt-leb}
-use lib.Dec.{T, eqb, leb, eqb→eq, eqb·suc-suc}
-use lib.ListN.{length, getD, length-append}
+use Rattle.core.proofs.Kit.{ℕ, zero, suc, _+_, _-_, _≤_, _<_, _≡_, refl, sym, ap, ap₂, _∙_, subst, Bool, true, false, not, _&&_, true≢false, List, [], _∷_, _++_, map, map-append, none, zero-add, add-assoc, add-one, decLe, ℕ-discrete, arith, eq-eqb, ne-eqb, eqb-true, not-false, le-leb, lt-leb, T, eqb, leb, eqb→eq, eqb·suc-suc, length, getD, length-append}
 use Rattle.core.specs.Limits.{max-terms, max-places}
 use Rattle.core.specs.Lists.{same-list, range, total}
 use Rattle.core.specs.Term.{Op, Eq, Uninterpreted, Term, same-op, same-term}

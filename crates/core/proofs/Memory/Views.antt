@@ -1,11 +1,5 @@
 -- What a table means, by its words: the counts, and the sort, the symbol and the term of each number.
-use Prim.Native.Nat.{ℕ, zero, suc, _+_, _-_, _≤_, _<_}
-use mathlib.Core.Path.{_≡_, refl, sym, ap, ap₂, _∙_, subst}
-use mathlib.Core.List.{List}
-use native.Mathlib.Omega.{arith}
-use borrow.Author.Tests.{ne-eqb}
-use lib.Dec.{eqb}
-use lib.ListN.{length, getD, take, drop}
+use Rattle.core.proofs.Kit.{ℕ, zero, suc, _+_, _-_, _≤_, _<_, _≡_, refl, sym, ap, ap₂, _∙_, subst, List, arith, ne-eqb, eqb, length, getD, take, drop}
 use Rattle.core.specs.Limits.{max-places, max-params}
 use Rattle.core.specs.Sort.{BoolSort, is-datatype}
 use Rattle.core.specs.Term.{Symbol, Term}

@@ -1,6 +1,5 @@
 -- Past its end a list gives 0.
-use Rattle.core.proofs.Kit.{needs, arith, refl, sym}
-use lib.ListN.{List·getD-eq-default}
+use Rattle.core.proofs.Kit.{needs, arith, refl, sym, List·getD-eq-default}
 use Rattle.core.proofs.context.sort_or_0.Statement.{statement}
 use Rattle.core.proofs.context.sort_or_0.Tie as tie
 

@@ -1,6 +1,5 @@
 -- By the place of a symbol after its constructor.
-use Prim.Native.Nat.{suc}
-use Rattle.core.proofs.Kit.{needs, _-_, sym, arith}
+use Rattle.core.proofs.Kit.{suc, needs, _-_, sym, arith}
 use Rattle.core.specs.Memory.Table.{member-role}
 use Rattle.core.specs.Memory.Codes.{role-meaning, RoleBelow}
 use Rattle.core.proofs.Memory.Codes.{role-of-zero, role-of-member}

@@ -1,15 +1,9 @@
 -- The cycle of explanation. The measure of each function is five times the age of the part that it is given, and a place in the order
 -- explain_rec, expand_pair, expand_pairs, expand_edge, expand_way: a call for a part that is as old goes down in this order, and the ways
 -- of a pair are less old than the pair.
-use Prim.Native.Nat.{ℕ, _+_, _-_, _*_, _<_}
-use mathlib.Core.Path.{_∙_}
-use mathlib.Core.List.{[], _∷_}
-use native.Mathlib.Omega.{arith}
-use native.Mathlib.Nat.{mod-lt}
-use borrow.Author.Needs.{needs}
+use Rattle.core.proofs.Kit.{ℕ, _+_, _-_, _*_, _<_, _∙_, [], _∷_, arith, mod-lt, needs, length}
 use borrow.Fn.Kinds.{In}
 use borrow.Fn.PlainCycle.{Measures, falls, and}
-use lib.ListN.{length}
 use Rattle.theory.specs.EqEngine.{way}
 use Rattle.theory.specs.Memory.Table.{pair-at, just-at, merges, kind-unit}
 use Rattle.theory.specs.Memory.Explaining.{NewPair, Way, Label, Pairs, part-age, up-to, pairs-from}

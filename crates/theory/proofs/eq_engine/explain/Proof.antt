@@ -1,6 +1,5 @@
 -- At first no pair is marked, and nothing is explained.
-use mathlib.Core.Path.{refl}
-use borrow.Author.Needs.{needs}
+use Rattle.core.proofs.Kit.{refl, needs}
 use Rattle.core.specs.Limits.{max-pairs}
 use Rattle.theory.proofs.Memory.Explaining.{explained}
 use Rattle.theory.proofs.eq_engine.explain.Statement.{statement}
