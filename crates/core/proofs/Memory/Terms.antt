@@ -73,7 +73,8 @@ module _ (t : List ℕ) (code : ℕ) (args : List ℕ) where
       pub app-other-length : (e - a ≡ length args → ⊥) → false ≡ Fits t code args i
       unfolding same-term term-at
       app-other-length n =
-          rw (same-list-not args (args-at t i) (λ l. n (length-is ∙ sym (ap length l)))) (sym (and-no (same-op (op-of code) (op-of (at t OP i)))))
+          rw (same-list-not args (args-at t i) (λ l. n (length-is ∙ sym (ap length l))))
+          (sym (and-no (same-op (op-of code) (op-of (at t OP i)))))
 
       pub app-same : (r : Bool) → w ≡ code → e - a ≡ length args → r ≡ same-list args (stretch t POOL a (length args)) →
           r ≡ Fits t code args i
