@@ -3,6 +3,6 @@
 pub mod Lists
 pub mod Symbols
 pub mod Readings
--- Memory: lemmas about the lent table; Kit: the names that most proofs of functions use.
+-- Memory: lemmas about the lent table; Kit: the library names that proofs of core and theory use.
 pub mod Memory
 pub mod Kit

@@ -1,16 +1,5 @@
 -- Laws of the list functions that the definitions share.
-use Prim.Native.Nat.{ℕ, zero, suc, _+_, _≤_, _<_}
-use mathlib.Core.Path.{_≡_, refl, sym, subst, ap, ap₂, _∙_}
-use mathlib.Core.Logic.{_⊎_, inl, inr}
-use mathlib.Core.Bool.{Bool, true, false, cond, _&&_, false≢true}
-use mathlib.Core.List.{List, [], _∷_, _++_, map}
-use native.Mathlib.Nat.{le-antisymm, add-zero, add-suc, suc-add}
-use native.Mathlib.Decide.{decLe}
-use native.Mathlib.Omega.{arith}
-use lib.Dec.{T, eqb, eqb→eq}
-use borrow.Author.Tests.{eq-eqb, ne-eqb}
-use lib.ListN.{length, getD, take, drop, set, length-set, drop-of-length-le}
-use lib.Seq.{sets, getD-set-same, getD-set-other, drop-cons}
+use Rattle.core.proofs.Kit.{ℕ, zero, suc, _+_, _≤_, _<_, _≡_, refl, sym, subst, ap, ap₂, _∙_, _⊎_, inl, inr, Bool, true, false, cond, _&&_, false≢true, List, [], _∷_, _++_, map, le-antisymm, add-zero, add-suc, suc-add, decLe, arith, T, eqb, eqb→eq, eq-eqb, length, getD, take, drop, set, length-set, drop-of-length-le, sets, getD-set-same, getD-set-other, drop-cons}
 pub use Rattle.core.specs.Lists.{In}
 use Rattle.core.specs.Lists.{keep, every, any, range, same-list}
 
@@ -28,9 +17,17 @@ pub T-both : (a b : Bool) → T a → T b → T (a && b)
 T-both true b s t = t
 T-both false b s t = absurd s
 
-pub cond-same : (b : Bool) → cond b false false ≡ false
-cond-same true = refl
-cond-same false = refl
+pub T-true : (b : Bool) → T b → b ≡ true
+T-true true t = refl
+T-true false t = absurd t
+
+pub true-T : (b : Bool) → b ≡ true → T b
+true-T true e = tt
+true-T false e = absurd (false≢true e)
+
+pub not-true-false : (b : Bool) → (b ≡ true → ⊥) → b ≡ false
+not-true-false true n = absurd (n refl)
+not-true-false false n = refl
 
 pub cond-both : (b : Bool) → cond b true true ≡ true
 cond-both true = refl
@@ -96,6 +93,12 @@ unfolding range
 in-range k zero x h l = absurd (omega arith)
 in-range k (suc n) x h l = range-step k n x (decLe x k) h (λ g. in-range (suc k) n x g (omega arith))
 
+pub range-in : (k n x : ℕ) → In x (range k n) → (k ≤ x) × (x < k + n)
+unfolding range
+range-in k zero x i = absurd i
+range-in k (suc n) x (inl e) = (omega arith, omega arith)
+range-in k (suc n) x (inr i) = let r = range-in (suc k) n x i in (omega arith, omega arith)
+
 -- ---- a function over a range
 
 module _ {A : Type 0} where
@@ -115,16 +118,13 @@ module _ {A : Type 0} where
   unfolding range
   map-range-cong f g k zero h = refl
   map-range-cong f g k (suc n) h =
-      ap₂ (λ (x : A) (xs : List A). x ∷ xs) (h k (omega arith) (omega arith))
-      (map-range-cong f g (suc k) n (λ i l u. h i (omega arith) (omega arith)))
+      rw (h k (omega arith) (omega arith), map-range-cong f g (suc k) n (λ i l u. h i (omega arith) (omega arith)))
 
   -- one more at the end
   pub map-range-suc : (f : ℕ → A) (k n : ℕ) → map f (range k (suc n)) ≡ map f (range k n) ++ (f (k + n) ∷ [])
   unfolding range
   map-range-suc f k zero = rw add-zero
-  map-range-suc f k (suc n) =
-      ap {B = List A} (λ xs. f k ∷ xs)
-      (map-range-suc f (suc k) n ∙ ap (λ (m : ℕ). map f (range (suc k) n) ++ (f m ∷ [])) (suc-add k n ∙ sym (add-suc k n)))
+  map-range-suc f k (suc n) = rw (map-range-suc f (suc k) n, suc-add, add-suc)
 
   -- the first of them
   pub take-map-range : (f : ℕ → A) (k n m : ℕ) → m ≤ n → take m (map f (range k n)) ≡ map f (range k m)
@@ -156,32 +156,6 @@ module _ {A : Type 0} where
 
 -- ---- lists compared
 
-pub same-list-true : (xs ys : List ℕ) → length xs ≡ length ys → ((k : ℕ) → k < length xs → getD xs k 0 ≡ getD ys k 0) →
-    same-list xs ys ≡ true
-unfolding same-list
-same-list-true [] [] e h = refl
-same-list-true [] (y ∷ ys) e h = absurd (omega arith)
-same-list-true (x ∷ xs) [] e h = absurd (omega arith)
-same-list-true (x ∷ xs) (y ∷ ys) e h =
-    ap (λ (b : Bool). cond b (same-list xs ys) false) (eq-eqb x y (h 0 (omega arith)))
-    ∙ same-list-true xs ys (omega arith) (λ k l. h (suc k) (omega arith))
-
-pub same-list-false : (xs ys : List ℕ) (k : ℕ) → k < length xs → (getD xs k 0 ≡ getD ys k 0 → ⊥) → same-list xs ys ≡ false
-unfolding same-list
-same-list-false [] ys k l n = absurd (omega arith)
-same-list-false (x ∷ xs) [] k l n = refl
-same-list-false (x ∷ xs) (y ∷ ys) zero l n = ap (λ (b : Bool). cond b (same-list xs ys) false) (ne-eqb x y n)
-same-list-false (x ∷ xs) (y ∷ ys) (suc k) l n =
-    ap (λ (b : Bool). cond (eqb x y) b false) (same-list-false xs ys k (omega arith) n) ∙ cond-same (eqb x y)
-
-pub same-list-longer : (xs ys : List ℕ) → (length xs ≡ length ys → ⊥) → same-list xs ys ≡ false
-unfolding same-list
-same-list-longer [] [] n = absurd (n refl)
-same-list-longer [] (y ∷ ys) n = refl
-same-list-longer (x ∷ xs) [] n = refl
-same-list-longer (x ∷ xs) (y ∷ ys) n =
-    ap (λ (b : Bool). cond (eqb x y) b false) (same-list-longer xs ys (λ e. n (ap suc e))) ∙ cond-same (eqb x y)
-
 pub same-list-eq : (xs ys : List ℕ) → T (same-list xs ys) → xs ≡ ys
 unfolding same-list
 same-list-eq [] [] t = refl
@@ -189,6 +163,14 @@ same-list-eq [] (y ∷ ys) t = absurd t
 same-list-eq (x ∷ xs) [] t = absurd t
 same-list-eq (x ∷ xs) (y ∷ ys) t =
     let (e, r) = cond-and (eqb x y) (same-list xs ys) t in ap₂ (λ (z : ℕ) (zs : List ℕ). z ∷ zs) (eqb→eq x y e) (same-list-eq xs ys r)
+
+pub same-list-same : (xs : List ℕ) → same-list xs xs ≡ true
+unfolding same-list
+same-list-same [] = refl
+same-list-same (x ∷ xs) = rw (eq-eqb x x refl, same-list-same xs)
+
+pub same-list-not : (xs ys : List ℕ) → (xs ≡ ys → ⊥) → same-list xs ys ≡ false
+same-list-not xs ys n = not-true-false (same-list xs ys) (λ e. n (same-list-eq xs ys (true-T (same-list xs ys) e)))
 
 -- ---- a loop that copies vs into t₀ from a place on
 
@@ -206,30 +188,8 @@ pub copy-next : {t₀ : List ℕ} {at : ℕ} {vs t : List ℕ} {i : ℕ} → Cop
 copy-next {at = at} {vs} {t} {i} c h =
     let e : at + (i + 1) ≡ suc (at + i) = omega arith in
     let d : i + 1 ≡ suc i = omega arith in
-    record {
-      within = omega arith;
-      long = length-set t (at + i) (getD vs i 0) ∙ c .long;
-      rest =
-          ap₂ (λ (k m : ℕ). sets (set t (at + i) (getD vs i 0)) k (drop m vs)) e d
-          ∙ sym (ap (λ (ws : List ℕ). sets t (at + i) ws) (drop-cons vs i 0 h))
-          ∙ c .rest;
-    }
+    let r = c .rest in
+    record { within = omega arith; long = length-set t (at + i) (getD vs i 0) ∙ c .long; rest = rw (e, d) (rw (drop-cons vs i 0 h) at r) }
 
 pub copy-done : {t₀ : List ℕ} {at : ℕ} {vs t : List ℕ} {i : ℕ} → Copying t₀ at vs t i → length vs ≤ i → t ≡ sets t₀ at vs
 copy-done {at = at} {vs} {t} {i} c h = sym (ap (λ (ws : List ℕ). sets t (at + i) ws) (drop-of-length-le vs h)) ∙ c .rest
-
--- ---- tests over a list, by its members
-
-pub T-true : (b : Bool) → T b → b ≡ true
-T-true true t = refl
-T-true false t = absurd t
-
-pub true-T : (b : Bool) → b ≡ true → T b
-true-T true e = tt
-true-T false e = absurd (false≢true e)
-
-pub range-in : (k n x : ℕ) → In x (range k n) → (k ≤ x) × (x < k + n)
-unfolding range
-range-in k zero x i = absurd i
-range-in k (suc n) x (inl e) = (omega arith, omega arith)
-range-in k (suc n) x (inr i) = let r = range-in (suc k) n x i in (omega arith, omega arith)

@@ -1,13 +1,6 @@
 -- Every signature that `close` accepts has a reading: one element for every other sort, every function and every selector on
 -- foreign constructors gives a fixed value of its sort, and a datatype's is its constructor with no datatype field.
-use Prim.Native.Nat.{ℕ, zero, suc, _<_}
-use mathlib.Core.Path.{_≡_, refl, subst, subst⁻¹}
-use mathlib.Core.Logic.{inl, inr}
-use mathlib.Core.Bool.{true, false, not}
-use mathlib.Core.List.{List, [], _∷_}
-use native.Mathlib.Omega.{arith}
-use lib.Dec.{T}
-use lib.ListN.{length, getD}
+use Rattle.core.proofs.Kit.{ℕ, zero, suc, _<_, _≡_, refl, subst, subst⁻¹, inl, inr, true, false, not, List, [], _∷_, arith, T, length, getD}
 use Rattle.core.specs.Lists.{keep, every, range}
 use Rattle.core.specs.Sort.{SortNode, BoolSort, Datatype, Uninterpreted, is-datatype, is-bool, is-uninterpreted}
 use Rattle.core.specs.Context.{Context, sort-node, symbol, is-datatype-sort, builds, dt-constructors, has-plain-fields, grounded, all-grounded}

@@ -1,8 +1,5 @@
 -- How many symbols a constructor takes: itself, its tester, and a selector for each field.
-use Prim.Native.Nat.{ℕ, suc}
-use mathlib.Core.Path.{_≡_, refl, ap}
-use mathlib.Core.List.{List, [], _∷_}
-use lib.ListN.{length}
+use Rattle.core.proofs.Kit.{ℕ, suc, _≡_, refl, ap, List, [], _∷_, length}
 use Rattle.core.specs.Context.{selectors-from, constructor-symbols}
 
 pub symbol-count : (c dt i : ℕ) (fields : List ℕ) → length (selectors-from c dt i fields) ≡ length fields

@@ -75,6 +75,13 @@ const LINK: usize = 11264;
 
 const BUCKETS: usize = 1021;
 
+// A sort is below it; its square and its cube.
+const RADIX: usize = 64;
+
+const RADIX_SQUARED: usize = 4096;
+
+const RADIX_CUBED: usize = 262144;
+
 // ---- an empty table
 
 fn clear_buckets(t: &mut [u32])
@@ -151,21 +158,21 @@ pub fn arity(t: &[u32], f: SymbolId) -> usize
     get_at(t, ARITY, i)
 }
 
-// Digit d of a word, to the base 64.
+// Digit d of a word.
 fn digit(w: usize, d: usize) -> usize
     requires { ⌜ d < 4 ⌝ }
     ensures { λ r. ⌜ r ≡ digit w d ⌝ }
 {
     if d == 0 {
-        return w % 64;
+        return w % RADIX;
     }
     if d == 1 {
-        return w / 64 % 64;
+        return w / RADIX % RADIX;
     }
     if d == 2 {
-        return w / 4096 % 64;
+        return w / RADIX_SQUARED % RADIX;
     }
-    w / 262144 % 64
+    w / RADIX_CUBED % RADIX
 }
 
 fn param_sort(t: &[u32], s: usize, i: usize) -> usize
@@ -400,11 +407,15 @@ pub fn declare_sort(t: &mut [u32], datatype: bool) -> Declared
 }
 
 // A number of a list of sorts, or 0 past its end.
-fn sort_or_0(sorts: &[u32], i: usize) -> u32
+fn sort_or_0(sorts: &[u32], i: usize) -> usize
     requires { ⌜ AllBelow max-sorts (now sorts) ⌝ }
     ensures { λ r. ⌜ (r ≡ getD (now (sorts .entry)) i 0) × (r < max-sorts) ⌝ }
 {
-    if i < sorts.len() { sorts[i] } else { 0 }
+    if i < sorts.len() {
+        sorts[i] as usize
+    } else {
+        0
+    }
 }
 
 // Four sorts of a list in a word, from number 4 q on.
@@ -413,10 +424,11 @@ fn pack(sorts: &[u32], q: usize) -> u32
     ensures { λ r. ⌜ r ≡ packed (now (sorts .entry)) q ⌝ }
 {
     let i = 4 * q;
-    sort_or_0(sorts, i)
-        + 64 * sort_or_0(sorts, i + 1)
-        + 4096 * sort_or_0(sorts, i + 2)
-        + 262144 * sort_or_0(sorts, i + 3)
+    let word = sort_or_0(sorts, i)
+        + RADIX * sort_or_0(sorts, i + 1)
+        + RADIX_SQUARED * sort_or_0(sorts, i + 2)
+        + RADIX_CUBED * sort_or_0(sorts, i + 3);
+    word as u32
 }
 
 // One more symbol, the n-th.

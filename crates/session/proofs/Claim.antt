@@ -8,6 +8,7 @@ use mathlib.Core.Option.{Option, none, some}
 use native.Mathlib.Omega.{arith}
 use lib.Dec.{T, eqb, ltb, ltb→lt}
 use lib.ListN.{length}
+use Rattle.core.specs.Limits.{max-vars}
 use Rattle.core.specs.Lists.{every, mem, same-list}
 use Rattle.core.specs.Ids as Ids
 use Rattle.core.specs.Term.{Eq, same-op}
@@ -62,10 +63,10 @@ accept s h I (MkEq t u) e =
     let (x, y) = T-and (term-exists s t) (term-exists s u) b in
     eq-good s h t u I a x y (T-and (not (eqb t u)) (one-sort s t u) (no-refusal (agree (not (eqb t u) && one-sort s t u)) [] e₂ .0) .1)
 accept s h I (Register v t) e =
-    let (a, e₁) = no-refusal (after-close s) (exist (ltb v 1024 && term-exists s t) ∷ agree (eqb (sort-of (s .state .terms) t) 0) ∷ unregistered s v ∷ []) e in
-    let (b, e₂) = no-refusal (exist (ltb v 1024 && term-exists s t)) (agree (eqb (sort-of (s .state .terms) t) 0) ∷ unregistered s v ∷ []) e₁ in
+    let (a, e₁) = no-refusal (after-close s) (exist (ltb v max-vars && term-exists s t) ∷ agree (eqb (sort-of (s .state .terms) t) 0) ∷ unregistered s v ∷ []) e in
+    let (b, e₂) = no-refusal (exist (ltb v max-vars && term-exists s t)) (agree (eqb (sort-of (s .state .terms) t) 0) ∷ unregistered s v ∷ []) e₁ in
     let (c, e₃) = no-refusal (agree (eqb (sort-of (s .state .terms) t) 0)) (unregistered s v ∷ []) e₂ in
-    register-good s h v t I (no-refusal (unregistered s v) [] e₃ .0) (unfold term-exists in ltb→lt t (length (s .state .terms .terms)) (T-and (ltb v 1024) (term-exists s t) b .1))
+    register-good s h v t I (no-refusal (unregistered s v) [] e₃ .0) (unfold term-exists in ltb→lt t (length (s .state .terms .terms)) (T-and (ltb v max-vars) (term-exists s t) b .1))
 accept s h I (Equate l) e =
     let (a, e₁) = no-refusal (after-close s) (exist (var-exists s l) ∷ equation s l ∷ []) e in
     let (b, e₂) = no-refusal (exist (var-exists s l)) (equation s l ∷ []) e₁ in

@@ -1,22 +1,13 @@
 -- Ages of pairs, labels and steps: the pairs of the labels on a path were equal before its ends were.
-use Prim.Native.Nat.{ℕ, suc, _≤_, _<_}
-use mathlib.Core.Path.{_≡_, refl, sym, subst, ap}
-use mathlib.Core.Logic.{inl, inr}
-use mathlib.Core.Bool.{true, false, cond}
-use mathlib.Core.List.{List, [], _∷_}
-use native.Mathlib.Decide.{decLe}
-use native.Mathlib.Omega.{arith}
-use borrow.Author.Tests.{le-leb, lt-leb}
-use lib.Dec.{T, leb}
-use lib.ListN.{length}
+use Rattle.core.proofs.Kit.{ℕ, suc, _≤_, _<_, _≡_, refl, subst, ap, inl, inr, true, false, cond, List, [], _∷_, decLe, arith, ne-eqb, le-leb, lt-leb, leb, length}
 use Rattle.core.proofs.Lists.{In, T-true}
 use Rattle.theory.specs.Types.{EqJust}
-use Rattle.theory.specs.EqEngine.{Merge, Step, are-equal, pairs-of, before, common, way, path}
+use Rattle.theory.specs.EqEngine.{Merge, Step, find, are-equal, pairs-of, before, common, way, path}
 use Rattle.theory.specs.Memory.Replay.{Justified}
 use Rattle.theory.specs.Memory.Explaining.{age, larger, pairs-age, steps-age}
 use Rattle.theory.proofs.Members.{in-left, in-right}
-use Rattle.theory.proofs.Classes.{Same, same?, same-equal, equal-same, same-suffix, Suffix, suffix-self, suffix-tail}
-use Rattle.theory.proofs.Forest.{Edge, path-age}
+use Rattle.theory.proofs.Classes.{Same, same?, same-equal, same-suffix, Suffix, suffix-self, suffix-tail}
+use Rattle.theory.proofs.Forest.{path-age}
 use Rattle.theory.proofs.Explain.{justified-joins, justified-suffix, pairs-before}
 
 -- ---- the larger of two numbers
@@ -39,13 +30,9 @@ module _ (ms : List Merge) where
   unfolding pairs-age
   pairs-age-in [] p i = absurd i
   pairs-age-in (q ∷ ps) p (inl e) =
-      let h = larger-both (suc (age ms (q .0) (q .1))) (pairs-age ms ps) in
       let g = ap (λ (z : ℕ × ℕ). age ms (z .0) (z .1)) e in
-      omega arith
-  pairs-age-in (q ∷ ps) p (inr i) =
-      let h = larger-both (suc (age ms (q .0) (q .1))) (pairs-age ms ps) in
-      let g = pairs-age-in ps p i in
-      omega arith
+      omega (arith, larger-both (suc (age ms (q .0) (q .1))) (pairs-age ms ps))
+  pairs-age-in (q ∷ ps) p (inr i) = omega (arith, larger-both (suc (age ms (q .0) (q .1))) (pairs-age ms ps), pairs-age-in ps p i)
 
   pairs-age-least : (ps : List (ℕ × ℕ)) (k : ℕ) → ((p : ℕ × ℕ) → In p ps → age ms (p .0) (p .1) < k) → pairs-age ms ps ≤ k
   unfolding pairs-age
@@ -61,13 +48,9 @@ module _ (ms : List Merge) where
   unfolding steps-age
   steps-age-in [] s i = absurd i
   steps-age-in (u ∷ w) s (inl e) =
-      let h = larger-both (pairs-age ms (pairs-of (u .just))) (steps-age ms w) in
       let g = ap (λ (z : Step). pairs-age ms (pairs-of (z .just))) e in
-      omega arith
-  steps-age-in (u ∷ w) s (inr i) =
-      let h = larger-both (pairs-age ms (pairs-of (u .just))) (steps-age ms w) in
-      let g = steps-age-in w s i in
-      omega arith
+      omega (arith, larger-both (pairs-age ms (pairs-of (u .just))) (steps-age ms w))
+  steps-age-in (u ∷ w) s (inr i) = omega (arith, larger-both (pairs-age ms (pairs-of (u .just))) (steps-age ms w), steps-age-in w s i)
 
   steps-age-least : (w : List Step) (k : ℕ) → ((s : Step) → In s w → pairs-age ms (pairs-of (s .just)) ≤ k) → steps-age ms w ≤ k
   unfolding steps-age
@@ -92,12 +75,8 @@ unfolding age
 age-same m ms x y s = rw (T-true (are-equal ms x y) (same-equal ms x y s))
 
 age-new : (m : Merge) (ms : List Merge) (x y : ℕ) → (Same ms x y → ⊥) → age (m ∷ ms) x y ≡ suc (length ms)
-unfolding age
-age-new m ms x y h =
-    elim (are-equal ms x y) as (λ b. are-equal ms x y ≡ b → cond b (age ms x y) (suc (length ms)) ≡ suc (length ms)) [
-      | true ↦ λ e. absurd (h (equal-same ms x y (rw e tt)))
-      | false ↦ λ e. refl
-    ] refl
+unfolding age find are-equal
+age-new m ms x y h = rw (ne-eqb (find ms x) (find ms y) h)
 
 -- terms that some of the oldest merges make equal
 age-old : (r ms : List Merge) (x y : ℕ) → Suffix r ms → Same r x y → age ms x y ≤ length r

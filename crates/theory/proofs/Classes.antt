@@ -1,13 +1,5 @@
 -- Equality in a list of merges: an equivalence, what one more merge adds, suffixes, chains over the sides of merges.
-use Prim.Native.Nat.{ℕ, zero, suc, _+_, _≤_}
-use mathlib.Core.Path.{_≡_, refl, sym, subst, ap, _∙_}
-use mathlib.Core.Logic.{_⊎_, inl, inr}
-use mathlib.Core.Bool.{Bool, true, false, cond}
-use mathlib.Core.List.{List, [], _∷_, cons≢nil, tail-eq-of-cons-eq}
-use native.Mathlib.Decide.{ℕ-discrete, decLe}
-use native.Mathlib.Omega.{arith}
-use lib.Dec.{T, leb, eqb, eqb→eq}
-use borrow.Author.Tests.{eq-eqb, ne-eqb, eqb-false, le-leb, lt-leb}
+use Rattle.core.proofs.Kit.{ℕ, zero, suc, _+_, _≤_, _≡_, refl, sym, subst, ap, _∙_, _⊎_, inl, inr, Bool, true, false, cond, List, [], _∷_, cons≢nil, tail-eq-of-cons-eq, ℕ-discrete, decLe, arith, T, leb, eqb, eqb→eq, eq-eqb, ne-eqb, eqb-false, le-leb, lt-leb}
 use Rattle.core.proofs.Lists.{In}
 use Rattle.theory.specs.Types.{EqJust}
 pub use Rattle.theory.specs.Memory.Replay.{BothSides}
@@ -162,7 +154,8 @@ pub pop-suffix : (k : ℕ) (ms : List Merge) → Suffix (pop-merges k ms) ms
 unfolding pop-merges
 pop-suffix k [] = refl
 pop-suffix k (m ∷ ms) =
-    elim (leb (m .level) k) as (λ b. Suffix (cond b (m ∷ ms) (pop-merges k ms)) (m ∷ ms)) [ true ↦ inl refl | false ↦ inr (pop-suffix k ms) ]
+    let r = pop-merges k ms in
+    elim (leb (m .level) k) as (λ b. Suffix (cond b (m ∷ ms) r) (m ∷ ms)) [ true ↦ inl refl | false ↦ inr (pop-suffix k ms) ]
 
 -- what the lower level keeps, the higher keeps
 pub pop-pop : (j k : ℕ) (ms : List Merge) → j ≤ k → pop-merges j (pop-merges k ms) ≡ pop-merges j ms

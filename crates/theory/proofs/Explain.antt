@@ -1,15 +1,7 @@
 -- Explanations: each leaf labels a merge, and the leaves together force the equality that they explain.
-use Prim.Native.Nat.{ℕ, zero, suc, _≤_, _<_}
-use mathlib.Core.Path.{_≡_, refl, sym, subst, ap, ap₂, _∙_}
-use mathlib.Core.Logic.{_⊎_, inl, inr, _↔_}
-use mathlib.Core.Bool.{Bool, true, false, cond, _&&_, _||_}
-use mathlib.Core.List.{List, [], _∷_, _++_, map, foldl, append-assoc, append-nil}
-use native.Mathlib.Omega.{arith}
-use lib.Dec.{T, eqb, eqb→eq, eqb-refl}
-use lib.ListN.{length}
-use borrow.Author.Tests.{eq-eqb}
+use Rattle.core.proofs.Kit.{ℕ, zero, suc, _≤_, _<_, _≡_, refl, sym, subst, ap, ap₂, _∙_, _⊎_, inl, inr, ⊎-map, _↔_, Bool, true, false, cond, _&&_, _||_, List, [], _∷_, _++_, map, foldl, append-assoc, append-nil, arith, T, eqb, eqb→eq, eqb-refl, length, length-map, eq-eqb}
 use Rattle.core.specs.Lists.{any}
-use Rattle.core.proofs.Lists.{In, any-in, T-and, T-both}
+use Rattle.core.proofs.Lists.{In, any-in, T-and, T-both, cond-both}
 use Rattle.theory.specs.Types.{EqJust, Asserted, Congruence, Interface, EqLeaf, AssertedLeaf, InterfaceLeaf, same-leaf}
 use Rattle.theory.specs.EqEngine.{Merge, Step, find, are-equal, merge, pop-merges, pairs-of, path, Explained, same-pair, visit, cite, expand-edge, explain-rec, explain, firsts-after, firsts}
 pub use Rattle.theory.specs.Memory.Replay.{Justified}
@@ -33,7 +25,8 @@ justified-suffix r (m ∷ ms) (inr s) (a, b, c) = justified-suffix r ms s c
 pub pop-justified : (k : ℕ) (ms : List Merge) → Justified ms → Justified (pop-merges k ms)
 pop-justified k ms j = justified-suffix (pop-merges k ms) ms (pop-suffix k ms) j
 
-pub merge-justified : (ms : List Merge) (level x y : ℕ) (j : EqJust) → Justified ms → ((p : ℕ × ℕ) → In p (pairs-of j) → T (are-equal ms (p .0) (p .1))) → Justified (merge ms level x y j)
+pub merge-justified : (ms : List Merge) (level x y : ℕ) (j : EqJust) → Justified ms →
+    ((p : ℕ × ℕ) → In p (pairs-of j) → T (are-equal ms (p .0) (p .1))) → Justified (merge ms level x y j)
 unfolding merge
 merge-justified ms level x y j J f = go (are-equal ms x y) refl
   where
@@ -41,94 +34,77 @@ merge-justified ms level x y j J f = go (are-equal ms x y) refl
     go true e = J
     go false e = (e, f, J)
 
-pairs-newest : (m : Merge) (r : List Merge) → Justified (m ∷ r) → (n : Merge) → n ≡ m → (p : ℕ × ℕ) → In p (pairs-of (n .just)) → Same r (p .0) (p .1)
-pairs-newest m r j n e p i = equal-same r (p .0) (p .1) (j .1 p (subst (λ (k : Merge). In p (pairs-of (k .just))) e i))
+-- the pairs of a label are equal
+abbrev EqualIn : List Merge → EqJust → Type 0
+EqualIn r j = (p : ℕ × ℕ) → In p (pairs-of j) → Same r (p .0) (p .1)
 
 -- the pairs of every label were equal before the newest merge
-pub pairs-before : (m : Merge) (r : List Merge) → Justified (m ∷ r) → (n : Merge) → In n (m ∷ r) → (p : ℕ × ℕ) → In p (pairs-of (n .just)) → Same r (p .0) (p .1)
-pairs-before m [] j n (inl e) p i = pairs-newest m [] j n e p i
+pub pairs-before : (m : Merge) (r : List Merge) → Justified (m ∷ r) → (n : Merge) → In n (m ∷ r) → EqualIn r (n .just)
+pairs-before m [] j n (inl e) p i = equal-same [] (p .0) (p .1) (j .1 p (rw (sym e) i))
 pairs-before m [] j n (inr q) p i = absurd q
-pairs-before m (k ∷ r) j n (inl e) p i = pairs-newest m (k ∷ r) j n e p i
+pairs-before m (k ∷ r) j n (inl e) p i = equal-same (k ∷ r) (p .0) (p .1) (j .1 p (rw (sym e) i))
 pairs-before m (k ∷ r) j n (inr q) p i = same-kept k r (p .0) (p .1) (pairs-before k r (j .2) n q p i)
-
--- ---- what every step of an explanation keeps
-
-module _ {A : Type 0} (P : Explained → Type 0) (f : Explained → A → Explained) where
-  fold-keeps : (xs : List A) (e : Explained) → ((x : A) → In x xs → (e′ : Explained) → P e′ → P (f e′ x)) → P e → P (foldl f e xs)
-  fold-keeps [] e h p = p
-  fold-keeps (x ∷ xs) e h p = fold-keeps xs (f e x) (λ y i. h y (inr i)) (h x (inl refl) e p)
-
-edge-keeps : (P : Explained → Type 0) (R : ℕ → ℕ → Explained → Explained) (j : EqJust) → ((l : EqLeaf) → Labels j l → (e : Explained) → P e → P (cite l e)) → ((p : ℕ × ℕ) → In p (pairs-of j) → (e : Explained) → P e → P (R (p .0) (p .1) e)) → (e : Explained) → P e → P (expand-edge R j e)
-unfolding expand-edge pairs-of
-edge-keeps P R (Asserted l) c h e p = c (AssertedLeaf l) refl e p
-edge-keeps P R (Interface i g) c h e p = c (InterfaceLeaf i g) refl e p
-edge-keeps P R (Congruence ps) c h e p = fold-keeps P (λ e′ (q : ℕ × ℕ). R (q .0) (q .1) e′) ps e h p
-
--- P is kept by citing the label of a merge, and by visiting a new pair that has Q, as the pairs of labels have
-pub record Keeps (ms : List Merge) (P : Explained → Type 0) (Q : ℕ × ℕ → Type 0) : Type 0 where
-  pub cites : (m : Merge) → In m ms → (l : EqLeaf) → Labels (m .just) l → (e : Explained) → P e → P (cite l e)
-  pub pairs : (m : Merge) → In m ms → (p : ℕ × ℕ) → In p (pairs-of (m .just)) → Q p
-  pub visits : (x y : ℕ) (e : Explained) → Q (x, y) → (eqb x y || any (same-pair x y) (e .visited)) ≡ false → P e → P (visit x y e)
-
-pub rec-keeps : (ms : List Merge) (P : Explained → Type 0) (Q : ℕ × ℕ → Type 0) → Keeps ms P Q → (k x y : ℕ) (e : Explained) → Q (x, y) → P e → P (explain-rec k ms x y e)
-unfolding explain-rec
-rec-keeps ms P Q K zero x y e q p = p
-rec-keeps ms P Q K (suc k) x y e q p = go (eqb x y || any (same-pair x y) (e .visited)) refl (rec-keeps ms P Q K k)
-  where
-    expand : Explained → Step → Explained
-    expand e′ s = expand-edge (explain-rec k ms) (s .just) e′
-
-    go : (b : Bool) → (eqb x y || any (same-pair x y) (e .visited)) ≡ b → ((x y : ℕ) (e : Explained) → Q (x, y) → P e → P (explain-rec k ms x y e)) → P (cond b e (foldl expand (visit x y e) (path ms x y)))
-    go true t h = p
-    go false t h =
-        fold-keeps P expand (path ms x y) (visit x y e)
-        (λ s i e′ p′. let (m, o, a) = path-over ms x y s i in
-        edge-keeps P (explain-rec k ms) (s .just)
-        (λ l c e″ p″. K .cites m o l (subst (λ (j : EqJust). Labels j l) (a .0) c) e″ p″)
-        (λ r o′ e″ p″. h (r .0) (r .1) e″ (K .pairs m o r (subst (λ (j : EqJust). In r (pairs-of j)) (a .0) o′)) p″)
-        e′ p′)
-        (K .visits x y e q t p)
 
 -- ---- what is cited
 
--- From any starting leaves, each further one labels a merge.
-pub rec-cites : (k : ℕ) (ms : List Merge) (x y : ℕ) (e : Explained) (l : EqLeaf) → In l (explain-rec k ms x y e .leaves) → In l (e .leaves) ⊎ Cites ms l
-unfolding cite visit
-rec-cites k ms x y e = rec-keeps ms Cited (λ p. Unit {0}) keeps k x y e tt (λ l i. inl i)
-  where
-    Cited : Explained → Type 0
-    Cited e′ = (l : EqLeaf) → In l (e′ .leaves) → In l (e .leaves) ⊎ Cites ms l
+-- x and y are one term or were expanded
+abbrev met : ℕ → ℕ → Explained → Bool
+met x y e = eqb x y || any (same-pair x y) (e .visited)
 
-    one : (m : Merge) → In m ms → (c : EqLeaf) → Labels (m .just) c → (e′ : Explained) → Cited e′ → (l : EqLeaf) → In l (e′ .leaves) ⊎ In l (c ∷ []) → In l (e .leaves) ⊎ Cites ms l
-    one m i c h e′ f l (inl j) = f l j
-    one m i c h e′ f l (inr (inl q)) = inr (m, i, subst (Labels (m .just)) (sym q) h)
-    one m i c h e′ f l (inr (inr j)) = absurd j
+module _ (ms : List Merge) where
+  -- all leaves so far label merges
+  abbrev AllCite : Explained → Type 0
+  AllCite e = (l : EqLeaf) → In l (e .leaves) → Cites ms l
 
-    keeps : Keeps ms Cited (λ p. Unit {0})
-    keeps = record {
-      cites = λ m i c h e′ f l j. one m i c h e′ f l (in-either l (e′ .leaves) (c ∷ []) j);
-      pairs = λ m i p j. tt;
-      visits = λ x′ y′ e′ q t f. f;
-    }
+  abbrev Keeps : (Explained → Explained) → Type 0
+  Keeps f = (e : Explained) → AllCite e → AllCite (f e)
+
+  fold-keeps : {A : Type 0} (f : Explained → A → Explained) (xs : List A) → ((x : A) → In x xs → Keeps (λ e. f e x)) →
+      Keeps (λ e. foldl f e xs)
+  fold-keeps f [] h e c = c
+  fold-keeps f (x ∷ xs) h e c = fold-keeps f xs (λ y i. h y (inr i)) (f e x) (h x (inl refl) e c)
+
+  cite-keeps : (m : Merge) → In m ms → (l : EqLeaf) → Labels (m .just) l → Keeps (cite l)
+  unfolding cite
+  cite-keeps m i l h e c k j = elim (in-either k (e .leaves) (l ∷ []) j) [
+    | inl o ↦ c k o
+    | inr (inl q) ↦ (m, i, subst (Labels (m .just)) (sym q) h)
+    | inr (inr o) ↦ absurd o
+  ]
+
+  edge-keeps : (R : ℕ → ℕ → Explained → Explained) → ((x y : ℕ) → Keeps (R x y)) → (m : Merge) → In m ms → (j : EqJust) → j ≡ m .just →
+      Keeps (expand-edge R j)
+  unfolding expand-edge
+  edge-keeps R h m i (Asserted l) q = cite-keeps m i (AssertedLeaf l) (subst (λ (j : EqJust). Labels j (AssertedLeaf l)) q refl)
+  edge-keeps R h m i (Interface g t) q = cite-keeps m i (InterfaceLeaf g t) (subst (λ (j : EqJust). Labels j (InterfaceLeaf g t)) q refl)
+  edge-keeps R h m i (Congruence ps) q = fold-keeps (λ e (p : ℕ × ℕ). R (p .0) (p .1) e) ps (λ p o. h (p .0) (p .1))
+
+  rec-keeps : (k x y : ℕ) → Keeps (explain-rec k ms x y)
+  unfolding explain-rec visit
+  rec-keeps zero x y e c = c
+  rec-keeps (suc k) x y e c =
+      let expand : Explained → Step → Explained = λ e s. expand-edge (explain-rec k ms) (s .just) e in
+      elim (met x y e) as (λ b. AllCite (cond b e (foldl expand (visit x y e) (path ms x y)))) [
+        | true ↦ c
+        | false ↦
+            fold-keeps expand (path ms x y)
+            (λ s i. let (m, o, a) = path-over ms x y s i in edge-keeps (explain-rec k ms) (rec-keeps k) m o (s .just) (a .0))
+            (visit x y e) c
+      ]
 
 pub explain-cites : (ms : List Merge) (x y : ℕ) (l : EqLeaf) → In l (explain ms x y) → Cites ms l
 unfolding explain
-explain-cites ms x y l i = go (rec-cites (suc (length ms)) ms x y (record { visited = []; leaves = [] }) l i)
-  where
-    go : In l [] ⊎ Cites ms l → Cites ms l
-    go (inl j) = absurd j
-    go (inr c) = c
+explain-cites ms x y = rec-keeps ms (suc (length ms)) x y (record { visited = []; leaves = [] }) (λ k i. absurd i)
 
 -- ---- what is forced
 
 -- a visited pair in either order
 same-pair-is : (x y : ℕ) (p : ℕ × ℕ) → T (same-pair x y p) → ((x ≡ p .0) × (y ≡ p .1)) ⊎ ((x ≡ p .1) × (y ≡ p .0))
 unfolding same-pair
-same-pair-is x y p t = go (T-or (eqb x (p .0) && eqb y (p .1)) (eqb x (p .1) && eqb y (p .0)) t)
-  where
-    go : T (eqb x (p .0) && eqb y (p .1)) ⊎ T (eqb x (p .1) && eqb y (p .0)) → ((x ≡ p .0) × (y ≡ p .1)) ⊎ ((x ≡ p .1) × (y ≡ p .0))
-    go (inl s) = let (u, v) = T-and (eqb x (p .0)) (eqb y (p .1)) s in inl (eqb→eq x (p .0) u, eqb→eq y (p .1) v)
-    go (inr s) = let (u, v) = T-and (eqb x (p .1)) (eqb y (p .0)) s in inr (eqb→eq x (p .1) u, eqb→eq y (p .0) v)
+same-pair-is x y p t = elim (T-or (eqb x (p .0) && eqb y (p .1)) (eqb x (p .1) && eqb y (p .0)) t) [
+  | inl s ↦ let (u, v) = T-and (eqb x (p .0)) (eqb y (p .1)) s in inl (eqb→eq x (p .0) u, eqb→eq y (p .1) v)
+  | inr s ↦ let (u, v) = T-and (eqb x (p .1)) (eqb y (p .0)) s in inr (eqb→eq x (p .1) u, eqb→eq y (p .0) v)
+]
 
 module _ {Val : Type 0} (val : ℕ → Val) (True : EqLeaf → Type 0) where
   -- what a label says of the values of its sides
@@ -156,54 +132,55 @@ module _ {Val : Type 0} (val : ℕ → Val) (True : EqLeaf → Type 0) where
   grown-none e = record { keeps = λ l i. i; news = λ p i. inl i }
 
   grown-then : (e f g : Explained) → Grown e f → Grown f g → Grown e g
-  grown-then e f g h k = record { keeps = λ l i. k .keeps l (h .keeps l i); news = λ p i. go p (k .news p i) }
-    where
-      mid : (p : ℕ × ℕ) → In p (e .visited) ⊎ Forced f (p .0) (p .1) → In p (e .visited) ⊎ Forced g (p .0) (p .1)
-      mid p (inl i) = inl i
-      mid p (inr u) = inr (forced-on f g (p .0) (p .1) k u)
-
-      go : (p : ℕ × ℕ) → In p (f .visited) ⊎ Forced g (p .0) (p .1) → In p (e .visited) ⊎ Forced g (p .0) (p .1)
-      go p (inl i) = mid p (h .news p i)
-      go p (inr u) = inr u
+  grown-then e f g h k = record {
+    keeps = λ l i. k .keeps l (h .keeps l i);
+    news = λ p i. elim (k .news p i) [ inl j ↦ ⊎-map (λ o. o) (forced-on f g (p .0) (p .1) k) (h .news p j) | inr u ↦ inr u ];
+  }
 
   -- every visited pair that was equal in r is forced
   abbrev Done : List Merge → Explained → Type 0
   Done r e = (p : ℕ × ℕ) → In p (e .visited) → Same r (p .0) (p .1) → Forced e (p .0) (p .1)
 
   done-on : (r : List Merge) (e e′ : Explained) → Grown e e′ → Done r e → Done r e′
-  done-on r e e′ g d p i s = go (g .news p i)
-    where
-      go : In p (e .visited) ⊎ Forced e′ (p .0) (p .1) → Forced e′ (p .0) (p .1)
-      go (inl j) = forced-on e e′ (p .0) (p .1) g (d p j s)
-      go (inr f) = f
+  done-on r e e′ g d p i s = elim (g .news p i) [ inl j ↦ forced-on e e′ (p .0) (p .1) g (d p j s) | inr f ↦ f ]
 
   -- e′ explains x and y
   abbrev Explains : Explained → Explained → ℕ → ℕ → Type 0
   Explains e e′ x y = Grown e e′ × Forced e′ x y
 
   module _ {A : Type 0} (r : List Merge) (f : Explained → A → Explained) (l : A → ℕ) (h : A → ℕ) where
-    fold-explains : (xs : List A) (e : Explained) → ((x : A) → In x xs → (e′ : Explained) → Done r e′ → Explains e′ (f e′ x) (l x) (h x)) → Done r e → Grown e (foldl f e xs) × ((x : A) → In x xs → Forced (foldl f e xs) (l x) (h x))
+    fold-explains : (xs : List A) (e : Explained) →
+        ((x : A) → In x xs → (e′ : Explained) → Done r e′ → Explains e′ (f e′ x) (l x) (h x)) → Done r e →
+        Grown e (foldl f e xs) × ((x : A) → In x xs → Forced (foldl f e xs) (l x) (h x))
     fold-explains [] e g d = (grown-none e, λ x i. absurd i)
     fold-explains (x ∷ xs) e g d =
+        let last = foldl f (f e x) xs in
         let (a, b) = g x (inl refl) e d in
-        let (c, k) = fold-explains xs (f e x) (λ y i. g y (inr i)) (done-on r e (f e x) a d) in
-        (grown-then e (f e x) (foldl f (f e x) xs) a c, λ y i. go c b k y i)
-      where
-        go : Grown (f e x) (foldl f (f e x) xs) → Forced (f e x) (l x) (h x) → ((y : A) → In y xs → Forced (foldl f (f e x) xs) (l y) (h y)) → (y : A) → In y (x ∷ xs) → Forced (foldl f (f e x) xs) (l y) (h y)
-        go c b k y (inl q) = subst (λ (z : A). Forced (foldl f (f e x) xs) (l z) (h z)) (sym q) (forced-on (f e x) (foldl f (f e x) xs) (l x) (h x) c b)
-        go c b k y (inr i) = k y i
+        let (c, k) = fold-explains xs (f e x) (λ y i. g y (inr i)) (done-on r e (f e x) a d) in (
+          grown-then e (f e x) last a c,
+          λ y i. elim i [
+            | inl q ↦ subst (λ (z : A). Forced last (l z) (h z)) (sym q) (forced-on (f e x) last (l x) (h x) c b)
+            | inr j ↦ k y j
+          ],
+        )
 
   cite-explains : (k : EqLeaf) (e : Explained) (x y : ℕ) → (True k → val x ≡ val y) → Explains e (cite k e) x y
   unfolding cite
   cite-explains k e x y s =
-      (record { keeps = λ l i. in-left l (e .leaves) (k ∷ []) i; news = λ p i. inl i }, λ t. s (t k (in-right k (e .leaves) (k ∷ []) (inl refl))))
+      (record { keeps = λ l. in-left l (e .leaves) (k ∷ []); news = λ p. inl }, λ t. s (t k (in-right k (e .leaves) (k ∷ []) (inl refl))))
 
-  edge-explains : (r : List Merge) (R : ℕ → ℕ → Explained → Explained) → ((x y : ℕ) (e : Explained) → Same r x y → Done r e → Explains e (R x y e) x y) → (j : EqJust) (x y : ℕ) → SoundLabel j x y → ((p : ℕ × ℕ) → In p (pairs-of j) → Same r (p .0) (p .1)) → (e : Explained) → Done r e → Explains e (expand-edge R j e) x y
+  -- R explains all terms that are equal in r
+  abbrev ExplainsAll : List Merge → (ℕ → ℕ → Explained → Explained) → Type 0
+  ExplainsAll r R = (x y : ℕ) (e : Explained) → Same r x y → Done r e → Explains e (R x y e) x y
+
+  edge-explains : (r : List Merge) (R : ℕ → ℕ → Explained → Explained) → ExplainsAll r R → (j : EqJust) (x y : ℕ) → SoundLabel j x y →
+      EqualIn r j → (e : Explained) → Done r e → Explains e (expand-edge R j e) x y
   unfolding expand-edge pairs-of
   edge-explains r R h (Asserted l) x y s q e d = cite-explains (AssertedLeaf l) e x y s
   edge-explains r R h (Interface t g) x y s q e d = cite-explains (InterfaceLeaf t g) e x y s
   edge-explains r R h (Congruence ps) x y s q e d =
-      let (a, b) = fold-explains r (λ e′ (p : ℕ × ℕ). R (p .0) (p .1) e′) (λ p. p .0) (λ p. p .1) ps e (λ p i e′ k. h (p .0) (p .1) e′ (q p i) k) d in
+      let each : Explained → ℕ × ℕ → Explained = λ e′ p. R (p .0) (p .1) e′ in
+      let (a, b) = fold-explains r each (λ p. p .0) (λ p. p .1) ps e (λ p i e′. h (p .0) (p .1) e′ (q p i)) d in
       (a, λ t. s (λ p i. b p i t))
 
   leads-value : (w : List Step) (x z : ℕ) → Leads x w z → ((s : Step) → In s w → val (s .node) ≡ val (s .up)) → val x ≡ val z
@@ -213,7 +190,7 @@ module _ {Val : Type 0} (val : ℕ → Val) (True : EqLeaf → Type 0) where
   -- a path whose every step is forced forces its ends
   path-value : (ms : List Merge) (x y : ℕ) → PathOf ms x y → ((s : Step) → In s (path ms x y) → val (s .node) ≡ val (s .up)) → val x ≡ val y
   path-value ms x y k f =
-      let g : (s : Step) → In s (k .rise ++ k .fall) → val (s .node) ≡ val (s .up) = λ s i. f s (subst (λ (w : List Step). In s w) (sym (k .parts)) i) in
+      let g : (s : Step) → In s (k .rise ++ k .fall) → val (s .node) ≡ val (s .up) = λ s i. f s (rw (k .parts) i) in
       leads-value (k .rise) x (k .peak) (k .from-x) (λ s i. g s (in-left s (k .rise) (k .fall) i))
       ∙ sym (leads-value (k .fall) y (k .peak) (k .from-y) (λ s i. g s (in-right s (k .rise) (k .fall) i)))
 
@@ -223,13 +200,13 @@ module _ {Val : Type 0} (val : ℕ → Val) (True : EqLeaf → Type 0) where
   sound-move (Interface i g) a b x y h f = λ t. f (h t)
 
   along-sound : (m : Merge) (s : Step) → Along m s → SoundLabel (m .just) (m .a) (m .b) → SoundLabel (s .just) (s .node) (s .up)
-  along-sound m s (j, inl (p, q)) h =
-      subst (λ (i : EqJust). SoundLabel i (s .node) (s .up)) (sym j) (sound-move (m .just) (m .a) (m .b) (s .node) (s .up) h (λ e. ap val p ∙ e ∙ sym (ap val q)))
-  along-sound m s (j, inr (p, q)) h =
-      subst (λ (i : EqJust). SoundLabel i (s .node) (s .up)) (sym j) (sound-move (m .just) (m .a) (m .b) (s .node) (s .up) h (λ e. ap val p ∙ sym e ∙ sym (ap val q)))
+  along-sound m s (j, sides) h = rw j (sound-move (m .just) (m .a) (m .b) (s .node) (s .up) h (λ e. elim sides [
+    | inl (p, q) ↦ ap val p ∙ e ∙ sym (ap val q)
+    | inr (p, q) ↦ ap val p ∙ sym e ∙ sym (ap val q)
+  ]))
 
   -- a skipped pair is of one term or was finished
-  skipped : (r : List Merge) (x y : ℕ) (e : Explained) → Same r x y → Done r e → T (eqb x y || any (same-pair x y) (e .visited)) → Forced e x y
+  skipped : (r : List Merge) (x y : ℕ) (e : Explained) → Same r x y → Done r e → T (met x y e) → Forced e x y
   skipped r x y e s d t = go (T-or (eqb x y) (any (same-pair x y) (e .visited)) t)
     where
       either : (p : ℕ × ℕ) → In p (e .visited) → ((x ≡ p .0) × (y ≡ p .1)) ⊎ ((x ≡ p .1) × (y ≡ p .0)) → Forced e x y
@@ -244,13 +221,27 @@ module _ {Val : Type 0} (val : ℕ → Val) (True : EqLeaf → Type 0) where
     expand : ℕ → Explained → Step → Explained
     expand k e s = expand-edge (explain-rec k ms) (s .just) e
 
+    abbrev whole : ℕ → ℕ → ℕ → Explained → Explained
+    whole k x y e = foldl (expand k) (visit x y e) (path ms x y)
+
     -- the path of terms that only the newest merge of m ∷ r made equal, expanded
-    expanded : (m : Merge) (r : List Merge) (k x y : ℕ) (e : Explained) → Suffix (m ∷ r) ms → ((x y : ℕ) (e : Explained) → Same r x y → Done r e → Explains e (explain-rec k ms x y e) x y) → Same (m ∷ r) x y → (Same r x y → ⊥) → Done (m ∷ r) e → Explains e (foldl (expand k) (visit x y e) (path ms x y)) x y
+    expanded : (m : Merge) (r : List Merge) (k x y : ℕ) (e : Explained) → Suffix (m ∷ r) ms → ExplainsAll r (explain-rec k ms) →
+        Same (m ∷ r) x y → (Same r x y → ⊥) → Done (m ∷ r) e → Explains e (whole k x y e) x y
     unfolding visit expand
     expanded m r k x y e u f s h d =
         let (a, b) = fold-explains r (expand k) (λ t. t .node) (λ t. t .up) (path ms x y) (visit x y e) one start in
-        let c : Forced (foldl (expand k) (visit x y e) (path ms x y)) x y = λ t. path-value ms x y (path-of ms (justified-joins ms J) x y (same-suffix (m ∷ r) ms x y u s)) (λ q i. b q i t) in
-        (record { keeps = a .keeps; news = λ p i. late p c (a .news p i) }, c)
+        let parts = path-of ms (justified-joins ms J) x y (same-suffix (m ∷ r) ms x y u s) in
+        let c : Forced (whole k x y e) x y = λ t. path-value ms x y parts (λ q i. b q i t) in (
+          record {
+            keeps = a .keeps;
+            news = λ p i. elim (a .news p i) [
+              | inl (inl q) ↦ inr (λ t. ap (λ (z : ℕ × ℕ). val (z .0)) q ∙ c t ∙ sym (ap (λ (z : ℕ × ℕ). val (z .1)) q))
+              | inl (inr j) ↦ inl j
+              | inr g ↦ inr g
+            ];
+          },
+          c,
+        )
       where
         start : Done r (visit x y e)
         start p (inl q) w = absurd (h (ap (λ (z : ℕ × ℕ). find r (z .0)) (sym q) ∙ w ∙ ap (λ (z : ℕ × ℕ). find r (z .1)) q))
@@ -262,49 +253,39 @@ module _ {Val : Type 0} (val : ℕ → Val) (True : EqLeaf → Type 0) where
             edge-explains r (explain-rec k ms) f (q .just) (q .node) (q .up) (along-sound n q a (S n (in-suffix (m ∷ r) ms n u o)))
             (λ p z. pairs-before m r (justified-suffix (m ∷ r) ms u J) n o p (subst (λ (j : EqJust). In p (pairs-of j)) (a .0) z)) e′ g
 
-        late : (p : ℕ × ℕ) → Forced (foldl (expand k) (visit x y e) (path ms x y)) x y → In p ((x, y) ∷ e .visited) ⊎ Forced (foldl (expand k) (visit x y e) (path ms x y)) (p .0) (p .1) → In p (e .visited) ⊎ Forced (foldl (expand k) (visit x y e) (path ms x y)) (p .0) (p .1)
-        late p c (inl (inl q)) = inr (λ t. ap (λ (z : ℕ × ℕ). val (z .0)) q ∙ c t ∙ sym (ap (λ (z : ℕ × ℕ). val (z .1)) q))
-        late p c (inl (inr i)) = inl i
-        late p c (inr g) = inr g
-
     -- one call with enough depth: skipped, or its path is expanded
-    one-call : (r : List Merge) (k x y : ℕ) (e : Explained) → Same r x y → Done r e → Explains e (foldl (expand k) (visit x y e) (path ms x y)) x y → Explains e (explain-rec (suc k) ms x y e) x y
+    one-call : (r : List Merge) (k x y : ℕ) (e : Explained) → Same r x y → Done r e →
+        (met x y e ≡ false → Explains e (whole k x y e) x y) → Explains e (explain-rec (suc k) ms x y e) x y
     unfolding explain-rec expand
-    one-call r k x y e s d f = go (eqb x y || any (same-pair x y) (e .visited)) refl
-      where
-        go : (b : Bool) → (eqb x y || any (same-pair x y) (e .visited)) ≡ b → Explains e (cond b e (foldl (expand k) (visit x y e) (path ms x y))) x y
-        go true q = (grown-none e, skipped r x y e s d (subst T (sym q) tt))
-        go false q = f
-
-    -- one term needs no leaf
-    alone : (k x y : ℕ) (e : Explained) → x ≡ y → Explains e (explain-rec (suc k) ms x y e) x y
-    unfolding explain-rec expand
-    alone k x y e q = go (eqb x y || any (same-pair x y) (e .visited)) (T-left (eqb x y) (any (same-pair x y) (e .visited)) (subst T (sym (eq-eqb x y q)) tt))
-      where
-        go : (b : Bool) → T b → Explains e (cond b e (foldl (expand k) (visit x y e) (path ms x y))) x y
-        go true t = (grown-none e, λ h. ap val q)
-        go false t = absurd t
-
-    abbrev Enough : List Merge → Type 0
-    Enough r = (k x y : ℕ) (e : Explained) → length r < k → Same r x y → Done r e → Explains e (explain-rec k ms x y e) x y
-
-    deeper : (m : Merge) (r : List Merge) → Suffix (m ∷ r) ms → Enough r → (k x y : ℕ) (e : Explained) → length r < k → Same (m ∷ r) x y → Done (m ∷ r) e → Dec (Same r x y) → Explains e (explain-rec (suc k) ms x y e) x y
-    deeper m r u f k x y e l s d (yes q) = f (suc k) x y e (omega arith) q (λ p i w. d p i (same-kept m r (p .0) (p .1) w))
-    deeper m r u f k x y e l s d (no h) =
-        one-call (m ∷ r) k x y e s d (expanded m r k x y e u (λ x′ y′ e′ s′ d′. f k x′ y′ e′ l s′ d′) s h d)
+    one-call r k x y e s d f =
+        elim (met x y e) as (λ b. met x y e ≡ b → Explains e (cond b e (whole k x y e)) x y) [
+          | true ↦ λ q. (grown-none e, skipped r x y e s d (subst T (sym q) tt))
+          | false ↦ f
+        ] refl
 
     -- Ages fall, so the depth is enough, and no pair that is still being expanded is met again.
-    forces : (r : List Merge) → Suffix r ms → Enough r
-    forces [] u zero x y e l s d = absurd (omega arith)
-    forces [] u (suc k) x y e l s d = alone k x y e (same-alone x y s)
-    forces (m ∷ r) u zero x y e l s d = absurd (omega arith)
-    forces (m ∷ r) u (suc k) x y e l s d = deeper m r u (forces r (suffix-tail m r ms u)) k x y e (omega arith) s d (same? r x y)
+    forces : (r : List Merge) → Suffix r ms → (k x y : ℕ) (e : Explained) → length r < k → Same r x y → Done r e →
+        Explains e (explain-rec k ms x y e) x y
+    forces r u zero x y e l s d = absurd (omega arith)
+    forces [] u (suc k) x y e l s d =
+        let t = T-left (eqb x y) (any (same-pair x y) (e .visited)) (subst T (sym (eq-eqb x y (same-alone x y s))) tt) in
+        one-call [] k x y e s d (λ q. absurd (subst T q t))
+    forces (m ∷ r) u (suc k) x y e l s d =
+        let v = suffix-tail m r ms u in
+        elim (same? r x y) [
+          | yes q ↦ forces r v (suc k) x y e (omega arith) q (λ p i w. d p i (same-kept m r (p .0) (p .1) w))
+          | no h ↦
+              let g : ExplainsAll r (explain-rec k ms) = λ x y e. forces r v k x y e (omega arith) in
+              one-call (m ∷ r) k x y e s d (λ q. expanded m r k x y e u g s h d)
+        ]
 
   -- Whoever takes the leaves for true, and each merge for sound, has equal values.
-  pub explain-forces : (ms : List Merge) (x y : ℕ) → Justified ms → Sound ms → T (are-equal ms x y) → ((l : EqLeaf) → In l (explain ms x y) → True l) → val x ≡ val y
+  pub explain-forces : (ms : List Merge) (x y : ℕ) → Justified ms → Sound ms → T (are-equal ms x y) →
+      ((l : EqLeaf) → In l (explain ms x y) → True l) → val x ≡ val y
   unfolding explain
   explain-forces ms x y J S t h =
-      forces ms J S ms (suffix-self ms) (suc (length ms)) x y (record { visited = []; leaves = [] }) (omega arith) (equal-same ms x y t) (λ p i w. absurd i) .1 h
+      let start : Explained = record { visited = []; leaves = [] } in
+      forces ms J S ms (suffix-self ms) (suc (length ms)) x y start (omega arith) (equal-same ms x y t) (λ p i w. absurd i) .1 h
 
 -- ---- an explanation is not empty
 
@@ -320,9 +301,11 @@ two-terms-sound (Congruence ps) x y (p, i, h) = λ f. absurd (h (f p i))
 two-terms-sound (Interface g t) x y a = λ t. absurd t
 
 -- With no leaf, terms themselves would be values that satisfy every label.
-pub explain-nonempty : (ms : List Merge) (x y : ℕ) → Justified ms → ((m : Merge) → In m ms → TwoTerms (m .just)) → (x ≡ y → ⊥) → T (are-equal ms x y) → explain ms x y ≡ [] → ⊥
+pub explain-nonempty : (ms : List Merge) (x y : ℕ) → Justified ms → ((m : Merge) → In m ms → TwoTerms (m .just)) → (x ≡ y → ⊥) →
+    T (are-equal ms x y) → explain ms x y ≡ [] → ⊥
 explain-nonempty ms x y J A h t e =
-    h (explain-forces (λ (n : ℕ). n) (λ l. ⊥) ms x y J (λ m i. two-terms-sound (m .just) (m .a) (m .b) (A m i)) t (λ l i. subst (λ (ls : List EqLeaf). In l ls) e i))
+    let sound : Sound (λ (n : ℕ). n) (λ l. ⊥) ms = λ m i. two-terms-sound (m .just) (m .a) (m .b) (A m i) in
+    h (explain-forces (λ (n : ℕ). n) (λ l. ⊥) ms x y J sound t (λ l i. subst (λ (ls : List EqLeaf). In l ls) e i))
 
 -- ---- first occurrences
 
@@ -352,37 +335,29 @@ in-seen l seen i = in-any (same-leaf l) seen l i (same-leaf-refl l)
 after-in : (seen ls : List EqLeaf) (l : EqLeaf) → In l (firsts-after seen ls) → In l ls
 unfolding firsts-after
 after-in seen [] l i = absurd i
-after-in seen (k ∷ ls) l i = go (any (same-leaf k) seen) (after-in seen ls l) (after-in (k ∷ seen) ls l) i
-  where
-    go : (b : Bool) → (In l (firsts-after seen ls) → In l ls) → (In l (firsts-after (k ∷ seen) ls) → In l ls) → In l (cond b (firsts-after seen ls) (k ∷ firsts-after (k ∷ seen) ls)) → In l (k ∷ ls)
-    go true f g j = inr (f j)
-    go false f g (inl e) = inl e
-    go false f g (inr j) = inr (g j)
+after-in seen (k ∷ ls) l i =
+    elim (any (same-leaf k) seen) as (λ b. In l (cond b (firsts-after seen ls) (k ∷ firsts-after (k ∷ seen) ls)) → In l (k ∷ ls)) [
+      | true ↦ λ j. inr (after-in seen ls l j)
+      | false ↦ ⊎-map (λ e. e) (after-in (k ∷ seen) ls l)
+    ] i
 
 -- what stood there is kept, or was seen before
 in-after : (seen ls : List EqLeaf) (l : EqLeaf) → In l ls → In l (firsts-after seen ls) ⊎ In l seen
 unfolding firsts-after
 in-after seen [] l i = absurd i
-in-after seen (k ∷ ls) l i = go (any (same-leaf k) seen) refl i (in-after seen ls l) (in-after (k ∷ seen) ls l)
-  where
-    later : In l (firsts-after (k ∷ seen) ls) ⊎ In l (k ∷ seen) → In l (k ∷ firsts-after (k ∷ seen) ls) ⊎ In l seen
-    later (inl j) = inl (inr j)
-    later (inr (inl e)) = inl (inl e)
-    later (inr (inr j)) = inr j
-
-    go : (b : Bool) → any (same-leaf k) seen ≡ b → In l (k ∷ ls) → (In l ls → In l (firsts-after seen ls) ⊎ In l seen) → (In l ls → In l (firsts-after (k ∷ seen) ls) ⊎ In l (k ∷ seen)) → In l (cond b (firsts-after seen ls) (k ∷ firsts-after (k ∷ seen) ls)) ⊎ In l seen
-    go true e (inl q) f g = inr (subst (λ (z : EqLeaf). In z seen) (sym q) (seen-in k seen (subst T (sym e) tt)))
-    go true e (inr j) f g = f j
-    go false e (inl q) f g = inl (inl q)
-    go false e (inr j) f g = later (g j)
+in-after seen (k ∷ ls) l i =
+    elim (any (same-leaf k) seen) as
+    (λ b. any (same-leaf k) seen ≡ b → In l (cond b (firsts-after seen ls) (k ∷ firsts-after (k ∷ seen) ls)) ⊎ In l seen) [
+      | true ↦ λ e. elim i [ inl q ↦ inr (rw q (seen-in k seen (rw e tt))) | inr j ↦ in-after seen ls l j ]
+      | false ↦ λ e. elim i [
+        | inl q ↦ inl (inl q)
+        | inr j ↦ elim (in-after (k ∷ seen) ls l j) [ inl o ↦ inl (inr o) | inr (inl q) ↦ inl (inl q) | inr (inr o) ↦ inr o ]
+      ]
+    ] refl
 
 pub firsts-in : (ls : List EqLeaf) (l : EqLeaf) → In l (firsts ls) ↔ In l ls
 unfolding firsts
-firsts-in ls l = (after-in [] ls l, λ i. go (in-after [] ls l i))
-  where
-    go : In l (firsts-after [] ls) ⊎ In l [] → In l (firsts-after [] ls)
-    go (inl j) = j
-    go (inr j) = absurd j
+firsts-in ls l = (after-in [] ls l, λ i. elim (in-after [] ls l i) [ inl j ↦ j | inr j ↦ absurd j ])
 
 pub firsts-empty : (ls : List EqLeaf) → firsts ls ≡ [] → ls ≡ []
 firsts-empty [] e = refl
@@ -406,27 +381,17 @@ cites-in [] l (m, i, c) = absurd i
 cites-in (n ∷ ms) l (m, inl e, c) = inl (labels-leaf (m .just) l c ∙ ap (λ (k : Merge). label-leaf (k .just)) e)
 cites-in (n ∷ ms) l (m, inr i, c) = inr (cites-in ms l (m, i, c))
 
-map-length : (ms : List Merge) → length (map (λ (m : Merge). label-leaf (m .just)) ms) ≡ length ms
-map-length [] = refl
-map-length (m ∷ ms) = ap suc (map-length ms)
-
 -- different leaves that are one other or label merges
 pub few-leaves : (ms : List Merge) (other : EqLeaf) (ls : List EqLeaf) → Apart ls → Cited ms other ls → length ls ≤ suc (length ms)
 few-leaves ms other ls a f =
-    let h = apart-length ls (other ∷ map (λ (m : Merge). label-leaf (m .just)) ms) a (λ l i. go l (f l i)) in
-    omega (arith, map-length ms)
-  where
-    go : (l : EqLeaf) → (l ≡ other) ⊎ Cites ms l → In l (other ∷ map (λ (m : Merge). label-leaf (m .just)) ms)
-    go l (inl e) = inl e
-    go l (inr c) = inr (cites-in ms l c)
+    let h = apart-length ls (other ∷ map (λ (m : Merge). label-leaf (m .just)) ms) a (λ l i. ⊎-map (λ e. e) (cites-in ms l) (f l i)) in
+    omega (arith, length-map ms (λ (m : Merge). label-leaf (m .just)))
 
 -- ---- first occurrences, with one leaf more
 
 cond-swap : (a b r : Bool) → cond a true (cond b true r) ≡ cond b true (cond a true r)
-cond-swap true true r = refl
-cond-swap true false r = refl
-cond-swap false true r = refl
-cond-swap false false r = refl
+cond-swap true b r = sym (cond-both b)
+cond-swap false b r = refl
 
 any-move : (p : EqLeaf → Bool) (xs : List EqLeaf) (k : EqLeaf) (ys : List EqLeaf) → any p (xs ++ (k ∷ ys)) ≡ any p ((k ∷ xs) ++ ys)
 unfolding any

@@ -1,16 +1,5 @@
 -- The proof forest: ways up to a root, the nearest common node of two terms, the path between them, and its age.
-use Prim.Native.Nat.{ℕ, suc, _≤_, _<_}
-use mathlib.Core.Path.{_≡_, refl, sym, subst, ap, _∙_}
-use mathlib.Core.Logic.{_⊎_, inl, inr, ⊎-elim, ⊎-map}
-use mathlib.Core.Bool.{Bool, true, false, cond}
-use mathlib.Core.List.{List, [], _∷_, _++_, append-assoc, append-cancel-right, append-nil, nil≢cons, tail-eq-of-cons-eq, head-eq-of-cons-eq}
-use mathlib.Core.Option.{Option, none, some, Option·getD}
-use native.Mathlib.Nat.{le-antisymm}
-use native.Mathlib.Decide.{ℕ-discrete}
-use native.Mathlib.Omega.{arith}
-use lib.Dec.{T, eqb, eqb→eq, eqb-refl}
-use lib.ListN.{length}
-use borrow.Author.Tests.{eq-eqb, ne-eqb}
+use Rattle.core.proofs.Kit.{ℕ, suc, _≤_, _<_, _≡_, refl, sym, subst, ap, _∙_, _⊎_, inl, inr, ⊎-elim, ⊎-map, true, false, cond, List, [], _∷_, _++_, append-assoc, append-cancel-right, append-nil, nil≢cons, tail-eq-of-cons-eq, head-eq-of-cons-eq, none, some, Option·getD, le-antisymm, ℕ-discrete, arith, T, eqb, eqb→eq, eqb-refl, length, eq-eqb, ne-eqb}
 use Rattle.core.specs.Lists.{first, mem}
 use Rattle.core.proofs.Lists.{In, any-in}
 pub use Rattle.theory.specs.Memory.Replay.{end, On}
@@ -58,10 +47,8 @@ over-append ms u w f g s i = ⊎-elim (f s) (g s) (in-either s u w i)
 pub edge-same : (ms : List Merge) (s : Step) → Edge ms s → Same ms (s .node) (s .up)
 edge-same [] s (m, i, a) = absurd i
 edge-same (n ∷ ms) s (m, inr i, a) = same-kept n ms (s .node) (s .up) (edge-same ms s (m, i, a))
-edge-same (n ∷ ms) s (m, inl e, (j, inl (p, q))) =
-    ap (find (n ∷ ms)) (p ∙ ap (λ (k : Merge). k .a) e) ∙ same-sides n ms ∙ sym (ap (find (n ∷ ms)) (q ∙ ap (λ (k : Merge). k .b) e))
-edge-same (n ∷ ms) s (m, inl e, (j, inr (p, q))) =
-    ap (find (n ∷ ms)) (p ∙ ap (λ (k : Merge). k .b) e) ∙ sym (same-sides n ms) ∙ sym (ap (find (n ∷ ms)) (q ∙ ap (λ (k : Merge). k .a) e))
+edge-same (n ∷ ms) s (m, inl e, (j, inl (p, q))) = rw (p, q, e) (same-sides n ms)
+edge-same (n ∷ ms) s (m, inl e, (j, inr (p, q))) = rw (p, q, e) (sym (same-sides n ms))
 
 -- ---- before, turned
 
@@ -270,9 +257,7 @@ module _ (W : ℕ → List Step) (F : Forest W) where
   before-next v a s w i p =
       append-cancel-right (before (s .up) (W a)) (before v (W a) ++ (s ∷ [])) (W (s .up))
       (sym (split (s .up) a (above-trans (W a) (s .up) v a refl i (from-step (s .up) v s w p (inl refl))))
-      ∙ split v a i
-      ∙ ap (λ (u : List Step). before v (W a) ++ u) (p ∙ ap (λ (u : List Step). s ∷ u) (sym (F v s w p .1)))
-      ∙ sym (append-assoc (before v (W a)) (s ∷ []) (W (s .up))))
+      ∙ split v a i ∙ rw (append-assoc, p, F v s w p .1))
 
   -- the node just below x on the way of a
   abbrev pub Below : ℕ → ℕ → Type 0
@@ -321,23 +306,23 @@ module _ (W : ℕ → List Step) (F : Forest W) where
         | true ↦ λ e. meet-below x y (mem-on y x e)
         | false ↦ λ e. absurd (not-on y x e (subst (λ (u : ℕ). Above W u x) (at-root v y p j) i))
       ] refl
-  meets x (s ∷ w) y p d v i j = go (mem y (nodes x (W x))) refl (at-step v y s w p j) (meets x w (s .up) (F y s w p .1) d v i)
-    where
-      later : Option ℕ
-      later = first (λ n. mem n (nodes x (W x))) (s .up ∷ ups w)
-
-      not-y : (u : ℕ) → mem y (nodes x (W x)) ≡ false → u ≡ y → Above W u x → ⊥
-      not-y u e q k = not-on y x e (subst (λ (z : ℕ). Above W z x) q k)
-
-      go : (b : Bool) → mem y (nodes x (W x)) ≡ b → (v ≡ y) ⊎ Above W v (s .up) →
-          (Above W v (s .up) → Meet W x (s .up) (Option·getD later d)) → Meet W x y (Option·getD (cond b (some y) later) d)
-      go true e k f = meet-below x y (mem-on y x e)
-      go false e (inl q) f = absurd (not-y v e q i)
-      go false e (inr k) f = record {
-        on-x = f k .on-x;
-        on-y = from-step (Option·getD later d) y s w p (f k .on-y);
-        lowest = λ u l o. elim (at-step u y s w p o) [ inl q ↦ absurd (not-y u e q l) | inr o ↦ f k .lowest u l o ];
-      }
+  meets x (s ∷ w) y p d v i j =
+      let later = first (λ n. mem n (nodes x (W x))) (s .up ∷ ups w) in
+      elim (mem y (nodes x (W x))) as (λ b. mem y (nodes x (W x)) ≡ b → Meet W x y (Option·getD (cond b (some y) later) d)) [
+        | true ↦ λ e. meet-below x y (mem-on y x e)
+        | false ↦ λ e.
+            let not-y : (u : ℕ) → u ≡ y → Above W u x → ⊥ = λ u q k. not-on y x e (subst (λ (z : ℕ). Above W z x) q k) in
+            elim (at-step v y s w p j) [
+              | inl q ↦ absurd (not-y v q i)
+              | inr k ↦
+                  let m = meets x w (s .up) (F y s w p .1) d v i k in
+                  record {
+                    on-x = m .on-x;
+                    on-y = from-step (Option·getD later d) y s w p (m .on-y);
+                    lowest = λ u l o. elim (at-step u y s w p o) [ inl q ↦ absurd (not-y u q l) | inr o ↦ m .lowest u l o ];
+                  }
+            ]
+      ] refl
 
   pub common-meets : (x y v : ℕ) → Above W v x → Above W v y → Meet W x y (common x (W x) y (W y))
   unfolding common nodes
@@ -455,16 +440,14 @@ module _ (m : Merge) (ms : List Merge) (J : Joins (m ∷ ms)) (F : Forest (way m
       ∙ ap (λ (v : ℕ). hung (before v (way ms x)) (before v (way ms (m .a)))) (common-is (way ms) F x (m .a) n k)
 
   hung-above : (v : ℕ) → Above (way ms) v (m .a) → way (m ∷ ms) v ≡ hung [] (before v (way ms (m .a)))
-  hung-above v i =
-      hung-at v v (meet-above (way ms) F v (m .a) i) ∙ ap (λ (u : List Step). hung u (before v (way ms (m .a)))) (before-self (way ms) F v)
+  hung-above v i = hung-at v v (meet-above (way ms) F v (m .a) i) ∙ rw (before-self (way ms) F v)
 
   pub second-side : way (m ∷ ms) (m .b) ≡ way ms (m .b)
   second-side = way-out m ms (m .b) (λ e. unequal ms (m .a) (m .b) (J .0) (sym e))
 
   pub first-side : way (m ∷ ms) (m .a) ≡ new-step m ∷ way (m ∷ ms) (m .b)
   unfolding hung turned
-  first-side =
-      hung-above (m .a) (inl refl) ∙ ap (hung []) (before-self (way ms) F (m .a)) ∙ ap (λ (w : List Step). new-step m ∷ w) (sym second-side)
+  first-side = hung-above (m .a) (inl refl) ∙ rw (before-self (way ms) F (m .a), second-side)
 
   pub turned-above : (v : ℕ) (s : Step) (w : List Step) → Above (way ms) v (m .a) → way ms v ≡ s ∷ w →
       way (m ∷ ms) (s .up) ≡ back s ∷ way (m ∷ ms) v
@@ -492,10 +475,9 @@ module _ (m : Merge) (ms : List Merge) (J : Joins (m ∷ ms)) (F : Forest (way m
   ]
 
   pub other-root : (x : ℕ) → (Above (way ms) x (m .a) → ⊥) → way ms x ≡ [] → way (m ∷ ms) x ≡ []
-  other-root x h p = way-out m ms x (λ e. h (subst (λ (v : ℕ). Above (way ms) v (m .a)) (root e) (end-on (way ms (m .a)) (m .a)))) ∙ p
-    where
-      root : Same ms x (m .a) → end (m .a) (way ms (m .a)) ≡ x
-      root e = sym (way-end ms (J .1) x (m .a) e) ∙ ap (end x) p
+  other-root x h p =
+      let root : Same ms x (m .a) → end (m .a) (way ms (m .a)) ≡ x = λ e. sym (way-end ms (J .1) x (m .a) e) ∙ ap (end x) p in
+      way-out m ms x (λ e. h (subst (λ (v : ℕ). Above (way ms) v (m .a)) (root e) (end-on (way ms (m .a)) (m .a)))) ∙ p
 
   -- the old root of the first side's tree goes the old way back, then over the new edge
   pub from-old-root : way (m ∷ ms) (end (m .a) (way ms (m .a))) ≡ turned (way ms (m .a)) ++ (new-step m ∷ way ms (m .b))
@@ -560,16 +542,18 @@ path-of ms J x y e =
 
 -- ---- age: a path between terms that were equal before goes over the older merges only
 
--- a climb over the sides of m, from d to c, and else over merges of r
-record Crossing (W : ℕ → List Step) (m : Merge) (r : List Merge) (n x : ℕ) : Type 0 where
+-- the sides of m, from d to c, above which the way goes over merges of r up to n
+record Crossing (W : ℕ → List Step) (m : Merge) (r : List Merge) (n : ℕ) : Type 0 where
   d : ℕ
   c : ℕ
   sides : BothSides m d c
-  on-way : Above W d x
   deeper : length (W n) < length (W d)
   next : length (W d) ≡ suc (length (W c))
-  to : Same r x d
   from : Same r c n
+
+-- a climb from x over the sides of m, and else over merges of r
+abbrev Crosses : (ℕ → List Step) → Merge → List Merge → ℕ → ℕ → Type 0
+Crosses W m r n x = (z : Crossing W m r n) × Above W (z .d) x × Same r x (z .d)
 
 -- the sides of m in either order, told apart by the length of their ways
 sides-clash : (h : ℕ → ℕ) (m : Merge) (d c e f : ℕ) → BothSides m d c → BothSides m e f → h d ≡ suc (h c) → h e ≡ suc (h f) → d ≡ e
@@ -587,9 +571,6 @@ module _ (W : ℕ → List Step) (F : Forest W) where
       let e = before-step W F n x s w p h in
       ap (find r) (sym (F x s w p .0)) ∙ edge-same r s (o s (rw e (inl refl))) ∙ f (λ t k. o t (rw e (inr k)))) x
 
-  over-none : (r : List Merge) (n : ℕ) → Over r (before n (W n))
-  over-none r n s i = absurd (subst (λ (u : List Step). In s u) (before-self W F n) i)
-
   over-more : (r : List Merge) (n x : ℕ) (s : Step) (w : List Step) → W x ≡ s ∷ w → (x ≡ n → ⊥) → Edge r s →
       Over r (before n (W (s .up))) → Over r (before n (W x))
   over-more r n x s w p h g o t i =
@@ -598,9 +579,10 @@ module _ (W : ℕ → List Step) (F : Forest W) where
 
   -- a climb goes over the newest merge once at most
   crosses-once : (m : Merge) (r : List Merge) (n x : ℕ) → Above W n x → Over (m ∷ r) (before n (W x)) →
-      Over r (before n (W x)) ⊎ Crossing W m r n x
+      Over r (before n (W x)) ⊎ Crosses W m r n x
   crosses-once m r n x =
-      climb W F (λ x. Over (m ∷ r) (before n (W x)) → Over r (before n (W x)) ⊎ Crossing W m r n x) n (λ o. inl (over-none r n))
+      climb W F (λ x. Over (m ∷ r) (before n (W x)) → Over r (before n (W x)) ⊎ Crosses W m r n x) n
+      (λ o. inl (λ s i. absurd (subst (λ (u : List Step). In s u) (before-self W F n) i)))
       (λ x s w p h j f o.
       let e = before-step W F n x s w p h in
       go x s w p h j (o s (rw e (inl refl))) (f (λ t k. o t (rw e (inr k))))) x
@@ -613,33 +595,25 @@ module _ (W : ℕ → List Step) (F : Forest W) where
       here x s w p k e (q, inr (u, v)) = inr (sym (F x s w p .0) ∙ u ∙ ap (λ (l : Merge). l .b) e, v ∙ ap (λ (l : Merge). l .a) e)
 
       go : (x : ℕ) (s : Step) (w : List Step) → W x ≡ s ∷ w → (x ≡ n → ⊥) → Above W n (s .up) → Edge (m ∷ r) s →
-          Over r (before n (W (s .up))) ⊎ Crossing W m r n (s .up) → Over r (before n (W x)) ⊎ Crossing W m r n x
+          Over r (before n (W (s .up))) ⊎ Crosses W m r n (s .up) → Over r (before n (W x)) ⊎ Crosses W m r n x
       go x s w p h j (k, inr q, a) (inl o) = inl (over-more r n x s w p h (k, q, a) o)
-      go x s w p h j (k, inr q, a) (inr z) = inr (record {
-        d = z .d;
-        c = z .c;
-        sides = z .sides;
-        on-way = from-step W F (z .d) x s w p (z .on-way);
-        deeper = z .deeper;
-        next = z .next;
-        to = ap (find r) (sym (F x s w p .0)) ∙ edge-same r s (k, q, a) ∙ z .to;
-        from = z .from;
-      })
-      go x s w p h j (k, inl q, a) (inl o) = inr (record {
-        d = x;
-        c = s .up;
-        sides = here x s w p k q a;
-        on-way = inl refl;
-        deeper = omega (arith, longer W F x s w p, shorter W F n (s .up) j);
-        next = longer W F x s w p;
-        to = refl;
-        from = climb-same r n (s .up) j o;
-      })
-      go x s w p h j (k, inl q, a) (inr z) =
+      go x s w p h j (k, inr q, a) (inr (z, o, t)) =
+          inr (z, from-step W F (z .d) x s w p o, ap (find r) (sym (F x s w p .0)) ∙ edge-same r s (k, q, a) ∙ t)
+      go x s w p h j (k, inl q, a) (inl o) =
+          let crossing : Crossing W m r n = record {
+            d = x;
+            c = s .up;
+            sides = here x s w p k q a;
+            deeper = omega (arith, longer W F x s w p, shorter W F n (s .up) j);
+            next = longer W F x s w p;
+            from = climb-same r n (s .up) j o;
+          } in
+          inr (crossing, inl refl, refl)
+      go x s w p h j (k, inl q, a) (inr (z, o, t)) =
           let e : x ≡ z .d =
           sides-clash height m x (s .up) (z .d) (z .c) (here x s w p k q a) (z .sides) (longer W F x s w p) (z .next) in
           let g : height x ≡ height (z .d) = ap height e in
-          absurd (omega (arith, longer W F x s w p, shorter W F (z .d) (s .up) (z .on-way)))
+          absurd (omega (arith, longer W F x s w p, shorter W F (z .d) (s .up) o))
 
   -- the climbs from x and from y to n go over merges of r
   abbrev Climbs-over : List Merge → ℕ → ℕ → ℕ → Type 0
@@ -654,13 +628,13 @@ module _ (W : ℕ → List Step) (F : Forest W) where
       joined d c (inl (u, v)) s = h (ap (find r) (sym u) ∙ s ∙ ap (find r) v)
       joined d c (inr (u, v)) s = h (ap (find r) (sym v) ∙ sym s ∙ ap (find r) u)
 
-      go : Over r (before n (W x)) ⊎ Crossing W m r n x → Over r (before n (W y)) ⊎ Crossing W m r n y → Climbs-over r n x y
+      go : Over r (before n (W x)) ⊎ Crosses W m r n x → Over r (before n (W y)) ⊎ Crosses W m r n y → Climbs-over r n x y
       go (inl u) (inl v) = (u, v)
-      go (inl u) (inr z) = absurd (joined (z .d) (z .c) (z .sides) (sym (z .to) ∙ sym e ∙ climb-same r n x (k .on-x) u ∙ sym (z .from)))
-      go (inr z) (inl v) = absurd (joined (z .d) (z .c) (z .sides) (sym (z .to) ∙ e ∙ climb-same r n y (k .on-y) v ∙ sym (z .from)))
-      go (inr z) (inr t) =
-          let g : z .d ≡ t .d = sides-clash (λ v. length (W v)) m (z .d) (z .c) (t .d) (t .c) (z .sides) (t .sides) (z .next) (t .next) in
-          let l = k .lowest (z .d) (z .on-way) (subst (λ (v : ℕ). Above W v y) (sym g) (t .on-way)) in
+      go (inl u) (inr (z, o, t)) = absurd (joined (z .d) (z .c) (z .sides) (sym t ∙ sym e ∙ climb-same r n x (k .on-x) u ∙ sym (z .from)))
+      go (inr (z, o, t)) (inl v) = absurd (joined (z .d) (z .c) (z .sides) (sym t ∙ e ∙ climb-same r n y (k .on-y) v ∙ sym (z .from)))
+      go (inr (z, o, t)) (inr (w, o′, t′)) =
+          let g : z .d ≡ w .d = sides-clash (λ v. length (W v)) m (z .d) (z .c) (w .d) (w .c) (z .sides) (w .sides) (z .next) (w .next) in
+          let l = k .lowest (z .d) o (subst (λ (v : ℕ). Above W v y) (sym g) o′) in
           absurd (omega (arith, z .deeper))
 
   -- and so for any time since which they are equal

@@ -1,12 +1,5 @@
 -- Tests joined by `||`; membership in appended lists, for `any`, and in lists without repetition.
-use Prim.Native.Nat.{suc, _≤_}
-use mathlib.Core.Path.{_≡_, refl, sym, subst, ap, _∙_}
-use mathlib.Core.Logic.{_⊎_, inl, inr, ⊎-elim, ⊎-map}
-use mathlib.Core.Bool.{Bool, true, false, _||_}
-use mathlib.Core.List.{List, [], _∷_, _++_}
-use native.Mathlib.Omega.{arith}
-use lib.Dec.{T}
-use lib.ListN.{length}
+use Rattle.core.proofs.Kit.{suc, _≤_, _≡_, refl, sym, ap, _∙_, _⊎_, inl, inr, ⊎-elim, ⊎-map, Bool, true, false, _||_, List, [], _∷_, _++_, arith, T, length}
 pub use Rattle.core.specs.Lists.{Apart}
 use Rattle.core.specs.Lists.{any}
 use Rattle.core.proofs.Lists.{In, T-true, cond-both}

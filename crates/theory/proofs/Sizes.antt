@@ -1,19 +1,11 @@
 -- Sizes of classes, and bounds: merges among N terms are fewer than N, and a class has at most one term more than there are merges.
-use Prim.Native.Nat.{ℕ, zero, suc, _+_, _≤_, _<_}
-use mathlib.Core.Path.{_≡_, refl, sym, subst, ap, _∙_}
-use mathlib.Core.Logic.{inl, inr, ⊎-elim}
-use mathlib.Core.Bool.{false}
-use mathlib.Core.List.{List, [], _∷_, map}
-use native.Mathlib.Decide.{ℕ-discrete}
-use native.Mathlib.Omega.{arith}
-use lib.ListN.{length}
-use borrow.Author.Tests.{eq-eqb, ne-eqb}
+use Rattle.core.proofs.Kit.{ℕ, zero, suc, _+_, _≤_, _<_, _≡_, refl, sym, subst, ap, _∙_, inl, inr, ⊎-elim, false, List, [], _∷_, map, ℕ-discrete, arith, length, eq-eqb, ne-eqb}
 use Rattle.core.specs.Lists.{range, total}
 use Rattle.core.proofs.Lists.{In, in-range}
 use Rattle.theory.specs.EqEngine.{Merge, singletons, classes, find, are-equal}
 use Rattle.theory.proofs.Members.{Apart, apart-length}
 use Rattle.theory.specs.Memory.Replay.{child-of, root-of}
-use Rattle.theory.proofs.Classes.{find-alone, Roots, roots, size-more, find-child, find-kept, find-root, roots-apart}
+use Rattle.theory.proofs.Classes.{find-alone, roots, size-more, find-child, find-kept, find-root, roots-apart}
 use Rattle.theory.proofs.Forest.{Joins}
 
 -- ---- roots
@@ -182,12 +174,11 @@ sizes-bound (m ∷ ms) j rs a f =
 sizes-two : (ms : List Merge) (m : Merge) → Joins (m ∷ ms) →
     classes ms .size (child-of ms m) + classes ms .size (root-of ms m) ≤ length ms + 2
 unfolding total
-sizes-two ms m j = omega (arith, sizes-bound ms (j .1) (child-of ms m ∷ root-of ms m ∷ []) (⊎-elim (roots-apart m ms (j .0)) (λ i. i), (λ i. i, tt)) rooted)
-  where
-    rooted : (r : ℕ) → In r (child-of ms m ∷ root-of ms m ∷ []) → find ms r ≡ r
-    rooted r (inl e) = ap (find ms) e ∙ child-rooted m ms ∙ sym e
-    rooted r (inr (inl e)) = ap (find ms) e ∙ root-rooted m ms ∙ sym e
-    rooted r (inr (inr i)) = absurd i
+sizes-two ms m j =
+    let two : Apart (child-of ms m ∷ root-of ms m ∷ []) = (⊎-elim (roots-apart m ms (j .0)) (λ i. i), (λ i. i, tt)) in
+    let rooted : (r : ℕ) → In r (child-of ms m ∷ root-of ms m ∷ []) → find ms r ≡ r = λ r. ⊎-elim
+    (λ e. rw (e, child-rooted m ms)) (⊎-elim (λ e. rw (e, root-rooted m ms)) (λ i. absurd i)) in
+    omega (arith, sizes-bound ms (j .1) (child-of ms m ∷ root-of ms m ∷ []) two rooted)
 
 -- Any size, also one that went under, is at most one more than the number of merges.
 pub size-bound : (ms : List Merge) → Joins ms → (r : ℕ) → classes ms .size r ≤ suc (length ms)

@@ -1,13 +1,5 @@
 -- The union-find as parents: a walk up the parents ends in the root that `find` gives.
-use Prim.Native.Nat.{ℕ, suc, _+_, _<_}
-use mathlib.Core.Path.{_≡_, refl, sym, subst, ap, _∙_}
-use mathlib.Core.Logic.{_⊎_, inl, inr}
-use mathlib.Core.Bool.{true, false, cond}
-use mathlib.Core.List.{List, [], _∷_}
-use native.Mathlib.Omega.{arith}
-use native.Mathlib.Decide.{ℕ-discrete}
-use lib.Dec.{eqb, leb}
-use borrow.Author.Tests.{eq-eqb, ne-eqb}
+use Rattle.core.proofs.Kit.{ℕ, suc, _<_, _≡_, refl, sym, ap, _∙_, _⊎_, inl, inr, true, false, cond, List, [], _∷_, arith, ℕ-discrete, eqb, eq-eqb, ne-eqb}
 use Rattle.theory.specs.EqEngine.{Merge, find, are-equal}
 use Rattle.theory.specs.Memory.Replay.{child-of, root-of, parent}
 use Rattle.theory.proofs.Classes.{find-alone, find-more, find-child, find-kept, roots-apart}
@@ -60,13 +52,11 @@ module _ (m : Merge) (ms : List Merge) (j : are-equal ms (m .a) (m .b) ≡ false
   up-child e =
       let p = parent-child m ms x e in
       let r = ap (find ms) e ∙ child-rooted m ms in
-      let dx = depth-child m ms x r in
-      let dh = depth-kept m ms (root-of ms m) not-child in
-      let d0 = root-depth ms js (root-of ms m) (root-rooted m ms) in
+      let d = root-depth ms js (root-of ms m) (root-rooted m ms) in
       inr (
         (λ q. roots-apart m ms j (sym e ∙ sym q ∙ p)),
         ap (find (m ∷ ms)) p ∙ find-kept m ms (root-of ms m) not-child ∙ root-rooted m ms ∙ sym (find-child m ms x r),
-        rw p (omega arith),
+        rw p (omega (arith, depth-child m ms x r, depth-kept m ms (root-of ms m) not-child)),
       )
 
   -- any other root

@@ -1,10 +1,5 @@
 -- Laws of the numbers that stand for operations and roles, and of sorts packed four to a word.
-use Prim.Native.Nat.{ℕ, zero, suc, _+_, _-_, _*_, _/_, _%_, _≤_, _<_}
-use mathlib.Core.Path.{_≡_, refl, sym, ap, _∙_, subst}
-use mathlib.Core.List.{List, [], _∷_}
-use native.Mathlib.Numerals.{add-one}
-use native.Mathlib.Omega.{arith}
-use lib.ListN.{length, getD}
+use Rattle.core.proofs.Kit.{ℕ, zero, suc, _+_, _-_, _*_, _/_, _%_, _≤_, _<_, _≡_, refl, sym, ap, _∙_, subst, List, [], _∷_, add-one, arith, length, getD}
 use Rattle.core.specs.Term.{Constructor, Tester, Selector, Function, Eq, Uninterpreted}
 use Rattle.core.specs.Limits.{max-sorts, max-params}
 use Rattle.core.specs.Memory.Table.{digit, packed, packed-words, op-of, role-of, member-role, context, AllBelow}
@@ -85,12 +80,7 @@ module _ (xs : List ℕ) (a : AllBelow max-sorts xs) where
   digit-of : (q d : ℕ) → d < 4 → digit (packed xs q) d ≡ getD xs (4 * q + d) 0
   unfolding digit packed
   digit-of q d h =
-      let e = each-below xs max-sorts (omega arith) a in
-      let p₀ = e (4 * q) in
-      let p₁ = e (4 * q + 1) in
-      let p₂ = e (4 * q + 2) in
-      let p₃ = e (4 * q + 3) in
-      go d h p₀ p₁ p₂ p₃
+      let e = each-below xs max-sorts (omega arith) a in go d h (e (4 * q)) (e (4 * q + 1)) (e (4 * q + 2)) (e (4 * q + 3))
     where
       go : (d : ℕ) → d < 4 → getD xs (4 * q) 0 < 64 → getD xs (4 * q + 1) 0 < 64 → getD xs (4 * q + 2) 0 < 64 →
           getD xs (4 * q + 3) 0 < 64 → digit (packed xs q) d ≡ getD xs (4 * q + d) 0

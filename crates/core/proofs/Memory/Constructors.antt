@@ -1,11 +1,5 @@
 -- Constructors of a datatype, and question 10, by the words of the table.
-use Prim.Native.Nat.{ℕ, zero, suc, _+_, _-_, _≤_, _<_}
-use mathlib.Core.Path.{_≡_, refl, sym, ap, ap₂, _∙_}
-use mathlib.Core.Bool.{Bool, true, false, not, _&&_}
-use mathlib.Core.List.{List}
-use native.Mathlib.Omega.{arith}
-use borrow.Author.Tests.{eq-eqb, ne-eqb}
-use lib.Dec.{eqb}
+use Rattle.core.proofs.Kit.{ℕ, zero, suc, _+_, _-_, _≤_, _<_, _≡_, refl, sym, ap, ap₂, _∙_, Bool, true, false, not, _&&_, List, arith, eq-eqb, ne-eqb, eqb}
 use Rattle.core.specs.Lists.{keep, every, any, range}
 use Rattle.core.specs.Context.{is-constructor, is-datatype-sort, symbol, builds, dt-constructors, has-plain-fields, grounded, all-grounded}
 use Rattle.core.specs.Memory.Words.{at, counted}
@@ -32,17 +26,11 @@ role-not s (suc c) l n = member-not c (s - c) (omega arith)
 module _ (t : List ℕ) (dt s w : ℕ) (h : s < symbols# t) (e : w ≡ at t OWNER s) where
   pub not-constructor : ContextSound t → (w ≡ s + 1 → ⊥) → false ≡ builds (context t) dt s
   unfolding builds
-  not-constructor z n =
-      sym
-      (ap (λ (b : Bool). b && eqb (symbol (context t) s .result) dt)
-      (ap is-constructor (sym (role-is t s h)) ∙ role-not s (at t OWNER s) (z .symbols s h .owner) (λ q. n (e ∙ q))))
+  not-constructor z n = rw (← role-is t s h, role-not s (at t OWNER s) (z .symbols s h .owner) (λ q. n (e ∙ q)))
 
   pub builds-by-result : (r : ℕ) → w ≡ s + 1 → r ≡ at t RESULT s → eqb r dt ≡ builds (context t) dt s
   unfolding builds is-constructor
-  builds-by-result r q p =
-      let c : is-constructor (symbol (context t) s .role) ≡ true =
-      ap is-constructor (sym (role-is t s h) ∙ ap (role-of s) (sym e ∙ q) ∙ ctor-role s) in
-      ap (λ (x : ℕ). eqb x dt) (p ∙ result-is t s h) ∙ ap (λ (b : Bool). b && eqb (symbol (context t) s .result) dt) (sym c)
+  builds-by-result r q p = rw (← role-is t s h, ← e, q, ctor-role s, p, result-is t s h)
 
 module _ (t : List ℕ) (dt : ℕ) {from s n : ℕ} (w : Searched (builds (context t) dt) from s n) (e : n ≡ symbols# t) where
   pub seek-found : (b : Bool) → s < n → b ≡ builds (context t) dt s → b ≡ true → NextConstructor t dt from s
@@ -85,7 +73,8 @@ module _ (t : List ℕ) (s n : ℕ) (e : n ≡ at t ARITY s) where
     pub field-is-datatype : s < symbols# t → r ≡ 1 → false ≡ has-plain-fields (context t) s
     unfolding DatatypeField
     field-is-datatype h o =
-        sym (ap not (any-found field-test (param-at t s) n i l (field-word ∙ ap (λ (b : Bool). not (not b)) (eq-eqb r 1 o)))) ∙ plain-fields h
+        let d = field-word ∙ ap (λ (b : Bool). not (not b)) (eq-eqb r 1 o) in
+        sym (ap not (any-found field-test (param-at t s) n i l d)) ∙ plain-fields h
 
   pub fields-are-plain : (i : ℕ) → s < symbols# t → n ≤ i → Searched (DatatypeField t s) 0 i n → true ≡ has-plain-fields (context t) s
   unfolding DatatypeField
@@ -101,11 +90,11 @@ Grounds t dt s = builds (context t) dt s && has-plain-fields (context t) s
 module _ (t : List ℕ) (dt s : ℕ) {r : Bool} where
   pub not-built : r ≡ builds (context t) dt s → r ≡ false → Grounds t dt s ≡ false
   unfolding Grounds
-  not-built e q = ap (λ (b : Bool). b && has-plain-fields (context t) s) (sym e ∙ q)
+  not-built e q = rw (sym e ∙ q)
 
   pub not-plain : r ≡ has-plain-fields (context t) s → r ≡ false → Grounds t dt s ≡ false
   unfolding Grounds
-  not-plain e q = ap (λ (b : Bool). builds (context t) dt s && b) (sym e ∙ q) ∙ and-no (builds (context t) dt s)
+  not-plain e q = rw (sym e ∙ q) (and-no (builds (context t) dt s))
 
 module _ (t : List ℕ) (dt n : ℕ) (e : n ≡ symbols# t) where
   grounded-is : any (Grounds t dt) (counted (λ i. i) n) ≡ grounded (context t) dt
@@ -130,12 +119,11 @@ Ungrounded t s = is-datatype-sort (context t) s && not (grounded (context t) s)
 
 pub other-sort : (t : List ℕ) (s r : ℕ) → s < sorts# t → r ≡ at t SORT s → (r ≡ 1 → ⊥) → Ungrounded t s ≡ false
 unfolding Ungrounded
-other-sort t s r h e n = ap (λ (b : Bool). b && not (grounded (context t) s)) (sym (datatype-word t s r h e) ∙ ne-eqb r 1 n)
+other-sort t s r h e n = rw (sym (datatype-word t s r h e) ∙ ne-eqb r 1 n)
 
 pub is-grounded : (t : List ℕ) (s : ℕ) {r : Bool} → r ≡ grounded (context t) s → not r ≡ false → Ungrounded t s ≡ false
 unfolding Ungrounded
-is-grounded t s e q =
-    ap (λ (b : Bool). is-datatype-sort (context t) s && b) (sym (ap not e) ∙ q) ∙ and-no (is-datatype-sort (context t) s)
+is-grounded t s e q = rw (sym (ap not e) ∙ q) (and-no (is-datatype-sort (context t) s))
 
 module _ (t : List ℕ) (n : ℕ) (e : n ≡ sorts# t) where
   all-grounded-is : not (any (Ungrounded t) (counted (λ i. i) n)) ≡ all-grounded (context t)

@@ -1,12 +1,5 @@
 -- Counted lists: a list of n entries, entry i given by a function of i. Looking up, cutting, one more, and lists of entries that agree.
-use Prim.Native.Nat.{ℕ, suc, _+_, _≤_, _<_}
-use mathlib.Core.Path.{_≡_, refl, sym, ap, ap₂, _∙_}
-use mathlib.Core.Logic.{inl, inr}
-use mathlib.Core.List.{List, [], _∷_, _++_, map, map-id}
-use native.Mathlib.Nat.{zero-add}
-use native.Mathlib.Omega.{arith}
-use lib.ListN.{length, getD, take, drop, length-drop}
-use lib.Seq.{ext-getD, getD-take, getD-drop, length-take-le}
+use Rattle.core.proofs.Kit.{ℕ, suc, _+_, _≤_, _<_, _≡_, refl, sym, ap, ap₂, _∙_, inl, inr, List, [], _∷_, _++_, map, map-id, zero-add, arith, length, getD, take, drop, length-drop, ext-getD, getD-take, getD-drop, length-take-le}
 use Rattle.core.specs.Lists.{range}
 use Rattle.core.specs.Memory.Words.{at, counted, stretch}
 use Rattle.core.proofs.Lists.{In, range-in, length-map-range, getD-map-range, map-range-cong, map-range-suc, take-map-range}

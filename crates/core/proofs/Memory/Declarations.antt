@@ -1,24 +1,13 @@
 -- Declarations: an empty table, terms given back, one more sort, one more symbol, a function, a constructor.
-use Prim.Native.Nat.{ℕ, zero, suc, _+_, _-_, _*_, _/_, _%_, _≤_, _<_}
-use mathlib.Core.Path.{_≡_, refl, sym, ap, ap₂, _∙_}
-use mathlib.Core.Bool.{Bool, true, false, cond, _&&_, true≢false}
-use mathlib.Core.List.{List, [], _∷_, _++_, append-assoc, append-nil}
-use native.Mathlib.Decide.{ℕ-discrete}
-use native.Mathlib.Numerals.{add-one}
-use native.Mathlib.Omega.{arith}
-use borrow.Author.Count.{below-more}
-use borrow.Author.Tests.{le-leb, lt-leb}
-use lib.Dec.{leb}
-use lib.ListN.{length, getD, take, drop, length-append, drop-of-length-le}
-use lib.Seq.{drop-cons, take-all, take-take, length-take-le}
+use Rattle.core.proofs.Kit.{ℕ, zero, suc, _+_, _-_, _*_, _/_, _%_, _≤_, _<_, _≡_, refl, sym, ap, _∙_, true, false, true≢false, List, [], _∷_, _++_, append-assoc, append-nil, ℕ-discrete, add-one, arith, below-more, le-leb, lt-leb, leb, length, getD, take, drop, length-append, drop-of-length-le, drop-cons, take-all, take-take, length-take-le}
 use Rattle.core.specs.Limits.{max-sorts, max-symbols}
 use Rattle.core.specs.Lists.{range}
 use Rattle.core.specs.Sort.{SortNode, BoolSort}
-use Rattle.core.specs.Term.{Role, Function, Symbol}
+use Rattle.core.specs.Term.{Function, Symbol}
 use Rattle.core.specs.Context.{Context, empty-context, with-symbols, declare-sort, declare-fun, selectors-from, constructor-symbols, dt-add-constructor, cut-terms, declarations-fit}
 use Rattle.core.specs.Memory.Words.{at, put, put-all, Kept, counted}
 use Rattle.core.specs.Limits.{table-words}
-use Rattle.core.specs.Memory.Table.{COUNTS, SORTS, SYMBOLS, TERMS, SORT, OWNER, RESULT, ARITY, PARAMS, OFFSET, BUCKET, LINK, core-room, sorts#, symbols#, terms#, digit, packed, packed-words, node-of, role-of, sort-at, param-at, symbol-at, term-at, context, buckets, bucket-of, newest, AllBelow, SymbolSound, ContextSound, MayDeclare, SymbolRoom, SymbolAdded, SelectorRoom, SymbolsAdded, NoTerms}
+use Rattle.core.specs.Memory.Table.{COUNTS, SORTS, SYMBOLS, TERMS, SORT, OWNER, RESULT, ARITY, PARAMS, OP, OFFSET, BUCKET, LINK, core-room, sorts#, symbols#, terms#, digit, packed, packed-words, node-of, role-of, sort-at, param-at, symbol-at, term-at, context, buckets, bucket-of, newest, AllBelow, SymbolSound, ContextSound, MayDeclare, SymbolRoom, SymbolAdded, SelectorRoom, SymbolsAdded, NoTerms}
 use Rattle.core.specs.Memory.Codes.{Declares}
 use Rattle.core.specs.declared.context.Declared as Declared
 use Rattle.core.proofs.Lists.{and-no}
@@ -29,7 +18,7 @@ use Rattle.core.proofs.Memory.Regions.{stores}
 use Rattle.core.proofs.Memory.Index.{newest-not}
 use Rattle.core.proofs.Memory.Codes.{digit-packed, ctor-role, tester-role, selector-role}
 use Rattle.core.proofs.Memory.Views.{sorts-length, symbols-length, terms-length, offset-mono}
-use Rattle.core.proofs.Memory.Keeping.{SymbolsKept, continued, continued-old, symbol-kept, term-kept, sorts-view, symbols-view, terms-view, sorts-apart, symbols-apart, terms-apart, index-kept, index-apart}
+use Rattle.core.proofs.Memory.Keeping.{SymbolsKept, continued, continued-old, symbol-kept, term-kept, sorts-view, symbols-view, terms-view, symbols-apart, terms-apart, index-kept, index-apart}
 
 -- ---- an empty table
 
@@ -103,6 +92,9 @@ clear-done c h = record { long = c .long; heads = λ x l. c .heads x (omega arit
 
 -- ---- terms taken back
 
+pub last-code : (i : ℕ) {t : List ℕ} {code : ℕ} → ContextSound t → terms# t ≡ i + 1 → code ≡ at t OP i → code < buckets
+last-code i z n e = let s = z .terms i (omega arith) in omega arith
+
 pub dropped : (i : ℕ) {t : List ℕ} {h o : ℕ} {t₁ u : List ℕ} → ContextSound t → terms# t ≡ i + 1 → h ≡ bucket-of t i → h < buckets →
     o ≡ at t LINK i →
     t₁ ≡ put t BUCKET h o → u ≡ put t₁ COUNTS TERMS i → ContextSound u × (context u ≡ cut-terms i (context t))
@@ -125,7 +117,7 @@ dropped i {t} {h} {o} {t₁} {u} z n b d q e₁ e₂ =
     let end = ts .offset i (omega arith) in
     let index =
     index-kept t u z i m ts (λ x g. older x g head (heads x (omega arith)) (ℕ-discrete x h)) (λ j g. k .rest LINK j tt (omega arith)) in
-    let sorts = sorts-view t u z s (sorts-apart t u z written k tt) in
+    let sorts = sorts-view t u z written k tt s in
     let symbols = symbols-view t u z y ys in
     let terms : counted (term-at u) (terms# u) ≡ take i (counted (term-at t) (terms# t)) =
     ap (counted (term-at u)) c
@@ -191,14 +183,6 @@ drop-done {n = n} {i = i} d h = let a = d .above in let e : n ≡ i = omega arit
 
 -- ---- whether declarations fit
 
-too-many-sorts : (cx : Context) → max-sorts < length (cx .sorts) → declarations-fit cx ≡ false
-unfolding declarations-fit
-too-many-sorts cx h = rw (lt-leb (length (cx .sorts)) max-sorts h)
-
-too-many-symbols : (cx : Context) → max-symbols < length (cx .symbols) → declarations-fit cx ≡ false
-unfolding declarations-fit
-too-many-symbols cx h = rw (lt-leb (length (cx .symbols)) max-symbols h) (and-no (leb (length (cx .sorts)) max-sorts))
-
 refused : (t : List ℕ) (cx : Context) → ContextSound t → declarations-fit cx ≡ false → Declares t cx Declared.the-variants.NoRoom t
 refused t cx z b = record { sound = z; answer = rw b; view = rw b; unchanged = λ q. refl }
 
@@ -215,10 +199,10 @@ accepted t cx u z e =
 
 pub no-more-sorts : {t : List ℕ} {n : ℕ} (node : SortNode) → ContextSound t → n ≡ sorts# t → n ≡ max-sorts →
     Declares t (declare-sort (context t) node) Declared.the-variants.NoRoom t
-unfolding declare-sort
+unfolding declare-sort declarations-fit
 no-more-sorts {t} {n} node z e q =
     let m = length-append (context t .sorts) (node ∷ []) in
-    refused t (declare-sort (context t) node) z (too-many-sorts (declare-sort (context t) node) (omega arith))
+    refused t (declare-sort (context t) node) z (rw (lt-leb (length (context t .sorts ++ (node ∷ []))) max-sorts (omega arith)))
 
 pub sort-declared : (v : ℕ) {t : List ℕ} {n : ℕ} {node : SortNode} {t₁ u : List ℕ} → ContextSound t → n ≡ sorts# t → (n ≡ max-sorts → ⊥) →
     node-of v ≡ node → t₁ ≡ put t SORT n v → u ≡ put t₁ COUNTS SORTS (n + 1) →
@@ -262,17 +246,6 @@ record SymbolWritten (t : List ℕ) (n owner result : ℕ) (params u : List ℕ)
   symbols : SymbolsKept t u n
   kept : Kept core-room (COUNTS ∷ OWNER ∷ RESULT ∷ ARITY ∷ PARAMS ∷ []) t u
 
-module _ (t : List ℕ) (n owner result : ℕ) (params t₁ t₂ t₃ t₄ u : List ℕ) (l : table-words ≤ length t) (r : n < max-symbols) where
-  symbol-written : t₁ ≡ put-all t PARAMS (4 * n) (packed-words params) → t₂ ≡ put t₁ OWNER n owner → t₃ ≡ put t₂ RESULT n result →
-      t₄ ≡ put t₃ ARITY n (length params) → u ≡ put t₄ COUNTS SYMBOLS (n + 1) → SymbolWritten t n owner result params u
-  unfolding packed-words
-  symbol-written e₁ e₂ e₃ e₄ e₅ =
-      let p : 4 * n + 4 ≤ 2048 = omega arith in
-      let in-symbols : (s : ℕ) → s < n → s < max-symbols = omega arith in
-      let in-params : (x : ℕ) → x < 4 * n → x < 2048 = omega arith in
-      let in-own : (q : ℕ) → q < 4 → 4 * n + q < 2048 = omega arith in
-      search (e₅, e₄, e₃, e₂, e₁, stores) depth 9
-
 module _ {t : List ℕ} {n owner result : ℕ} {params u : List ℕ}
     (a : SymbolRoom t n owner result params) (w : SymbolWritten t n owner result params u) where
   written-param : (j : ℕ) → j < length params → param-at u n j ≡ getD params j 0
@@ -305,7 +278,7 @@ module _ {t : List ℕ} {n owner result : ℕ} {params u : List ℕ}
       let ys : SymbolsKept t u (symbols# t) = rw (← a .next) (w .symbols) in
       let b = ts .offset (terms# t) (omega arith) in
       let new : Symbol = record { role = role-of n owner; params = params; result = result } in
-      let sorts = sorts-view t u z (w .sorts) (sorts-apart t u z written (w .kept) tt) in
+      let sorts = sorts-view t u z written (w .kept) tt (w .sorts) in
       let symbols : counted (symbol-at u) (symbols# u) ≡ counted (symbol-at t) (symbols# t) ++ (new ∷ []) =
       counted-grown (symbol-at t) (symbol-at u) (symbols# t) (symbols# u) new (omega arith)
       (λ i h. symbol-kept t u z (symbols# t) i (omega arith) ys h) (ap (symbol-at u) (sym (a .next)) ∙ new-symbol) in
@@ -325,7 +298,14 @@ module _ {t : List ℕ} {n owner result : ℕ} {params : List ℕ} {w₀ w₁ w�
   unfolding packed-words
   add-symbol p₀ p₁ p₂ p₃ e₁ e₂ e₃ e₄ e₅ =
       let e : t₁ ≡ put-all t PARAMS (4 * n) (packed-words params) = e₁ ∙ rw (p₀, p₁, p₂, p₃) in
-      symbol-added a (symbol-written t n owner result params t₁ t₂ t₃ t₄ u (a .sound .long) (a .room) e e₂ e₃ e₄ e₅)
+      let l : table-words ≤ length t = a .sound .long in
+      let r : n < max-symbols = a .room in
+      let p : 4 * n + 4 ≤ 2048 = omega arith in
+      let in-symbols : (s : ℕ) → s < n → s < max-symbols = omega arith in
+      let in-params : (x : ℕ) → x < 4 * n → x < 2048 = omega arith in
+      let in-own : (q : ℕ) → q < 4 → 4 * n + q < 2048 = omega arith in
+      let w : SymbolWritten t n owner result params u = search (e₅, e₄, e₃, e₂, e, stores) depth 9 in
+      symbol-added a w
 
 -- ---- symbols at the end
 
@@ -353,10 +333,11 @@ counts t u new e =
 
 too-many : (t : List ℕ) (new : List Symbol) → max-symbols < symbols# t + length new → ContextSound t →
     Declares t (with-symbols (context t) new) Declared.the-variants.NoRoom t
-unfolding with-symbols
+unfolding with-symbols declarations-fit
 too-many t new h z =
     let l = length-append (context t .symbols) new in
-    refused t (with-symbols (context t) new) z (too-many-symbols (with-symbols (context t) new) (omega arith))
+    refused t (with-symbols (context t) new) z
+    (rw (lt-leb (length (context t .symbols ++ new)) max-symbols (omega arith)) (and-no (leb (length (context t .sorts)) max-sorts)))
 
 -- room for one symbol, by what the view has
 symbol-room : {t : List ℕ} {n owner result : ℕ} {params : List ℕ} → MayDeclare t result params → n ≡ symbols# t → n < max-symbols →
@@ -432,14 +413,9 @@ module _ {t₀ : List ℕ} {c dt : ℕ} {fields : List ℕ} where
         ≡ with-symbols (context t₀) (selectors-from c dt 0 fields)
     unfolding selectors-from
     select-rest u h a =
-        let next : Role → Symbol = λ r. record { role = r; params = dt ∷ []; result = getD fields i 0 } in
         let p : i + 1 ≡ suc i = omega arith in
-        let rest = selectors-from c dt (suc i) (drop (suc i) fields) in
-        ap₂ (λ (x : Context) (k : ℕ). with-symbols x (selectors-from c dt k (drop k fields))) (a .view) p
-        ∙ with-both (context t) (next (role-of (c + 2 + i) (c + 1)) ∷ []) rest
-        ∙ ap (λ (r : Role). with-symbols (context t) (next r ∷ rest)) (selector-role c i)
-        ∙ sym (ap (λ (xs : List ℕ). with-symbols (context t) (selectors-from c dt i xs)) (drop-cons fields i 0 h))
-        ∙ s .rest
+        let r = s .rest in
+        rw (p, a .view, with-both, selector-role c i) (rw (drop-cons fields i 0 h) at r)
 
     pub select-next : {u : List ℕ} → i < length fields → length u ≡ length t →
         SymbolAdded t (c + 2 + i) (c + 1) (getD fields i 0) (dt ∷ []) u → Selecting t₀ c dt fields u (i + 1)
@@ -513,14 +489,5 @@ module _ {t : List ℕ} {n dt : ℕ} {fields t₁ : List ℕ} (e : n ≡ symbols
       Declares t (dt-add-constructor (context t) dt fields) Declared.the-variants.Done u
   unfolding dt-add-constructor constructor-symbols
   constructor-added {u = u} b c =
-      let ctor : Role → Symbol = λ r. record { role = r; params = fields; result = dt } in
-      let tester : Role → Symbol = λ r. record { role = r; params = dt ∷ []; result = 0 } in
-      let sels = selectors-from n dt 0 fields in
       accepted t (dt-add-constructor (context t) dt fields) u (c .sound)
-      (c .view
-      ∙ ap (λ (x : Context). with-symbols x sels) (b .view)
-      ∙ with-both (context t₁) (tester (role-of (n + 1) (n + 1)) ∷ []) sels
-      ∙ ap (λ (x : Context). with-symbols x (tester (role-of (n + 1) (n + 1)) ∷ sels)) (a .view)
-      ∙ with-both (context t) (ctor (role-of n (n + 1)) ∷ []) (tester (role-of (n + 1) (n + 1)) ∷ sels)
-      ∙ ap₂ (λ (r q : Role). with-symbols (context t) (ctor r ∷ tester q ∷ sels)) (ctor-role n) (tester-role n)
-      ∙ ap (λ (k : ℕ). with-symbols (context t) (constructor-symbols k dt fields)) (e ∙ sym (symbols-length t)))
+      (c .view ∙ rw (b .view, a .view, with-both, with-both, ctor-role n, tester-role n, symbols-length t, ← e))

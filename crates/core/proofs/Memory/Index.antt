@@ -1,15 +1,5 @@
 -- The index: the newest term of a bucket, and the loop that computes a bucket.
-use Prim.Native.Nat.{ℕ, zero, suc, _+_, _-_, _*_, _%_, _≤_, _<_}
-use mathlib.Core.Path.{_≡_, refl, sym, ap, ap₂, _∙_}
-use mathlib.Core.Bool.{Bool, cond}
-use mathlib.Core.List.{List}
-use native.Mathlib.Decide.{ℕ-discrete}
-use native.Mathlib.Numerals.{add-one}
-use native.Mathlib.Omega.{arith}
-use borrow.Author.Tests.{eq-eqb, ne-eqb}
-use lib.Dec.{eqb}
-use lib.ListN.{length, getD, drop, drop-of-length-le}
-use lib.Seq.{drop-cons}
+use Rattle.core.proofs.Kit.{ℕ, zero, suc, _+_, _*_, _%_, _≤_, _<_, _≡_, refl, sym, ap, ap₂, _∙_, Bool, cond, List, ℕ-discrete, add-one, arith, eq-eqb, ne-eqb, eqb, length, getD, drop, drop-of-length-le, drop-cons}
 use Rattle.core.specs.Memory.Table.{buckets, bucket, newest}
 
 module _ (hash : ℕ → ℕ) (h : ℕ) where
@@ -66,14 +56,9 @@ pub record Hashing (code : ℕ) (args : List ℕ) (h i : ℕ) : Type 0 where
 pub hash-next : (code : ℕ) (args : List ℕ) (h i : ℕ) → Hashing code args h i → i < length args →
     Hashing code args ((31 * h + getD args i 0) % buckets) (i + 1)
 unfolding bucket
-hash-next code args h i w l = record {
-  within = omega arith;
-  small = omega arith;
-  rest =
-      ap (λ (k : ℕ). bucket ((31 * h + getD args i 0) % buckets) (drop k args)) (add-one i)
-      ∙ sym (ap (bucket h) (drop-cons args i 0 l))
-      ∙ w .rest;
-}
+hash-next code args h i w l =
+    let r = w .rest in
+    record { within = omega arith; small = omega arith; rest = rw (add-one i) (rw (drop-cons args i 0 l) at r) }
 
 pub hash-done : (code : ℕ) (args : List ℕ) (h i : ℕ) → Hashing code args h i → length args ≤ i → h ≡ bucket code args
 unfolding bucket

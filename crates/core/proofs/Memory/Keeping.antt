@@ -1,11 +1,5 @@
 -- A table after some stores: what they leave of its sorts, symbols and terms, and when it is sound again.
-use Prim.Native.Nat.{ℕ, _+_, _-_, _*_, _/_, _%_, _≤_, _<_}
-use mathlib.Core.Path.{_≡_, ap, ap₂, _∙_, sym}
-use mathlib.Core.List.{List}
-use native.Mathlib.Decide.{decLe}
-use native.Mathlib.Omega.{arith}
-use lib.Dec.{T}
-use lib.ListN.{length}
+use Rattle.core.proofs.Kit.{ℕ, _+_, _-_, _*_, _/_, _%_, _≤_, _<_, _≡_, ap, ap₂, _∙_, sym, List, decLe, arith, T, length}
 use Rattle.core.specs.Limits.{max-sorts, max-symbols, max-terms, max-places, max-params}
 use Rattle.core.specs.Term.{Term}
 use Rattle.core.specs.Memory.Words.{at, counted, stretch, clear-of, Kept}
@@ -15,10 +9,7 @@ use Rattle.core.proofs.Memory.Counted.{counted-same, stretch-same}
 use Rattle.core.proofs.Memory.Index.{newest-same}
 use Rattle.core.proofs.Memory.Views.{sorts-length, symbols-length, terms-length, offset-mono}
 
--- the words of the first n sorts, symbols, terms are in u what they are in t
-pub record SortsKept (t u : List ℕ) (n : ℕ) : Type 0 where
-  pub node : (s : ℕ) → s < n → at u SORT s ≡ at t SORT s
-
+-- the words of the first n symbols, terms are in u what they are in t
 pub record SymbolsKept (t u : List ℕ) (n : ℕ) : Type 0 where
   pub owner : (s : ℕ) → s < n → at u OWNER s ≡ at t OWNER s
   pub result : (s : ℕ) → s < n → at u RESULT s ≡ at t RESULT s
@@ -158,10 +149,6 @@ module _ (t u : List ℕ) (z : ContextSound t) where
     pub continued-old : symbols# u ≡ symbols# t → m ≡ n → IndexSound u m → ContextSound u
     continued-old e q index = continued (λ s l h. absurd (omega arith)) (λ i l h. absurd (omega arith)) index
 
-  pub sorts-view : sorts# u ≡ sorts# t → SortsKept t u (sorts# t) → context u .sorts ≡ context t .sorts
-  unfolding context sort-at
-  sorts-view e k = ap (counted (sort-at u)) e ∙ counted-same (sort-at u) (sort-at t) (sorts# t) (λ s h. ap node-of (k .node s h))
-
   pub symbols-view : symbols# u ≡ symbols# t → SymbolsKept t u (symbols# t) → context u .symbols ≡ context t .symbols
   unfolding context
   symbols-view e k =
@@ -176,8 +163,12 @@ module _ (t u : List ℕ) (z : ContextSound t) where
   -- ---- stores in other regions
 
   module _ (ws : List ℕ) (k : Kept core-room ws t u) where
-    pub sorts-apart : T (clear-of core-room SORT ws) → SortsKept t u (sorts# t)
-    sorts-apart a = let f = z .sorts-fit in record { node = λ s h. k .rest SORT s a (omega arith) }
+    pub sorts-view : T (clear-of core-room SORT ws) → sorts# u ≡ sorts# t → context u .sorts ≡ context t .sorts
+    unfolding context sort-at
+    sorts-view a e =
+        let f = z .sorts-fit in
+        ap (counted (sort-at u)) e
+        ∙ counted-same (sort-at u) (sort-at t) (sorts# t) (λ s h. ap node-of (k .rest SORT s a (omega arith)))
 
     pub symbols-apart : T (clear-of core-room OWNER ws) → T (clear-of core-room RESULT ws) → T (clear-of core-room ARITY ws) →
         T (clear-of core-room PARAMS ws) → SymbolsKept t u (symbols# t)

@@ -1,9 +1,5 @@
 -- The laws of stores at this layer's table, and the set of them that says what a run of stores did.
-use Prim.Native.Nat.{ℕ, _+_, _≤_, _<_}
-use mathlib.Core.Path.{_≡_}
-use mathlib.Core.List.{List}
-use lib.Dec.{T, leb, lit<}
-use lib.ListN.{length, getD}
+use Rattle.core.proofs.Kit.{ℕ, _+_, _≤_, _<_, _≡_, List, T, leb, lit<, length, getD}
 use Rattle.core.specs.Memory.Words.{at, put, put-all, apart, one-of, Kept}
 use Rattle.core.specs.Limits.{table-words}
 use Rattle.core.specs.Memory.Table.{core-room}

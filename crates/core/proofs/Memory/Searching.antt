@@ -1,13 +1,6 @@
 -- Search loops: a loop goes up from a number and stops at the first that passes a test. One invariant, none below i passes, and what it
 -- says of a counted list: whether any or every entry passes, and which is the first.
-use Prim.Native.Nat.{ℕ, zero, suc, _+_, _-_, _≤_, _<_}
-use mathlib.Core.Path.{_≡_, refl, sym, ap, _∙_}
-use mathlib.Core.Bool.{Bool, true, false, cond, not, _&&_}
-use mathlib.Core.List.{List, [], _∷_, map}
-use mathlib.Core.Option.{none, some}
-use native.Mathlib.Nat.{zero-add, add-zero, add-suc, suc-add}
-use native.Mathlib.Omega.{arith}
-use borrow.Author.Count.{below-more}
+use Rattle.core.proofs.Kit.{ℕ, zero, suc, _+_, _≤_, _<_, _≡_, refl, sym, ap, _∙_, Bool, true, false, cond, not, _&&_, List, [], _∷_, map, none, some, zero-add, add-zero, add-suc, suc-add, arith, below-more}
 use Rattle.core.specs.Lists.{keep, every, any, place-from, range}
 use Rattle.core.specs.Memory.Words.{counted}
 use Rattle.core.proofs.Lists.{cond-both}
@@ -43,37 +36,28 @@ module _ {A : Type 0} (q : A → Bool) (f : ℕ → A) where
   some-from : (k n i : ℕ) → i < n → q (f (k + i)) ≡ true → any q (Rest k n) ≡ true
   unfolding any range
   some-from k zero i h e = absurd (omega arith)
-  some-from k (suc n) zero h e = ap (λ (b : Bool). cond b true (any q (Rest (suc k) n))) (ap (λ (j : ℕ). q (f j)) (sym (add-zero k)) ∙ e)
+  some-from k (suc n) zero h e = rw (rw add-zero at e)
   some-from k (suc n) (suc i) h e =
-      ap (λ (b : Bool). cond (q (f k)) true b)
-      (some-from (suc k) n i (omega arith) (ap (λ (j : ℕ). q (f j)) (suc-add k i ∙ sym (add-suc k i)) ∙ e))
-      ∙ cond-both (q (f k))
+      rw (some-from (suc k) n i (omega arith) (ap (λ (j : ℕ). q (f j)) (suc-add k i ∙ sym (add-suc k i)) ∙ e)) (cond-both (q (f k)))
 
   none-from : (k n : ℕ) → NoneFrom (λ j. q (f j)) k (k + n) → any q (Rest k n) ≡ false
   unfolding any range
   none-from k zero h = refl
-  none-from k (suc n) h =
-      ap (λ (b : Bool). cond b true (any q (Rest (suc k) n))) (h k (omega arith) (omega arith))
-      ∙ none-from (suc k) n (λ j l g. h j (omega arith) (omega arith))
+  none-from k (suc n) h = rw (h k (omega arith) (omega arith)) (none-from (suc k) n (λ j l g. h j (omega arith) (omega arith)))
 
   place-here : (k n i : ℕ) → i < n → NoneFrom (λ j. q (f j)) k (k + i) → q (f (k + i)) ≡ true → place-from k q (Rest k n) ≡ some (k + i)
   unfolding place-from range
   place-here k zero i h w e = absurd (omega arith)
-  place-here k (suc n) zero h w e =
-      ap (λ (b : Bool). cond b (some k) (place-from (suc k) q (Rest (suc k) n))) (ap (λ (j : ℕ). q (f j)) (sym (add-zero k)) ∙ e)
-      ∙ ap some (sym (add-zero k))
+  place-here k (suc n) zero h w e = rw (rw add-zero at e, add-zero)
   place-here k (suc n) (suc i) h w e =
       let m = suc-add k i ∙ sym (add-suc k i) in
-      ap (λ (b : Bool). cond b (some k) (place-from (suc k) q (Rest (suc k) n))) (w k (omega arith) (omega arith))
-      ∙ place-here (suc k) n i (omega arith) (λ j l g. w j (omega arith) (omega arith)) (ap (λ (j : ℕ). q (f j)) m ∙ e)
-      ∙ ap some m
+      let r = place-here (suc k) n i (omega arith) (λ j l g. w j (omega arith) (omega arith)) (ap (λ (j : ℕ). q (f j)) m ∙ e) in
+      rw (w k (omega arith) (omega arith)) (r ∙ ap some m)
 
   place-none : (k n : ℕ) → NoneFrom (λ j. q (f j)) k (k + n) → place-from k q (Rest k n) ≡ none
   unfolding place-from range
   place-none k zero w = refl
-  place-none k (suc n) w =
-      ap (λ (b : Bool). cond b (some k) (place-from (suc k) q (Rest (suc k) n))) (w k (omega arith) (omega arith))
-      ∙ place-none (suc k) n (λ j l g. w j (omega arith) (omega arith))
+  place-none k (suc n) w = rw (w k (omega arith) (omega arith)) (place-none (suc k) n (λ j l g. w j (omega arith) (omega arith)))
 
   pub any-found : (n i : ℕ) → i < n → q (f i) ≡ true → any q (counted f n) ≡ true
   unfolding counted

@@ -1,16 +1,6 @@
 -- Stores by region: what stands in a table after words of a region were written. `room` gives the room of each region, `size` is
 -- how many words the table has at least. Whether two regions lie apart is computed, so at named regions `tt` proves it.
-use Prim.Native.Nat.{ℕ, _+_, _≤_, _<_}
-use mathlib.Core.Path.{_≡_, refl, sym, ap, _∙_, subst}
-use mathlib.Core.Logic.{_⊎_, inl, inr}
-use mathlib.Core.Bool.{Bool, true, false, cond, _||_}
-use mathlib.Core.List.{List, [], _∷_}
-use native.Mathlib.Decide.{ℕ-discrete}
-use native.Mathlib.Omega.{arith}
-use borrow.Author.Tests.{eq-eqb, ne-eqb, eqb-true}
-use lib.Dec.{T, eqb, leb, leb→le}
-use lib.ListN.{length, getD, length-set}
-use lib.Seq.{getD-set-same, getD-set-other, length-sets, sets}
+use Rattle.core.proofs.Kit.{ℕ, _+_, _≤_, _<_, _≡_, refl, sym, ap, _∙_, subst, _⊎_, inl, inr, Bool, true, false, cond, _||_, List, [], _∷_, ℕ-discrete, arith, eq-eqb, ne-eqb, eqb-true, T, eqb, leb, leb→le, length, getD, length-set, getD-set-same, getD-set-other, length-sets, sets}
 use Rattle.core.specs.Memory.Words.{at, put, put-all, apart, clear-of, one-of, among, Kept}
 use Rattle.core.proofs.Lists.{T-and, T-both, getD-sets-in, getD-sets-out}
 
@@ -46,16 +36,7 @@ module _ (room : ℕ → ℕ) where
       go true q f g t = inl (f tt)
       go false q f g t = inr (g t)
 
-  -- a store in region c leaves region b as it was
-  pub other-region : (t : List ℕ) (b c x y v : ℕ) → T (apart room b c) → x < room b → y < room c → at (put t c y v) b x ≡ at t b x
-  unfolding at put
-  other-region t b c x y v a h k = getD-set-other t (c + y) (b + x) v 0 (differ (ordered b c a))
-    where
-      differ : (b + room b ≤ c) ⊎ (c + room c ≤ b) → b + x ≡ c + y → ⊥
-      differ (inl l) e = omega arith
-      differ (inr l) e = omega arith
-
-  -- and so does a run of stores
+  -- a run of stores in region c leaves region b as it was
   pub all-other : (t : List ℕ) (b c x y : ℕ) (vs : List ℕ) → T (apart room b c) → x < room b → y + length vs ≤ room c →
       at (put-all t c y vs) b x ≡ at t b x
   unfolding at put-all
@@ -64,6 +45,11 @@ module _ (room : ℕ → ℕ) where
       outside : (b + room b ≤ c) ⊎ (c + room c ≤ b) → (b + x < c + y) ⊎ (c + y + length vs ≤ b + x)
       outside (inl l) = inl (omega arith)
       outside (inr l) = inr (omega arith)
+
+  -- and so does one
+  pub other-region : (t : List ℕ) (b c x y v : ℕ) → T (apart room b c) → x < room b → y < room c → at (put t c y v) b x ≡ at t b x
+  unfolding put put-all
+  other-region t b c x y v a h k = all-other t b c x y (v ∷ []) a h (omega arith)
 
   -- ---- what stores in some regions keep
 
@@ -90,18 +76,16 @@ module _ (room : ℕ → ℕ) where
   pub kept-more : (ws vs t u : List ℕ) → T (among ws vs) → Kept room ws t u → Kept room vs t u
   kept-more ws vs t u m p = record { long = p .long; rest = λ b x a h. p .rest b x (clear-fewer b ws vs m a) h }
 
-  pub kept-put : (ws t u : List ℕ) (c y v : ℕ) → T (one-of c ws) → y < room c → Kept room ws t u → Kept room ws t (put u c y v)
-  kept-put ws t u c y v m k p = record {
-    long = length-put u c y v ∙ p .long;
-    rest = λ b x a h. other-region u b c x y v (clear-apart b c ws a m) h k ∙ p .rest b x a h;
-  }
-
   pub kept-put-all : (ws t u : List ℕ) (c y : ℕ) (vs : List ℕ) → T (one-of c ws) → y + length vs ≤ room c → Kept room ws t u →
       Kept room ws t (put-all u c y vs)
   kept-put-all ws t u c y vs m k p = record {
     long = length-put-all u c y vs ∙ p .long;
     rest = λ b x a h. all-other u b c x y vs (clear-apart b c ws a m) h k ∙ p .rest b x a h;
   }
+
+  pub kept-put : (ws t u : List ℕ) (c y v : ℕ) → T (one-of c ws) → y < room c → Kept room ws t u → Kept room ws t (put u c y v)
+  unfolding put put-all
+  kept-put ws t u c y v m k p = kept-put-all ws t u c y (v ∷ []) m (omega arith) p
 
   module _ (size : ℕ) where
     pub same-place : (t : List ℕ) (b x v : ℕ) → T (leb (b + room b) size) → size ≤ length t → x < room b → at (put t b x v) b x ≡ v

@@ -1,16 +1,5 @@
 -- Terms: an application looked up among them, one more at their end, and making one.
-use Prim.Native.Nat.{ℕ, zero, suc, _+_, _-_, _≤_, _<_}
-use mathlib.Core.Path.{_≡_, refl, sym, ap, ap₂, _∙_, subst}
-use mathlib.Core.Bool.{Bool, true, false, cond, not, _&&_, true≢false}
-use mathlib.Core.List.{List, [], _∷_, _++_, map, map-append}
-use mathlib.Core.Option.{none}
-use native.Mathlib.Nat.{zero-add, add-assoc}
-use native.Mathlib.Numerals.{add-one}
-use native.Mathlib.Decide.{decLe, ℕ-discrete}
-use native.Mathlib.Omega.{arith}
-use borrow.Author.Tests.{eq-eqb, ne-eqb, eqb-true, not-false, le-leb, lt-leb}
-use lib.Dec.{T, eqb, leb, eqb→eq, eqb·suc-suc}
-use lib.ListN.{length, getD, length-append}
+use Rattle.core.proofs.Kit.{ℕ, zero, suc, _+_, _-_, _≤_, _<_, _≡_, refl, sym, ap, ap₂, _∙_, subst, Bool, true, false, not, _&&_, true≢false, List, [], _∷_, _++_, map, map-append, none, zero-add, add-assoc, add-one, decLe, ℕ-discrete, arith, eq-eqb, ne-eqb, eqb-true, not-false, le-leb, lt-leb, T, eqb, leb, eqb→eq, eqb·suc-suc, length, getD, length-append}
 use Rattle.core.specs.Limits.{max-terms, max-places}
 use Rattle.core.specs.Lists.{same-list, range, total}
 use Rattle.core.specs.Term.{Op, Eq, Uninterpreted, Term, same-op, same-term}
@@ -21,14 +10,14 @@ use Rattle.core.specs.Limits.{table-words}
 use Rattle.core.specs.Memory.Table.{COUNTS, TERMS, OP, OFFSET, POOL, BUCKET, LINK, core-room, sorts#, symbols#, terms#, op-of, args-at, term-at, context, buckets, bucket, bucket-of, newest, AllBelow, TermSound, IndexSound, ContextSound, FindsApp, MayIntern, MayApply, MayEquate, Appendable, Appended}
 use Rattle.core.specs.Memory.Codes.{made-answer, made-context, MkApp}
 use Rattle.core.specs.declared.context.Made as Made
-use Rattle.core.proofs.Lists.{T-and, true-T, and-no, same-list-eq, same-list-true, same-list-false, same-list-longer}
+use Rattle.core.proofs.Lists.{T-and, true-T, and-no, not-true-false, same-list-eq, same-list-same, same-list-not}
 use Rattle.core.proofs.Memory.Counted.{counted-more, counted-grown, counted-list, stretch-length, stretch-at}
 use Rattle.core.proofs.Memory.Searching.{NoneFrom, Searched, none-yet, search-next, first-found, first-missing}
 use Rattle.core.proofs.Memory.Stores.{other-place}
 use Rattle.core.proofs.Memory.Regions.{stores}
 use Rattle.core.proofs.Memory.Index.{newest-is, newest-not, newest-found, newest-in}
 use Rattle.core.proofs.Memory.Views.{terms-length}
-use Rattle.core.proofs.Memory.Keeping.{TermsKept, continued, term-kept, newest-kept, links-kept, once-kept, sorts-view, symbols-view, sorts-apart, symbols-apart}
+use Rattle.core.proofs.Memory.Keeping.{TermsKept, continued, term-kept, newest-kept, links-kept, once-kept, sorts-view, symbols-view, symbols-apart}
 
 -- ---- one term
 
@@ -51,18 +40,20 @@ module _ (t : List ℕ) (start : ℕ) (args : List ℕ) where
 
   pub args-same : (i : ℕ) → length args ≤ i → Searched (ArgDiffers t start args) 0 i (length args) →
       true ≡ same-list args (stretch t POOL start (length args))
-  unfolding ArgDiffers
+  unfolding ArgDiffers stretch
   args-same i h w =
-      sym
-      (same-list-true args (stretch t POOL start (length args)) (sym (stretch-length t POOL start (length args)))
-      (λ k l.
-      let e = not-false (eqb (at t POOL (start + k)) (getD args k 0)) (w .none k (omega arith) (omega arith)) in
-      sym (stretch-at t POOL start (length args) k l ∙ eqb-true (at t POOL (start + k)) (getD args k 0) e)))
+      let same : stretch t POOL start (length args) ≡ args =
+      counted-list (λ k. at t POOL (start + k)) (length args) args refl (λ k l.
+      eqb-true (at t POOL (start + k)) (getD args k 0)
+      (not-false (eqb (at t POOL (start + k)) (getD args k 0)) (w .none k (omega arith) (omega arith)))) in
+      sym (ap (same-list args) same ∙ same-list-same args)
 
   pub args-differ : (k w : ℕ) → k < length args → w ≡ at t POOL (start + k) → (w ≡ getD args k 0 → ⊥) →
       false ≡ same-list args (stretch t POOL start (length args))
   args-differ k w l e n =
-      sym (same-list-false args (stretch t POOL start (length args)) k l (λ q. n (e ∙ sym (q ∙ stretch-at t POOL start (length args) k l))))
+      sym
+      (same-list-not args (stretch t POOL start (length args))
+      (λ q. n (e ∙ sym (ap (λ (xs : List ℕ). getD xs k 0) q ∙ stretch-at t POOL start (length args) k l))))
 
 -- term i is the operation of a code over the arguments
 abbrev pub Fits : List ℕ → ℕ → List ℕ → ℕ → Bool
@@ -72,9 +63,7 @@ module _ (t : List ℕ) (code : ℕ) (args : List ℕ) where
   module _ (i w : ℕ) (o : w ≡ at t OP i) where
     pub app-other-op : (w ≡ code → ⊥) → false ≡ Fits t code args i
     unfolding same-term term-at
-    app-other-op n =
-        let e = same-op-codes code (at t OP i) ∙ ne-eqb code (at t OP i) (λ q. n (o ∙ sym q)) in
-        sym (ap (λ (b : Bool). b && same-list args (args-at t i)) e)
+    app-other-op n = rw (same-op-codes code (at t OP i), ne-eqb code (at t OP i) (λ q. n (o ∙ sym q)))
 
     module _ (a e : ℕ) (p : a ≡ at t OFFSET i) (q : e ≡ at t OFFSET (i + 1)) where
       length-is : e - a ≡ length (args-at t i)
@@ -84,44 +73,36 @@ module _ (t : List ℕ) (code : ℕ) (args : List ℕ) where
       pub app-other-length : (e - a ≡ length args → ⊥) → false ≡ Fits t code args i
       unfolding same-term term-at
       app-other-length n =
-          let op = same-op (op-of code) (op-of (at t OP i)) in
-          sym (ap (λ (b : Bool). op && b) (same-list-longer args (args-at t i) (λ l. n (length-is ∙ sym l))) ∙ and-no op)
+          rw (same-list-not args (args-at t i) (λ l. n (length-is ∙ sym (ap length l))))
+          (sym (and-no (same-op (op-of code) (op-of (at t OP i)))))
 
       pub app-same : (r : Bool) → w ≡ code → e - a ≡ length args → r ≡ same-list args (stretch t POOL a (length args)) →
           r ≡ Fits t code args i
       unfolding same-term term-at args-at
-      app-same r c l s =
-          let op = same-op-codes code (at t OP i) ∙ eq-eqb code (at t OP i) (sym c ∙ o) in
-          s
-          ∙ ap (λ (n : ℕ). same-list args (stretch t POOL a n)) (sym l)
-          ∙ ap₂ (λ (x y : ℕ). same-list args (stretch t POOL x (y - x))) p q
-          ∙ ap (λ (b : Bool). b && same-list args (args-at t i)) (sym op)
+      app-same r c l s = rw (same-op-codes code (at t OP i), eq-eqb code (at t OP i) (sym c ∙ o), ← p, ← q, l) s
 
   -- a term that fits is the application, and the other way round
-  pub fits-term : (i : ℕ) → Fits t code args i ≡ true → term-at t i ≡ record { op = op-of code; args = args }
+  fits-words : (i : ℕ) → Fits t code args i ≡ true → (code ≡ at t OP i) × (args ≡ args-at t i)
   unfolding same-term term-at
-  fits-term i e =
+  fits-words i e =
       let (o, l) = T-and (same-op (op-of code) (op-of (at t OP i))) (same-list args (args-at t i)) (true-T (Fits t code args i) e) in
-      let same = eqb→eq code (at t OP i) (subst T (same-op-codes code (at t OP i)) o) in
-      λ j. record { op = op-of (sym same j); args = sym (same-list-eq args (args-at t i) l) j }
+      (eqb→eq code (at t OP i) (subst T (same-op-codes code (at t OP i)) o), same-list-eq args (args-at t i) l)
+
+  pub fits-term : (i : ℕ) → Fits t code args i ≡ true → term-at t i ≡ record { op = op-of code; args = args }
+  unfolding term-at
+  fits-term i e = let (o, l) = fits-words i e in λ j. record { op = op-of (sym o j); args = sym l j }
 
   term-fits : (i : ℕ) → term-at t i ≡ record { op = op-of code; args = args } → Fits t code args i ≡ true
   unfolding same-term
   term-fits i e =
       ap (same-term (op-of code) args) e
-      ∙ ap₂ (λ (a b : Bool). a && b) (same-op-codes code code ∙ eq-eqb code code refl) (same-list-true args args refl (λ k l. refl))
+      ∙ ap₂ (λ (a b : Bool). a && b) (same-op-codes code code ∙ eq-eqb code code refl) (same-list-same args)
 
   -- and stands in the bucket of the application
   other-bucket : (i : ℕ) → (bucket-of t i ≡ bucket code args → ⊥) → Fits t code args i ≡ false
-  unfolding same-term term-at bucket-of
-  other-bucket i d = go (Fits t code args i) refl
-    where
-      go : (b : Bool) → Fits t code args i ≡ b → b ≡ false
-      go false e = refl
-      go true e =
-          let (o, l) = T-and (same-op (op-of code) (op-of (at t OP i))) (same-list args (args-at t i)) (true-T (Fits t code args i) e) in
-          let same = eqb→eq code (at t OP i) (subst T (same-op-codes code (at t OP i)) o) in
-          absurd (d (sym (ap₂ bucket same (same-list-eq args (args-at t i) l))))
+  unfolding bucket-of
+  other-bucket i d =
+      not-true-false (Fits t code args i) (λ e. let (o, l) = fits-words i e in d (sym (ap₂ bucket o l)))
 
 -- ---- among the terms of a bucket
 
@@ -177,23 +158,22 @@ module _ {t : List ℕ} {code : ℕ} {args : List ℕ} {h k : ℕ} (w : Walking 
     pub walk-found : {b : Bool} → b ≡ Fits t code args (k - 1) → b ≡ true → FindsApp t code args (k - 1)
     unfolding context
     walk-found f o =
-        let s = sym o ∙ f in
         let within = w .within in
-        let none-below : NoneFrom (Fits t code args) 0 (k - 1) = λ j a l. lower j l (Fits t code args j) refl in
+        let s = sym f ∙ o in
         record {
           within = omega arith;
-          found = λ l. first-found (same-term (op-of code) args) (term-at t) (terms# t) (k - 1) l none-below (sym s);
+          found = λ l. first-found (same-term (op-of code) args) (term-at t) (terms# t) (k - 1) l (λ j a m. lower j m s) s;
           missing = λ q. absurd (omega arith);
           new = λ q. absurd (omega arith);
         }
       where
-        lower : (j : ℕ) → j < k - 1 → (b : Bool) → Fits t code args j ≡ b → b ≡ false
-        lower j l false q = refl
-        lower j l true q =
+        lower : (j : ℕ) → j < k - 1 → Fits t code args (k - 1) ≡ true → Fits t code args j ≡ false
+        lower j l s =
+            not-true-false (Fits t code args j) (λ q.
             let within = w .within in
-            let same = fits-term t code args j q ∙ sym (fits-term t code args (k - 1) (sym f ∙ o)) in
+            let same = fits-term t code args j q ∙ sym (fits-term t code args (k - 1) s) in
             let i = w .sound .index .once j (k - 1) (omega arith) (omega arith) same in
-            absurd (omega arith)
+            omega arith)
 
   pub walk-missing : {n : ℕ} → k ≡ 0 → n ≡ terms# t → FindsApp t code args n
   unfolding context
@@ -209,7 +189,7 @@ module _ {t : List ℕ} {code : ℕ} {args : List ℕ} {h k : ℕ} (w : Walking 
 -- ---- one more term
 
 -- what its stores leave
-record TermWords (t : List ℕ) (n start code : ℕ) (args u : List ℕ) : Type 0 where
+record TermWritten (t : List ℕ) (n start code : ℕ) (args : List ℕ) (h : ℕ) (u : List ℕ) : Type 0 where
   long : table-words ≤ length u
   sorts : sorts# u ≡ sorts# t
   symbols : symbols# u ≡ symbols# t
@@ -217,43 +197,12 @@ record TermWords (t : List ℕ) (n start code : ℕ) (args u : List ℕ) : Type 
   op : at u OP n ≡ code
   end : at u OFFSET (n + 1) ≡ start + length args
   kept : Kept core-room (COUNTS ∷ OP ∷ OFFSET ∷ POOL ∷ BUCKET ∷ LINK ∷ []) t u
-
-record TermLinked (t : List ℕ) (n h : ℕ) (u : List ℕ) : Type 0 where
+  pool : (j : ℕ) → j < length args → at u POOL (start + j) ≡ getD args j 0
+  terms : TermsKept t u n
   link : at u LINK n ≡ at t BUCKET h
   links : (i : ℕ) → i < n → at u LINK i ≡ at t LINK i
   head : at u BUCKET h ≡ n + 1
   heads : (x : ℕ) → x < buckets → (x ≡ h → ⊥) → at u BUCKET x ≡ at t BUCKET x
-
-record TermWritten (t : List ℕ) (n start code : ℕ) (args : List ℕ) (h : ℕ) (u : List ℕ) : Type 0 where
-  words : TermWords t n start code args u
-  pool : (j : ℕ) → j < length args → at u POOL (start + j) ≡ getD args j 0
-  terms : TermsKept t u n
-  linked : TermLinked t n h u
-
-module _ (t : List ℕ) (n start code : ℕ) (args : List ℕ) (h o : ℕ) (t₁ t₂ t₃ t₄ t₅ u : List ℕ) (a : Appendable t n start code args) where
-  term-written : h < buckets → o ≡ at t BUCKET h → t₁ ≡ put t LINK n o → t₂ ≡ put t₁ BUCKET h (n + 1) → t₃ ≡ put-all t₂ POOL start args →
-      t₄ ≡ put t₃ OP n code → t₅ ≡ put t₄ OFFSET (n + 1) (start + length args) → u ≡ put t₅ COUNTS TERMS (n + 1) →
-      TermWritten t n start code args h u
-  term-written b e e₁ e₂ e₃ e₄ e₅ e₆ =
-      let l : table-words ≤ length t = a .sound .long in
-      let r : n < max-terms = a .room in
-      let r₁ : n + 1 < 1025 = omega arith in
-      let p : start + length args ≤ max-places = a .places in
-      let c : h < 1024 = omega arith in
-      let begins = a .begins in
-      let in-ops : (i : ℕ) → i < n → i < max-terms = omega arith in
-      let in-offsets : (i : ℕ) → i ≤ n → i < 1025 = omega arith in
-      let old-offset : (i : ℕ) → i ≤ n → i < n + 1 = omega arith in
-      let old-pool : (j : ℕ) → j < at t OFFSET n → j < start = omega arith in
-      let in-old-pool : (j : ℕ) → j < at t OFFSET n → j < max-places = omega arith in
-      let in-pool : (j : ℕ) → j < length args → start + j < max-places = omega arith in
-      let in-buckets : (x : ℕ) → x < buckets → x < 1024 = omega arith in
-      record {
-        words = search (e₆, e₅, e₄, e₃, e₂, e₁, stores) depth 9;
-        pool = search (e₆, e₅, e₄, e₃, e₂, e₁, stores) depth 9;
-        terms = search (e₆, e₅, e₄, e₃, e₂, e₁, stores) depth 9;
-        linked = search (e₆, e₅, e₄, e₃, e₂, e₁, e, stores, other-place) depth 9;
-      }
 
 module _ {t : List ℕ} {n start code : ℕ} {args : List ℕ} {h : ℕ} {u : List ℕ}
     (a : Appendable t n start code args) (w : TermWritten t n start code args h u) where
@@ -264,14 +213,14 @@ module _ {t : List ℕ} {n start code : ℕ} {args : List ℕ} {h : ℕ} {u : Li
   unfolding args-at stretch
   new-args =
       let o = starts in
-      let e = w .words .end in
+      let e = w .end in
       let l : at u OFFSET (n + 1) - at u OFFSET n ≡ length args = omega arith in
       ap (λ (x : ℕ). stretch u POOL x (at u OFFSET (n + 1) - at u OFFSET n)) o
       ∙ counted-list (λ j. at u POOL (start + j)) (at u OFFSET (n + 1) - at u OFFSET n) args l (w .pool)
 
   new-term : term-at u n ≡ record { op = op-of code; args = args }
   unfolding term-at
-  new-term = λ i. record { op = op-of (w .words .op i); args = new-args i }
+  new-term = λ i. record { op = op-of (w .op i); args = new-args i }
 
   new-term-sound : TermSound u n
   new-term-sound =
@@ -294,7 +243,7 @@ module _ {t : List ℕ} {n start code : ℕ} {args : List ℕ} {h : ℕ} {u : Li
   module _ (e : h ≡ bucket code args) where
     new-bucket : bucket-of u n ≡ h
     unfolding bucket-of
-    new-bucket = ap₂ bucket (w .words .op) new-args ∙ sym e
+    new-bucket = ap₂ bucket (w .op) new-args ∙ sym e
 
     old-newest : (x : ℕ) → x < buckets → at t BUCKET x ≡ newest (bucket-of u) x n
     old-newest x l =
@@ -304,14 +253,14 @@ module _ {t : List ℕ} {n start code : ℕ} {args : List ℕ} {h : ℕ} {u : Li
 
     new-heads : (x : ℕ) → x < buckets → Dec (x ≡ h) → at u BUCKET x ≡ newest (bucket-of u) x (suc n)
     new-heads x l (yes q) =
-        let i = w .linked .head in
+        let i = w .head in
         ap (at u BUCKET) q ∙ i ∙ add-one n ∙ sym (newest-is (bucket-of u) x n (new-bucket ∙ sym q))
     new-heads x l (no d) =
-        w .linked .heads x l d ∙ old-newest x l ∙ sym (newest-not (bucket-of u) x n (λ q. d (sym q ∙ new-bucket)))
+        w .heads x l d ∙ old-newest x l ∙ sym (newest-not (bucket-of u) x n (λ q. d (sym q ∙ new-bucket)))
 
     new-links : h < buckets → (i : ℕ) → i < n + 1 → Dec (i ≡ n) → at u LINK i ≡ newest (bucket-of u) (bucket-of u i) i
-    new-links b i l (yes q) = rw (q, new-bucket) (w .linked .link ∙ old-newest h b)
-    new-links b i l (no d) = links-kept t u (a .sound) n (omega arith) (w .terms) (w .linked .links) i (omega arith)
+    new-links b i l (yes q) = rw (q, new-bucket) (w .link ∙ old-newest h b)
+    new-links b i l (no d) = links-kept t u (a .sound) n (omega arith) (w .terms) (w .links) i (omega arith)
 
     not-old : (i : ℕ) → i < n → term-at u i ≡ term-at u n → ⊥
     not-old i l q = true≢false (sym (term-fits t code args i (sym (old-term i l) ∙ q ∙ new-term)) ∙ a .new i l)
@@ -334,9 +283,9 @@ module _ {t : List ℕ} {n start code : ℕ} {args : List ℕ} {h : ℕ} {u : Li
   appended e b =
       let z = a .sound in
       let written = COUNTS ∷ OP ∷ OFFSET ∷ POOL ∷ BUCKET ∷ LINK ∷ [] in
-      let ys = symbols-apart t u z written (w .words .kept) tt tt tt tt in
-      let sorts = sorts-view t u z (w .words .sorts) (sorts-apart t u z written (w .words .kept) tt) in
-      let symbols = symbols-view t u z (w .words .symbols) ys in
+      let ys = symbols-apart t u z written (w .kept) tt tt tt tt in
+      let sorts = sorts-view t u z written (w .kept) tt (w .sorts) in
+      let symbols = symbols-view t u z (w .symbols) ys in
       let terms : counted (term-at u) (terms# u) ≡ counted (term-at t) (terms# t) ++ (record { op = op-of code; args = args } ∷ []) =
       counted-grown (term-at t) (term-at u) (terms# t) (terms# u) (record { op = op-of code; args = args }) (omega arith)
       (λ i l. old-term i (omega arith)) (ap (term-at u) (sym (a .next)) ∙ new-term) in
@@ -352,7 +301,21 @@ module _ {t : List ℕ} {n start code : ℕ} {args : List ℕ} {h o : ℕ} {t₁
       t₃ ≡ put-all t₂ POOL start args → t₄ ≡ put t₃ OP n code → t₅ ≡ put t₄ OFFSET (n + 1) (start + length args) →
       u ≡ put t₅ COUNTS TERMS (n + 1) → Appended t code args u
   append e b q e₁ e₂ e₃ e₄ e₅ e₆ =
-      appended a (term-written t n start code args h o t₁ t₂ t₃ t₄ t₅ u a b q e₁ e₂ e₃ e₄ e₅ e₆) e b
+      let l : table-words ≤ length t = a .sound .long in
+      let r : n < max-terms = a .room in
+      let r₁ : n + 1 < 1025 = omega arith in
+      let p : start + length args ≤ max-places = a .places in
+      let c : h < 1024 = omega arith in
+      let begins = a .begins in
+      let in-ops : (i : ℕ) → i < n → i < max-terms = omega arith in
+      let in-offsets : (i : ℕ) → i ≤ n → i < 1025 = omega arith in
+      let old-offset : (i : ℕ) → i ≤ n → i < n + 1 = omega arith in
+      let old-pool : (j : ℕ) → j < at t OFFSET n → j < start = omega arith in
+      let in-old-pool : (j : ℕ) → j < at t OFFSET n → j < max-places = omega arith in
+      let in-pool : (j : ℕ) → j < length args → start + j < max-places = omega arith in
+      let in-buckets : (x : ℕ) → x < buckets → x < 1024 = omega arith in
+      let w : TermWritten t n start code args h u = search (e₆, e₅, e₄, e₃, e₂, e₁, q, stores, other-place) depth 9 in
+      appended a w e b
 
 -- ---- argument places
 
@@ -390,14 +353,6 @@ places-are t z = places-below t z (terms# t) (omega arith)
 fits : (cx : Context) → length (cx .terms) ≤ max-terms → places cx ≤ max-places → terms-fit cx ≡ true
 unfolding terms-fit
 fits cx h l = rw (le-leb (length (cx .terms)) max-terms h, le-leb (places cx) max-places l)
-
-too-many : (cx : Context) → max-terms < length (cx .terms) → terms-fit cx ≡ false
-unfolding terms-fit
-too-many cx h = rw (lt-leb (length (cx .terms)) max-terms h)
-
-too-wide : (cx : Context) → max-places < places cx → terms-fit cx ≡ false
-unfolding terms-fit
-too-wide cx h = rw (lt-leb (places cx) max-places h) (and-no (leb (length (cx .terms)) max-terms))
 
 -- the context with one more term at its end
 more-terms : (cx : Context) (o : Op) (args : List ℕ) → length (intern cx o args none .context .terms) ≡ suc (length (cx .terms))
@@ -453,17 +408,18 @@ module _ {t : List ℕ} {code : ℕ} {args : List ℕ} {n k : ℕ} (a : MayInter
         ap (intern (context t) (op-of code) args) (f .missing (omega arith)) ∙ (λ i. record { id = l i; context = more })
 
     pub no-more-terms : n ≡ max-terms → MkApp t (op-of code) args Made.the-variants.NoRoom t
-    unfolding more
+    unfolding more terms-fit
     no-more-terms q =
-        let s = more-terms (context t) (op-of code) args in refuse made-none (too-many more (omega arith)) (a .sound)
+        let s = more-terms (context t) (op-of code) args in
+        refuse made-none (rw (lt-leb (length (more .terms)) max-terms (omega arith))) (a .sound)
 
     module _ {start : ℕ} (o : start ≡ at t OFFSET n) where
       pub no-more-places : max-places - start < length args → MkApp t (op-of code) args Made.the-variants.NoRoom t
-      unfolding more
+      unfolding more terms-fit
       no-more-places q =
           let p = begins a e o in
           let s = more-places (context t) (op-of code) args in
-          refuse made-none (too-wide more (omega arith)) (a .sound)
+          refuse made-none (rw (lt-leb (places more) max-places (omega arith)) (and-no (leb (length (more .terms)) max-terms))) (a .sound)
 
       module _ (r : n ≡ max-terms → ⊥) (q : length args ≤ max-places - start) where
         pub appendable : Appendable t n start code args

@@ -95,16 +95,30 @@ terms# t = at t COUNTS TERMS
 
 -- ---- four sorts in a word
 
--- digit d of a word, to the base 64
+-- a sort is below it; its square and its cube
+abbrev pub radix : ℕ
+radix = 64
+
+abbrev pub radix-squared : ℕ
+radix-squared = 4096
+
+abbrev pub radix-cubed : ℕ
+radix-cubed = 262144
+
+-- digit d of a word
 unfoldable pub digit : ℕ → ℕ → ℕ
-digit w zero = w % 64
-digit w (suc zero) = w / 64 % 64
-digit w (suc (suc zero)) = w / 4096 % 64
-digit w (suc (suc (suc d))) = w / 262144 % 64
+digit w zero = w % radix
+digit w (suc zero) = w / radix % radix
+digit w (suc (suc zero)) = w / radix-squared % radix
+digit w (suc (suc (suc d))) = w / radix-cubed % radix
 
 -- the word of four numbers of a list, from number 4 q on
 unfoldable pub packed : List ℕ → ℕ → ℕ
-packed xs q = getD xs (4 * q) 0 + 64 * getD xs (4 * q + 1) 0 + 4096 * getD xs (4 * q + 2) 0 + 262144 * getD xs (4 * q + 3) 0
+packed xs q =
+    getD xs (4 * q) 0
+    + radix * getD xs (4 * q + 1) 0
+    + radix-squared * getD xs (4 * q + 2) 0
+    + radix-cubed * getD xs (4 * q + 3) 0
 
 -- the words of sixteen
 unfoldable pub packed-words : List ℕ → List ℕ

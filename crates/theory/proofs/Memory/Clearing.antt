@@ -1,13 +1,5 @@
 -- A cleared table: each node alone, no merge, level 0.
-use Prim.Native.Nat.{ℕ, _+_, _≤_, _<_}
-use mathlib.Core.Path.{_≡_, refl, sym, subst, ap, _∙_}
-use mathlib.Core.Bool.{false}
-use mathlib.Core.List.{List, []}
-use native.Mathlib.Omega.{arith}
-use borrow.Author.Count.{below-more}
-use borrow.Author.Tests.{ne-eqb}
-use lib.Dec.{eqb}
-use lib.ListN.{length}
+use Rattle.core.proofs.Kit.{ℕ, _+_, _≤_, _<_, _≡_, refl, sym, subst, ap, _∙_, false, List, [], arith, below-more, ne-eqb, eqb, length}
 use Rattle.core.specs.Limits.{max-terms}
 use Rattle.core.specs.Lists.{In}
 use Rattle.core.specs.Memory.Words.{put}

@@ -1,10 +1,5 @@
 -- The laws of stores at the regions of the engine's table.
-use Prim.Native.Nat.{ℕ, _+_, _≤_, _<_}
-use mathlib.Core.Path.{_≡_}
-use mathlib.Core.Bool.{cond}
-use mathlib.Core.List.{List}
-use lib.Dec.{T, eqb, leb, lit<}
-use lib.ListN.{length}
+use Rattle.core.proofs.Kit.{ℕ, _+_, _≤_, _<_, _≡_, cond, List, T, eqb, leb, lit<, length}
 use Rattle.core.specs.Memory.Words.{at, put, apart}
 use Rattle.core.proofs.Memory.Stores.{other-region, same-place, same-region, put-long, length-put}
 use Rattle.theory.specs.Memory.Table.{engine-size, engine-room}

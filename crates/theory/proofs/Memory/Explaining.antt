@@ -1,15 +1,5 @@
 -- What each step of an explanation does to the marks and to the answer table.
-use Prim.Native.Nat.{ℕ, zero, suc, _+_, _-_, _≤_, _<_}
-use mathlib.Core.Path.{_≡_, refl, sym, subst, ap, ap₂, _∙_}
-use mathlib.Core.Logic.{_⊎_, inl, inr}
-use mathlib.Core.Bool.{Bool, true, false, cond, _||_, or-false, or-true}
-use mathlib.Core.List.{List, [], _∷_, _++_, map, foldl-append, append-nil, append-assoc}
-use native.Mathlib.Decide.{ℕ-discrete}
-use native.Mathlib.Numerals.{add-one}
-use native.Mathlib.Omega.{arith}
-use borrow.Author.Tests.{eq-eqb, ne-eqb}
-use lib.Dec.{eqb}
-use lib.ListN.{length, getD, replicate}
+use Rattle.core.proofs.Kit.{ℕ, zero, suc, _+_, _-_, _≤_, _<_, _≡_, refl, sym, subst, ap, ap₂, _∙_, _⊎_, inl, inr, Bool, true, false, cond, _||_, or-false, or-true, List, [], _∷_, _++_, map, foldl-append, append-nil, append-assoc, ℕ-discrete, add-one, arith, eq-eqb, ne-eqb, eqb, length, getD, replicate}
 use Rattle.core.specs.Limits.{max-pairs}
 use Rattle.core.specs.Lists.{any, range}
 use Rattle.core.specs.Memory.Words.{at}

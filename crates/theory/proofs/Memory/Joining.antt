@@ -1,14 +1,5 @@
 -- Two classes joined under a given label, or one class left as it is.
-use Prim.Native.Nat.{ℕ, suc, _+_, _-_, _≤_, _<_}
-use mathlib.Core.Path.{_≡_, refl, sym, subst, ap, ap₂, _∙_}
-use mathlib.Core.Bool.{Bool, true, false, cond, true≢false}
-use mathlib.Core.List.{List, [], _∷_, map}
-use native.Mathlib.Omega.{arith}
-use native.Mathlib.Nat.{add-zero, zero-add}
-use borrow.Author.Count.{below-more}
-use borrow.Author.Tests.{ne-eqb}
-use lib.Dec.{eqb, lit<}
-use lib.ListN.{length}
+use Rattle.core.proofs.Kit.{ℕ, suc, _+_, _-_, _≤_, _<_, _≡_, refl, sym, subst, ap, ap₂, _∙_, Bool, true, false, cond, true≢false, List, [], _∷_, map, arith, add-zero, zero-add, below-more, ne-eqb, eqb, lit<, length}
 use Rattle.core.specs.Limits.{max-terms, max-pairs}
 use Rattle.core.specs.Lists.{In, range, zip}
 use Rattle.core.specs.Memory.Words.{at, put, Kept}

@@ -1,15 +1,5 @@
 -- The answer table: asking for a leaf, appending one, and what that does to the list of leaves.
-use Prim.Native.Nat.{ℕ, zero, suc, _+_, _-_, _≤_, _<_}
-use mathlib.Core.Path.{_≡_, refl, sym, subst, ap, ap₂, _∙_}
-use mathlib.Core.Logic.{_⊎_, inl, inr}
-use mathlib.Core.Bool.{Bool, true, false, cond, _&&_, true≢false}
-use mathlib.Core.List.{List, [], _∷_, _++_}
-use native.Mathlib.Decide.{ℕ-discrete}
-use native.Mathlib.Numerals.{add-one}
-use native.Mathlib.Omega.{arith}
-use borrow.Author.Tests.{eq-eqb, ne-eqb}
-use lib.Dec.{T, eqb, leb, lit<}
-use lib.ListN.{length, getD}
+use Rattle.core.proofs.Kit.{ℕ, zero, suc, _+_, _-_, _≤_, _<_, _≡_, refl, sym, subst, ap, ap₂, _∙_, _⊎_, inl, inr, Bool, true, false, cond, _&&_, true≢false, List, [], _∷_, _++_, ℕ-discrete, add-one, arith, eq-eqb, ne-eqb, T, eqb, leb, lit<, length, getD}
 use Rattle.core.specs.Limits.{max-terms, max-theories}
 use Rattle.core.specs.Lists.{range}
 use Rattle.core.specs.Memory.Words.{at, put, apart, counted}

@@ -1,14 +1,5 @@
 -- The marks of the argument pairs that an explanation has expanded.
-use Prim.Native.Nat.{ℕ, _+_, _≤_, _<_}
-use mathlib.Core.Path.{_≡_, refl, sym, ap, ap₂, _∙_}
-use mathlib.Core.Bool.{Bool, true, false, cond, _&&_, _||_}
-use mathlib.Core.List.{List}
-use native.Mathlib.Omega.{arith}
-use borrow.Author.Count.{below-more}
-use borrow.Author.Tests.{eq-eqb, ne-eqb}
-use lib.Dec.{eqb}
-use lib.ListN.{length}
-use lib.Seq.{getD-set-same}
+use Rattle.core.proofs.Kit.{ℕ, _+_, _≤_, _<_, _≡_, refl, sym, ap, ap₂, _∙_, Bool, true, false, cond, _&&_, _||_, List, arith, below-more, eq-eqb, ne-eqb, eqb, length, getD-set-same}
 use Rattle.core.specs.Memory.Words.{at, put}
 use Rattle.core.proofs.Memory.Stores.{length-put, other-place}
 use Rattle.theory.specs.EqEngine.{pairs-in-force, same-pair}

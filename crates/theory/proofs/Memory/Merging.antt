@@ -1,16 +1,6 @@
 -- One merge: what its steps write, the new edge of the forest, the class that goes under and the entry of the log, makes a sound table
 -- with that merge in front.
-use Prim.Native.Nat.{ℕ, suc, _+_, _≤_, _<_}
-use mathlib.Core.Path.{_≡_, refl, sym, subst, ap, ap₂, _∙_}
-use mathlib.Core.Logic.{inl, inr}
-use mathlib.Core.Bool.{Bool, true, false, cond}
-use mathlib.Core.List.{List, [], _∷_}
-use native.Mathlib.Omega.{arith}
-use native.Mathlib.Decide.{ℕ-discrete}
-use native.Mathlib.Numerals.{add-one}
-use borrow.Author.Tests.{ne-eqb, le-leb, lt-leb}
-use lib.Dec.{eqb, leb, lit<}
-use lib.ListN.{length}
+use Rattle.core.proofs.Kit.{ℕ, suc, _+_, _≤_, _<_, _≡_, refl, sym, subst, ap, ap₂, _∙_, inl, inr, Bool, true, false, cond, List, [], _∷_, arith, ℕ-discrete, add-one, ne-eqb, le-leb, lt-leb, eqb, leb, lit<, length}
 use Rattle.core.specs.Limits.{max-terms, max-pairs}
 use Rattle.core.specs.Lists.{In}
 use Rattle.core.specs.Memory.Words.{put, Kept}

@@ -1,13 +1,5 @@
 -- What the words of the registry's table say of the list of registrations.
-use Prim.Native.Nat.{ℕ, zero, suc, _+_, _-_, _≤_, _<_}
-use mathlib.Core.Path.{_≡_, refl, sym, ap, _∙_}
-use mathlib.Core.Bool.{Bool, true, false, cond, false≢true}
-use mathlib.Core.List.{List, [], _∷_}
-use mathlib.Core.Option.{Option, none, some}
-use native.Mathlib.Decide.{decLt}
-use native.Mathlib.Numerals.{add-one}
-use native.Mathlib.Omega.{arith}
-use borrow.Author.Tests.{ne-eqb}
+use Rattle.core.proofs.Kit.{ℕ, zero, suc, _+_, _-_, _≤_, _<_, _≡_, refl, sym, ap, _∙_, Bool, true, false, cond, false≢true, List, [], _∷_, Option, none, some, decLt, add-one, arith, ne-eqb}
 use Rattle.core.specs.Limits.{max-vars, max-terms}
 use Rattle.core.specs.Lists.{any, first}
 use Rattle.core.specs.Memory.Words.{at}

@@ -1,13 +1,5 @@
 -- A way turned: what the loop of `reroot_forest` keeps, and what it gives.
-use Prim.Native.Nat.{ℕ, _+_, _≤_, _<_}
-use mathlib.Core.Path.{_≡_, refl, sym, subst, ap, _∙_}
-use mathlib.Core.Logic.{_⊎_, inl, inr}
-use mathlib.Core.Bool.{false}
-use mathlib.Core.List.{List, [], _∷_, _++_, append-assoc, append-cancel-right}
-use native.Mathlib.Omega.{arith}
-use borrow.Author.Tests.{ne-eqb}
-use lib.Dec.{eqb}
-use lib.ListN.{length}
+use Rattle.core.proofs.Kit.{ℕ, _+_, _≤_, _<_, _≡_, refl, sym, subst, ap, _∙_, _⊎_, inl, inr, false, List, [], _∷_, _++_, append-assoc, append-cancel-right, arith, ne-eqb, eqb, length}
 use Rattle.core.specs.Lists.{In, Apart}
 use Rattle.core.specs.Memory.Words.{put, Kept}
 use Rattle.core.proofs.Memory.Stores.{kept-none, kept-put}

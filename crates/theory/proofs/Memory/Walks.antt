@@ -1,12 +1,6 @@
 -- Walks on a sound table: up the parents to the root of a class; in the proof forest the first edge of a node, the depth, the nearest
 -- common node.
-use Prim.Native.Nat.{ℕ, suc, _+_, _-_, _≤_, _<_}
-use mathlib.Core.Path.{_≡_, refl, sym, subst, ap, _∙_}
-use mathlib.Core.Logic.{_⊎_, inl, inr}
-use mathlib.Core.Bool.{true}
-use mathlib.Core.List.{List, [], _∷_, map}
-use native.Mathlib.Omega.{arith}
-use lib.ListN.{length}
+use Rattle.core.proofs.Kit.{ℕ, suc, _+_, _-_, _≤_, _<_, _≡_, refl, sym, subst, ap, _∙_, _⊎_, inl, inr, true, List, [], _∷_, map, arith, length}
 use Rattle.core.specs.Limits.{max-terms}
 use Rattle.core.specs.Lists.{In, range}
 use Rattle.core.proofs.Lists.{in-range, true-T}

@@ -1,7 +1,5 @@
 -- The words below i are copied, and copying the others gives the whole copy.
 use Rattle.core.proofs.Kit.{needs, _-_, length}
-use Prim.Native.Nat.{_+_}
-use lib.Seq.{sets}
 use Rattle.core.specs.Memory.Words.{put-all}
 use Rattle.core.proofs.Lists.{Copying, copy-first, copy-next, copy-done}
 use Rattle.core.proofs.context.copy_words.Statement.{statement}

@@ -1,16 +1,9 @@
 -- Its bucket begins again with the term before it.
 use Rattle.core.proofs.Kit.{needs, arith}
 use Rattle.core.proofs.Memory.Views.{stored-bucket}
-use Rattle.core.proofs.Memory.Declarations.{dropped}
+use Rattle.core.proofs.Memory.Declarations.{last-code, dropped}
 use Rattle.core.proofs.context.drop_term.Statement.{statement}
 use Rattle.core.proofs.context.drop_term.Tie as tie
-
-hash-app-requires : tie.Need-hash-app-requires
-hash-app-requires c κs =
-    let z = c .before .before .before .before .before .pre in
-    let e = c .before .before .get-at .ensures .0 in
-    let s = z .0 .terms (c .before .before .before .before .before .args .i) (omega arith) in
-    omega arith
 
 returns : tie.Need-returns
 returns c =
@@ -28,5 +21,5 @@ returns c =
 
 pub drop-term-spec : {M : Type 1} → statement M
 drop-term-spec =
-    tie.close (tie.spec (λ c κs. search needs) (λ c. search needs) (λ c κs. search needs) hash-app-requires (λ c κs. search needs)
+    tie.close (tie.spec (λ c κs. search needs) (λ c. search needs) (λ c κs. search needs) (λ c κs. search last-code) (λ c κs. search needs)
     (λ c κs. search needs) (λ c κs. search needs) (λ c. search needs) returns)

@@ -14,7 +14,8 @@ abbrev μ-loop : tie.MeasureT-loop
 loop-again : tie.Need-loop-again Inv-loop μ-loop
 loop-again c =
     search-next (c .before .before .before .loop .inv) (c .before .before .loop-test .taken)
-    (⊎-elim (λ w. not-plain _ _ _ (w .1 .ensures) (w .2 .left)) (λ w. not-built _ _ _ (c .before .builds .ensures) (w .left)) (c .if1 .came))
+    (⊎-elim (λ w. not-plain _ _ _ (w .1 .ensures) (w .2 .left))
+    (λ w. not-built _ _ _ (c .before .builds .ensures) (w .left)) (c .if1 .came))
 
 pub grounded-spec : {M : Type 1} → statement M
 grounded-spec =

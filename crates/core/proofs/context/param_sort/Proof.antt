@@ -1,6 +1,5 @@
 -- Word i / 4 of a symbol holds its parameter i as digit i % 4.
-use Rattle.core.proofs.Kit.{needs, _∙_, ap, arith}
-use Prim.Native.Nat.{_%_}
+use Rattle.core.proofs.Kit.{needs, _∙_, ap, arith, _%_}
 use Rattle.core.specs.Memory.Table.{digit, param-at}
 use Rattle.core.proofs.context.param_sort.Statement.{statement}
 use Rattle.core.proofs.context.param_sort.Tie as tie

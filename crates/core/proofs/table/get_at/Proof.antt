@@ -1,8 +1,5 @@
 -- A word of a slice of 32-bit words fits a word.
-use mathlib.Core.Path.{refl}
-use Prim.Native.Nat.{_+_}
-use native.Mathlib.Omega.{arith}
-use borrow.Author.Needs.{needs}
+use Rattle.core.proofs.Kit.{refl, _+_, arith, needs}
 use Rattle.core.specs.Memory.Words.{at}
 use Rattle.core.proofs.table.get_at.Statement.{statement}
 use Rattle.core.proofs.table.get_at.Tie as tie

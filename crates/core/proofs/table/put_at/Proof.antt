@@ -1,5 +1,5 @@
 -- Straight.
-use borrow.Author.Needs.{needs}
+use Rattle.core.proofs.Kit.{needs}
 use Rattle.core.specs.Memory.Words.{put}
 use Rattle.core.proofs.table.put_at.Statement.{statement}
 use Rattle.core.proofs.table.put_at.Tie as tie

@@ -1,8 +1,7 @@
 -- Straight.
-use native.Mathlib.Omega.{arith}
+use Rattle.core.proofs.Kit.{arith, needs}
 use Rattle.core.specs.Memory.Codes.{op-meaning, OpBelow}
 use Rattle.core.proofs.Memory.Codes.{op-of-zero, op-of-pred}
-use borrow.Author.Needs.{needs}
 use Rattle.core.proofs.term.op_from.Statement.{statement}
 use Rattle.core.proofs.term.op_from.Tie as tie
 

@@ -1,11 +1,8 @@
 -- By the place of a symbol after its constructor.
-use Prim.Native.Nat.{suc, _-_}
-use mathlib.Core.Path.{sym}
-use native.Mathlib.Omega.{arith}
+use Rattle.core.proofs.Kit.{suc, needs, _-_, sym, arith}
 use Rattle.core.specs.Memory.Table.{member-role}
 use Rattle.core.specs.Memory.Codes.{role-meaning, RoleBelow}
 use Rattle.core.proofs.Memory.Codes.{role-of-zero, role-of-member}
-use borrow.Author.Needs.{needs}
 use Rattle.core.proofs.term.role_from.Statement.{statement}
 use Rattle.core.proofs.term.role_from.Tie as tie
 

@@ -1,8 +1,5 @@
 -- A registered variable has a word that is not 0.
-use Prim.Native.Nat.{ℕ, _-_}
-use mathlib.Core.Path.{_∙_, ap}
-use native.Mathlib.Omega.{arith}
-use borrow.Author.Needs.{needs}
+use Rattle.core.proofs.Kit.{ℕ, _-_, _∙_, ap, arith, needs}
 use Rattle.theory.proofs.Memory.Registering.{registered-word, atom-is}
 use Rattle.theory.proofs.atom.atom.Statement.{statement}
 use Rattle.theory.proofs.atom.atom.Tie as tie

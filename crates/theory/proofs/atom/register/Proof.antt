@@ -1,6 +1,5 @@
 -- Four stores.
-use borrow.Author.Needs.{needs}
-use native.Mathlib.Omega.{arith}
+use Rattle.core.proofs.Kit.{needs, arith}
 use Rattle.theory.proofs.Memory.Registers.{registers}
 use Rattle.theory.proofs.atom.register.Statement.{statement}
 use Rattle.theory.proofs.atom.register.Tie as tie

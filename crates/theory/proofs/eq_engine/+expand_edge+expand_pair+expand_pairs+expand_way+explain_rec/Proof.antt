@@ -1,17 +1,11 @@
 -- The cycle of explanation. The measure of each function is five times the age of the part that it is given, and a place in the order
 -- explain_rec, expand_pair, expand_pairs, expand_edge, expand_way: a call for a part that is as old goes down in this order, and the ways
 -- of a pair are less old than the pair.
-use Prim.Native.Nat.{ℕ, _+_, _-_, _*_, _<_}
-use mathlib.Core.Path.{_∙_}
-use mathlib.Core.List.{[], _∷_}
-use native.Mathlib.Omega.{arith}
-use native.Mathlib.Nat.{mod-lt}
-use borrow.Author.Needs.{needs}
+use Rattle.core.proofs.Kit.{ℕ, _+_, _-_, _*_, _<_, _∙_, [], _∷_, arith, mod-lt, needs, length}
 use borrow.Fn.Kinds.{In}
 use borrow.Fn.PlainCycle.{Measures, falls, and}
-use lib.ListN.{length}
 use Rattle.theory.specs.EqEngine.{way}
-use Rattle.theory.specs.Memory.Table.{pair-at, just-at, merges}
+use Rattle.theory.specs.Memory.Table.{pair-at, just-at, merges, kind-unit}
 use Rattle.theory.specs.Memory.Explaining.{NewPair, Way, Label, Pairs, part-age, up-to, pairs-from}
 use Rattle.theory.proofs.Memory.Explaining.{on-with, goes-one, met, goes-two, Walking, walk-first, walk-rises, walk-edge, walk-older, walk-next, walk-done, Pairing, pair-first, pair-older, pair-next, pair-done, pair-few, pair-nodes, pair-new, pair-known, edge-literal, edge-interface, edge-congruence}
 use Rattle.core.proofs.table.get_at.Reads as get-at
@@ -109,7 +103,7 @@ pub +expand-edge+expand-pair+expand-pairs+expand-way+explain-rec-spec : {M : Typ
     let w = edge-congruence (p .0) (p .1) (at-get .get-at .ensures .0) (at-get2 .get-at2 .ensures .0) (at-get3 .get-at3 .ensures .0)
     (at-if2 .if2 .taken) in
     (omega (arith, start .pre .0, w .as-old), (p .0, w .ready)))
-    (λ c. let h = mod-lt (c .before .before .before .before .get-at .result) {m = 65536} (omega arith) in omega arith)
+    (λ c. let h = mod-lt (c .before .before .before .before .get-at .result) {m = kind-unit} (omega arith) in omega arith)
     (λ c. search needs)
     -- an interface leaf is pushed
     (λ c κs.

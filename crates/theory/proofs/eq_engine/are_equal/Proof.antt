@@ -1,7 +1,5 @@
-use mathlib.Core.Path.{ap₂}
-use lib.Dec.{eqb}
+use Rattle.core.proofs.Kit.{ap₂, eqb, needs}
 use Rattle.theory.specs.EqEngine.{find, are-equal}
-use borrow.Author.Needs.{needs}
 use Rattle.theory.proofs.eq_engine.are_equal.Statement.{statement}
 use Rattle.theory.proofs.eq_engine.are_equal.Tie as tie
 

@@ -1,7 +1,5 @@
 -- The counts are cleared, then one node after the other is alone.
-use mathlib.Core.Path.{_∙_}
-use Prim.Native.Nat.{_-_}
-use borrow.Author.Needs.{needs}
+use Rattle.core.proofs.Kit.{_∙_, _-_, needs}
 use Rattle.core.specs.Limits.{max-terms}
 use Rattle.core.proofs.Memory.Stores.{length-put}
 use Rattle.theory.proofs.Memory.Clearing.{Clearing, clear-first, clear-next, clear-done}

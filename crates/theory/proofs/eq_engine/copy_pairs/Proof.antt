@@ -1,7 +1,5 @@
 -- Pair after pair is written behind those in force.
-use Prim.Native.Nat.{_-_}
-use borrow.Author.Needs.{needs}
-use lib.ListN.{length}
+use Rattle.core.proofs.Kit.{_-_, needs, length}
 use Rattle.theory.proofs.Memory.Joining.{CopyingPairs, copying-first, copying-next, copying-done}
 use Rattle.theory.proofs.eq_engine.copy_pairs.Statement.{statement}
 use Rattle.theory.proofs.eq_engine.copy_pairs.Tie as tie

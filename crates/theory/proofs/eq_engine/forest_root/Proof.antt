@@ -1,7 +1,5 @@
 -- The walk keeps the end of the way; a node that is its own parent is that end.
-use Prim.Native.Nat.{ℕ, _+_}
-use borrow.Author.Needs.{needs}
-use lib.ListN.{length}
+use Rattle.core.proofs.Kit.{ℕ, _+_, needs, length}
 use Rattle.theory.specs.EqEngine.{way}
 use Rattle.theory.specs.Memory.Table.{merges}
 use Rattle.theory.proofs.Memory.Walks.{Rise, rise-first, rise-next, rise-less, rise-root}

@@ -1,6 +1,5 @@
 -- Each case is its record.
-use mathlib.Core.Path.{refl, sym, subst}
-use borrow.Author.Needs.{needs}
+use Rattle.core.proofs.Kit.{refl, sym, subst, needs}
 use Rattle.theory.specs.declared.types.EqJust as Given
 use Rattle.theory.specs.Memory.Table.{label, begins, just-meaning}
 use Rattle.theory.specs.Memory.Steps.{HoldsLabel}

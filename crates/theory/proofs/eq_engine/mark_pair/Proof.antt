@@ -1,5 +1,5 @@
 -- One store, or none.
-use borrow.Author.Needs.{needs}
+use Rattle.core.proofs.Kit.{needs}
 use Rattle.theory.proofs.Memory.Marks.{mark-one, mark-none}
 use Rattle.theory.proofs.eq_engine.mark_pair.Statement.{statement}
 use Rattle.theory.proofs.eq_engine.mark_pair.Tie as tie

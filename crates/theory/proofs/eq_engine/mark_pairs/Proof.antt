@@ -1,7 +1,5 @@
 -- The invariant: the pairs below j are marked as they should be, the others as they were.
-use Prim.Native.Nat.{_-_}
-use native.Mathlib.Omega.{arith}
-use borrow.Author.Needs.{needs}
+use Rattle.core.proofs.Kit.{_-_, arith, needs}
 use Rattle.theory.proofs.Memory.Marks.{Marking, marking-first, marking-next, marking-done}
 use Rattle.theory.proofs.eq_engine.mark_pairs.Statement.{statement}
 use Rattle.theory.proofs.eq_engine.mark_pairs.Tie as tie

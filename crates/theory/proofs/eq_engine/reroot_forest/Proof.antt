@@ -1,6 +1,5 @@
 -- One step of the way is turned after the other; the node itself becomes a root behind the loop.
-use borrow.Author.Needs.{needs}
-use lib.ListN.{length}
+use Rattle.core.proofs.Kit.{needs, length}
 use Rattle.theory.specs.EqEngine.{way}
 use Rattle.theory.specs.Memory.Table.{merges}
 use Rattle.theory.proofs.Memory.Turning.{Turning, turn-first, turn-less, turn-next, turn-done}

@@ -1,7 +1,5 @@
 -- A class is no smaller than the class that went under it.
-use mathlib.Core.Path.{ap}
-use native.Mathlib.Omega.{arith}
-use borrow.Author.Needs.{needs}
+use Rattle.core.proofs.Kit.{ap, arith, needs}
 use Rattle.theory.specs.Memory.Table.{size-word}
 use Rattle.theory.specs.Memory.Steps.{separated}
 use Rattle.theory.proofs.eq_engine.separate.Statement.{statement}

@@ -1,7 +1,5 @@
 -- A search loop.
-use Prim.Native.Nat.{_-_}
-use mathlib.Core.Path.{sym, _∙_}
-use borrow.Author.Needs.{needs}
+use Rattle.core.proofs.Kit.{_-_, sym, _∙_, needs}
 use Rattle.theory.specs.Memory.Answer.{leaf-of}
 use Rattle.core.proofs.Memory.Searching.{none-yet, none-more}
 use Rattle.theory.proofs.Memory.Leaves.{Looking, look-found, look-missing}

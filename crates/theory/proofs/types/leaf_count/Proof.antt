@@ -1,7 +1,5 @@
 -- Straight.
-use mathlib.Core.Path.{sym, _∙_}
-use native.Mathlib.Omega.{arith}
-use borrow.Author.Needs.{needs}
+use Rattle.core.proofs.Kit.{sym, _∙_, arith, needs}
 use Rattle.theory.proofs.Memory.Leaves.{leaves-length}
 use Rattle.theory.proofs.types.leaf_count.Statement.{statement}
 use Rattle.theory.proofs.types.leaf_count.Tie as tie

@@ -1,6 +1,5 @@
 -- By the kind of the leaf.
-use mathlib.Core.Path.{sym, subst}
-use borrow.Author.Needs.{needs}
+use Rattle.core.proofs.Kit.{sym, subst, needs}
 use Rattle.theory.specs.Memory.Answer.{HasRoom, Pushed}
 use Rattle.theory.proofs.Memory.Leaves.{asserted-is, interface-is}
 use Rattle.theory.proofs.types.push_leaf.Statement.{statement}

@@ -1,6 +1,5 @@
 -- A leaf that does not stand there has room, and three stores append it.
-use native.Mathlib.Omega.{arith}
-use borrow.Author.Needs.{needs}
+use Rattle.core.proofs.Kit.{arith, needs}
 use Rattle.theory.proofs.Memory.Leaves.{push-fits, pushed-old, pushed-new}
 use Rattle.theory.proofs.types.push_words.Statement.{statement}
 use Rattle.theory.proofs.types.push_words.Tie as tie

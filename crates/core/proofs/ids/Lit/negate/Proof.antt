@@ -1,6 +1,5 @@
 -- Straight.
-use borrow.Author.Tests.{eq-eqb, ne-eqb}
-use borrow.Author.Needs.{needs}
+use Rattle.core.proofs.Kit.{eq-eqb, ne-eqb, needs}
 use Rattle.core.proofs.ids.Lit.negate.Statement.{statement}
 use Rattle.core.proofs.ids.Lit.negate.Tie as tie
 

@@ -1,5 +1,5 @@
 -- Straight.
-use borrow.Author.Needs.{needs}
+use Rattle.core.proofs.Kit.{needs}
 use Rattle.core.proofs.ids.Lit.new.Statement.{statement}
 use Rattle.core.proofs.ids.Lit.new.Tie as tie
 
