@@ -2,8 +2,7 @@
 // terms and argument places there are then, and a checksum of all answers so far.
 use core::context as cx;
 use core::ids as id;
-use core::term::DtRole;
-use core::term::Op;
+use core::term as tm;
 ghost use Prim.Native.Nat.{_<_};
 ghost use lib.ListN.{length};
 ghost use Rattle.core.specs.Memory.Table.{ContextSound, context, MayApply, MayDeclare};
@@ -35,24 +34,25 @@ fn element(xs: &[u32], k: usize) -> u32 {
 fn ask_symbol(t: &[u32], f: id::SymbolId, k: usize) -> u32
     requires { ⌜ ContextSound (now t) × (f .0 < length (context (now t) .symbols)) ⌝ }
 {
-    let n = cx::arity(t, f);
-    if k < n {
+    if k < cx::arity(t, f) {
         return mix(cx::param(t, f, k).0, cx::result_sort(t, f).0);
     }
     match cx::dt_role(t, f) {
-        DtRole::Constructor => 1,
-        DtRole::Tester(c) => mix(2, c.0),
-        DtRole::Selector(c, i) => mix(mix(3, c.0), i),
-        DtRole::Function => 0,
+        tm::DtRole::Constructor => 1,
+        tm::DtRole::Tester(c) => mix(2, c.0),
+        tm::DtRole::Selector(c, i) => mix(mix(3, c.0), i),
+        tm::DtRole::Function => 0,
     }
 }
 
 fn ask_sort(t: &[u32], s: id::SortId, from: usize) -> u32
     requires { ⌜ ContextSound (now t) × (s .0 < length (context (now t) .sorts)) × (from < length (context (now t) .symbols)) ⌝ }
 {
-    let a = cx::is_datatype_sort(t, s) as u32;
-    let b = cx::all_grounded(t) as u32;
-    mix(mix(a, b), cx::next_constructor(t, s, from) as u32)
+    let a = mix(
+        cx::is_datatype_sort(t, s) as u32,
+        cx::all_grounded(t) as u32,
+    );
+    mix(a, cx::next_constructor(t, s, from) as u32)
 }
 
 fn ask_term(t: &[u32], x: id::TermId, k: usize) -> u32
@@ -60,8 +60,8 @@ fn ask_term(t: &[u32], x: id::TermId, k: usize) -> u32
 {
     let a = mix(cx::sort_of(t, x).0, element(cx::children(t, x), k));
     match cx::op(t, x) {
-        Op::Eq => a,
-        Op::Uninterpreted(f) => mix(mix(a, 1), f.0),
+        tm::Op::Eq => a,
+        tm::Op::Uninterpreted(f) => mix(mix(a, 1), f.0),
     }
 }
 
