@@ -2,8 +2,7 @@
 // terms and argument places there are then, and a checksum of all answers so far.
 use core::context as cx;
 use core::ids as id;
-use core::term::DtRole;
-use core::term::Op;
+use core::term as tm;
 ghost use Prim.Native.Nat.{_<_};
 ghost use lib.ListN.{length};
 ghost use Rattle.core.specs.Memory.Table.{ContextSound, context, MayApply, MayDeclare};
@@ -35,15 +34,14 @@ fn element(xs: &[u32], k: usize) -> u32 {
 fn ask_symbol(t: &[u32], f: id::SymbolId, k: usize) -> u32
     requires { ⌜ ContextSound (now t) × (f .0 < length (context (now t) .symbols)) ⌝ }
 {
-    let n = cx::arity(t, f);
-    if k < n {
+    if k < cx::arity(t, f) {
         return mix(cx::param(t, f, k).0, cx::result_sort(t, f).0);
     }
     match cx::dt_role(t, f) {
-        DtRole::Constructor => mix(cx::dt_tester(f).0, cx::first_selector(f).0),
-        DtRole::Tester(c) => mix(2, c.0),
-        DtRole::Selector(c, i) => mix(mix(3, c.0), i),
-        DtRole::Function => 0,
+        tm::DtRole::Constructor => mix(cx::dt_tester(f).0, cx::first_selector(f).0),
+        tm::DtRole::Tester(c) => mix(2, c.0),
+        tm::DtRole::Selector(c, i) => mix(mix(3, c.0), i),
+        tm::DtRole::Function => 0,
     }
 }
 
@@ -60,8 +58,8 @@ fn ask_term(t: &[u32], x: id::TermId, k: usize) -> u32
 {
     let a = mix(cx::sort_of(t, x).0, element(cx::children(t, x), k));
     match cx::op(t, x) {
-        Op::Eq => a,
-        Op::Uninterpreted(f) => mix(mix(a, 1), f.0),
+        tm::Op::Eq => a,
+        tm::Op::Uninterpreted(f) => mix(mix(a, 1), f.0),
     }
 }
 

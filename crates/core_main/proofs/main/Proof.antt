@@ -1,8 +1,5 @@
 -- The table stays sound and as long as it was.
-use Prim.Native.Nat.{_-_}
-use mathlib.Core.Path.{_≡_}
-use lib.ListN.{length}
-use borrow.Author.Needs.{needs}
+use Rattle.core.proofs.Kit.{_-_, _≡_, length, needs}
 use Rattle.core.specs.Memory.Table.{ContextSound}
 use Rattle.core_main.proofs.main.Statement.{statement}
 use Rattle.core_main.proofs.main.Tie as tie

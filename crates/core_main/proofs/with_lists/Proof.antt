@@ -1,9 +1,5 @@
 -- A list of numbers below n is numbers below n one by one, and half of a number below n is below n.
-use Prim.Native.Nat.{ℕ, zero, suc, _<_}
-use native.Mathlib.Omega.{arith}
-use mathlib.Core.List.{List, [], _∷_}
-use lib.ListN.{take}
-use borrow.Author.Needs.{needs}
+use Rattle.core.proofs.Kit.{ℕ, zero, suc, _<_, arith, List, [], _∷_, take, needs}
 use Rattle.core.specs.Memory.Table.{AllBelow}
 use Rattle.core_main.proofs.with_lists.Statement.{statement}
 use Rattle.core_main.proofs.with_lists.Tie as tie

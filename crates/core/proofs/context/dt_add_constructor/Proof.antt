@@ -1,5 +1,5 @@
 -- Its symbols one after the other: itself, its tester, its selectors.
-use Rattle.core.proofs.Kit.{needs}
+use Rattle.core.proofs.Kit.{arith, needs}
 use Rattle.core.proofs.Memory.Declarations.{no-constructor, constructor-room, tester-room, selectors-room, constructor-added}
 use Rattle.core.proofs.context.dt_add_constructor.Statement.{statement}
 use Rattle.core.proofs.context.dt_add_constructor.Tie as tie
@@ -9,7 +9,7 @@ add-symbol-requires-2 c κs =
     let first = c .before .before .before .before in
     let n = first .before .before .before in
     tester-room (n .get-at .ensures .0) (first .add-symbol .ensures) (n .before .before .before .before .pre)
-    (first .before .before .if1 .left)
+    (omega (arith, first .before .before .if1 .left))
 
 add-selectors-requires : tie.Need-add-selectors-requires
 add-selectors-requires c κs =
@@ -17,7 +17,7 @@ add-selectors-requires c κs =
     let first = second .before .before .before .before .before in
     let n = first .before .before .before in
     selectors-room (n .get-at .ensures .0) (first .add-symbol .ensures) (n .before .before .before .before .pre)
-    (first .before .before .if1 .left) (second .add-symbol2 .ensures)
+    (omega (arith, first .before .before .if1 .left)) (second .add-symbol2 .ensures)
 
 pub dt-add-constructor-spec : {M : Type 1} → statement M
 dt-add-constructor-spec =

@@ -231,7 +231,7 @@ pub +expand-edge+expand-pair+expand-pairs+expand-way+explain-rec-spec : {M : Typ
     let p = start .pre .1 in
     let w = met (p .0 .engine) (p .1) (at-nca .forest-nca .ensures) in
     let k = at-mark .mark-pairs .kept .1 .1 .1 .0 in
-    (omega (arith, start .pre .0, w .left-older), (on-with (p .0) (p .0 .answer) k, w .left-up)))
+    (omega (arith, start .pre .0, w .left-older, w .right-older), (on-with (p .0) (p .0 .answer) k, search (w .left-up, w .right-up))))
     (λ c κs.
     let at-way = c .before .before .before .before .before .before in
     let at-nca = at-way .before .before .before in
@@ -240,7 +240,8 @@ pub +expand-edge+expand-pair+expand-pairs+expand-way+explain-rec-spec : {M : Typ
     let p = start .pre .1 in
     let w = met (p .0 .engine) (p .1) (at-nca .forest-nca .ensures) in
     let k = at-way .expand-way .kept .1 .1 .1 .0 ∙ at-mark .mark-pairs .kept .1 .1 .1 .0 in
-    (omega (arith, start .pre .0, w .right-older), (on-with (p .0) (at-way .expand-way .ensures .answer) k, w .right-up)))
+    let up = on-with (p .0) (at-way .expand-way .ensures .answer) k in
+    (omega (arith, start .pre .0, w .left-older, w .right-older), (up, search (w .left-up, w .right-up))))
     (λ c.
     let at-way2 = c .before .before .before .before in
     let at-way = at-way2 .before .before .before .before .before .before .before in
