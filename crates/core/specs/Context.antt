@@ -210,7 +210,3 @@ sel-app cx t = sel-by-op cx t (term cx t .op) (children cx t)
 
 unfoldable pub tester-app : Context → ℕ → Option TesterApp
 tester-app cx t = tester-by-op cx t (term cx t .op) (children cx t)
-
-unfoldable pub context-definitions : Unit {0}
-unfolding empty-context with-symbols declare-sort selectors-from constructor-symbols dt-add-constructor declare-fun sort-node is-datatype-sort no-symbol symbol is-constructor builds dt-constructors dt-tester dt-selectors has-plain-fields grounded all-grounded no-term term children result-of sort-of intern mk-app mk-eq places terms-fit declarations-fit cut-terms ctor-by-role sel-by-role tester-by-role ctor-by-op sel-by-op tester-by-op ctor-app sel-app tester-app
-context-definitions = tt

@@ -7,5 +7,6 @@ pub mod Term
 pub mod Context
 pub mod Formed
 pub mod Reading
+pub mod Unfolding
 -- How a lent table holds it, and what the functions on it promise one another.
 pub mod Memory

@@ -90,7 +90,3 @@ mem x ys = any (eqb x) ys
 unfoldable pub insert : ℕ → List ℕ → List ℕ
 insert x [] = x ∷ []
 insert x (y ∷ ys) = let r = insert x ys in cond (ltb x y) (x ∷ y ∷ ys) (cond (eqb x y) (y ∷ ys) (y ∷ r))
-
-unfoldable pub lists-definitions : Unit {0}
-unfolding keep every any first place-from beside pairs cons-option gather range total zip same-list mem insert
-lists-definitions = tt

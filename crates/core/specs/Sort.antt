@@ -18,7 +18,3 @@ unfoldable pub is-uninterpreted : SortNode → Bool
 is-uninterpreted BoolSort = false
 is-uninterpreted Datatype = false
 is-uninterpreted Uninterpreted = true
-
-unfoldable pub sort-definitions : Unit {0}
-unfolding is-datatype is-bool is-uninterpreted
-sort-definitions = tt

@@ -34,7 +34,3 @@ same-op (Uninterpreted r) (Uninterpreted s) = eqb r s
 
 unfoldable pub same-term : Op → List ℕ → Term → Bool
 same-term op args t = same-op op (t .op) && same-list args (t .args)
-
-unfoldable pub term-definitions : Unit {0}
-unfolding same-op same-term
-term-definitions = tt

@@ -5,13 +5,9 @@ use mathlib.Core.Bool.{Bool, _&&_}
 use mathlib.Core.List.{List, [], _∷_}
 use lib.Dec.{T, eqb}
 use lib.ListN.{length}
-use Rattle.core.specs.Lists.{every, same-list, lists-definitions}
-use Rattle.core.specs.Sort.{sort-definitions}
-use Rattle.core.specs.Term.{term-definitions}
-use Rattle.core.specs.Context.{context-definitions}
-use Rattle.theory.specs.Types.{types-definitions}
-use Rattle.theory.specs.EqEngine.{engine-definitions}
-use Rattle.theory.specs.Atom.{atom-definitions}
+use Rattle.core.specs.Lists.{every, same-list}
+use Rattle.core.specs.Unfolding.{core-definitions}
+use Rattle.theory.specs.Unfolding.{theory-definitions}
 use Rattle.solver.specs.State.{state-definitions}
 use Rattle.solver.specs.Records.{records-definitions}
 use Rattle.solver.specs.Rules.{rules-definitions}
@@ -25,7 +21,7 @@ use Rattle.session.specs.Run.{Ran, run, result-number, program-sizes, ru
 
 -- everything that a run computes with
 unfoldable pub definitions : Unit {0}
-unfolding lists-definitions sort-definitions term-definitions context-definitions types-definitions engine-definitions atom-definitions state-definitions records-definitions rules-definitions ring-definitions check-definitions text-definitions line-definitions answer-definitions session-definitions run-definitions
+unfolding core-definitions theory-definitions state-definitions records-definitions rules-definitions ring-definitions check-definitions text-definitions line-definitions answer-definitions session-definitions run-definitions
 definitions = tt
 
 -- a script, its answers, the result, the counts of lines answered and bytes written

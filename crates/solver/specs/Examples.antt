@@ -5,14 +5,15 @@ use mathlib.Core.Bool.{Bool, true, false, _&&_}
 use mathlib.Core.List.{List, [], _∷_, foldl}
 use mathlib.Core.Option.{Option, none, some, Option·map}
 use lib.Dec.{T}
-use Rattle.core.specs.Lists.{every, same-list, cons-option, lists-definitions}
-use Rattle.core.specs.Sort.{Datatype, sort-definitions}
-use Rattle.core.specs.Term.{Term, Uninterpreted, term-definitions}
-use Rattle.core.specs.Context.{Context, empty-context, declare-sort, dt-add-constructor, declare-fun, context-definitions}
-use Rattle.theory.specs.Types.{EqLeaf, AssertedLeaf, Asserted, types-definitions}
-use Rattle.theory.specs.EqEngine.{merge, engine-definitions}
-use Rattle.theory.specs.Atom.{atom-definitions}
+use Rattle.core.specs.Lists.{every, same-list, cons-option}
+use Rattle.core.specs.Sort.{Datatype}
+use Rattle.core.specs.Term.{Term, Uninterpreted}
+use Rattle.core.specs.Context.{Context, empty-context, declare-sort, dt-add-constructor, declare-fun}
+use Rattle.core.specs.Unfolding.{core-definitions}
+use Rattle.theory.specs.Types.{EqLeaf, AssertedLeaf, Asserted}
+use Rattle.theory.specs.EqEngine.{merge}
 use Rattle.theory.specs.Examples.{same-leaves}
+use Rattle.theory.specs.Unfolding.{theory-definitions}
 use Rattle.solver.specs.State.{State, state-definitions}
 use Rattle.solver.specs.Records.{records-definitions}
 use Rattle.solver.specs.Rules.{Phase, Positive, NoPhase, TCheck, Sat, Conflict, Split, Unknown, rules-definitions}
@@ -21,7 +22,7 @@ use Rattle.solver.specs.Check.{check, check-definitions}
 
 -- everything that a check computes with
 unfoldable pub definitions : Unit {0}
-unfolding lists-definitions sort-definitions term-definitions context-definitions types-definitions engine-definitions atom-definitions state-definitions records-definitions rules-definitions ring-definitions check-definitions
+unfolding core-definitions theory-definitions state-definitions records-definitions rules-definitions ring-definitions check-definitions
 definitions = tt
 
 -- ---- answers compared

@@ -31,7 +31,3 @@ var-of (some r) = some (r .var)
 -- 01: its first variable
 unfoldable pub var-of-atom : List Registered → ℕ → Option ℕ
 var-of-atom atoms t = var-of (first (λ (r : Registered). eqb (r .atom) t) atoms)
-
-unfoldable pub atom-definitions : Unit {0}
-unfolding register is-registered atom-of atom var-of var-of-atom
-atom-definitions = tt

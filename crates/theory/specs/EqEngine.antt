@@ -174,7 +174,3 @@ firsts-after seen (l ∷ ls) =
 
 unfoldable pub firsts : List EqLeaf → List EqLeaf
 firsts ls = firsts-after [] ls
-
-unfoldable pub engine-definitions : Unit {0}
-unfolding singletons under child root union classes find are-equal merge pop-merges pairs-of pairs-in-force before turned nodes common rehung way same-pair visit cite path expand-edge explain-rec explain firsts-after firsts
-engine-definitions = tt

@@ -3,9 +3,11 @@ use Prim.Native.Nat.{ℕ}
 use mathlib.Core.Bool.{Bool, true, false, cond, _&&_}
 use mathlib.Core.List.{List, [], _∷_, foldl}
 use lib.Dec.{T, eqb}
-use Rattle.core.specs.Lists.{every, lists-definitions}
-use Rattle.theory.specs.Types.{EqJust, Asserted, Congruence, Interface, EqLeaf, AssertedLeaf, InterfaceLeaf, same-leaf, types-definitions}
-use Rattle.theory.specs.EqEngine.{Merge, merge, find, explain, firsts, pop-merges, engine-definitions}
+use Rattle.core.specs.Lists.{every}
+use Rattle.core.specs.Unfolding.{core-definitions}
+use Rattle.theory.specs.Types.{EqJust, Asserted, Congruence, Interface, EqLeaf, AssertedLeaf, InterfaceLeaf, same-leaf}
+use Rattle.theory.specs.EqEngine.{Merge, merge, find, explain, firsts, pop-merges}
+use Rattle.theory.specs.Unfolding.{theory-definitions}
 
 -- a merge line: its sides, its label and its level
 pub record Line : Type 0 where
@@ -113,5 +115,5 @@ examples =
     ∷ []
 
 pub shown : T (every holds examples)
-unfolding lists-definitions types-definitions engine-definitions merges same-leaves holds examples
+unfolding core-definitions theory-definitions merges same-leaves holds examples
 shown = tt

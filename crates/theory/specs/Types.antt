@@ -20,7 +20,3 @@ same-leaf (AssertedLeaf l) (AssertedLeaf m) = eqb l m
 same-leaf (AssertedLeaf l) (InterfaceLeaf h g) = false
 same-leaf (InterfaceLeaf h g) (AssertedLeaf m) = false
 same-leaf (InterfaceLeaf h g) (InterfaceLeaf i k) = eqb h i && eqb g k
-
-unfoldable pub types-definitions : Unit {0}
-unfolding same-leaf
-types-definitions = tt
