@@ -1,4 +1,4 @@
-// Drives a context up to each limit by commands that a fixed generator draws. A line for each 250 commands: how many sorts, symbols,
+// Drives a context up to each limit by commands that a fixed generator draws. A line for each 400 commands: how many sorts, symbols,
 // terms and argument places there are then, and a checksum of all answers so far.
 use core::context as cx;
 use core::ids as id;
@@ -38,7 +38,7 @@ fn ask_symbol(t: &[u32], f: id::SymbolId, k: usize) -> u32
         return mix(cx::param(t, f, k).0, cx::result_sort(t, f).0);
     }
     match cx::dt_role(t, f) {
-        tm::DtRole::Constructor => 1,
+        tm::DtRole::Constructor => mix(cx::dt_tester(f).0, cx::first_selector(f).0),
         tm::DtRole::Tester(c) => mix(2, c.0),
         tm::DtRole::Selector(c, i) => mix(mix(3, c.0), i),
         tm::DtRole::Function => 0,
@@ -48,11 +48,9 @@ fn ask_symbol(t: &[u32], f: id::SymbolId, k: usize) -> u32
 fn ask_sort(t: &[u32], s: id::SortId, from: usize) -> u32
     requires { ⌜ ContextSound (now t) × (s .0 < length (context (now t) .sorts)) × (from < length (context (now t) .symbols)) ⌝ }
 {
-    let a = mix(
-        cx::is_datatype_sort(t, s) as u32,
-        cx::all_grounded(t) as u32,
-    );
-    mix(a, cx::next_constructor(t, s, from) as u32)
+    let a = cx::is_datatype_sort(t, s) as u32;
+    let b = cx::all_grounded(t) as u32;
+    mix(mix(a, b), cx::next_constructor(t, s, from) as u32)
 }
 
 fn ask_term(t: &[u32], x: id::TermId, k: usize) -> u32
@@ -80,7 +78,7 @@ fn change(t: &mut [u32], i: u32, f: u32, s: u32, x: u32, fs: &[u32; 16], xs: &[u
     requires { ⌜ MayDeclare (now t) s (now fs) × MayApply (now t) f (now xs) × (x < length (context (now t) .terms)) ⌝ }
     ensures { λ _. ⌜ ContextSound (now (t .exit)) ⌝ }
 {
-    match draw(i, 4, 13 + i / 2000) {
+    match draw(i, 4, 13 + i / 3000) {
         0 | 1 | 2 => declared(cx::dt_add_constructor(t, id::SortId(s), &[])),
         3 => declared(cx::dt_add_constructor(t, id::SortId(s), fs)),
         4 => declared(cx::declare_fun(t, id::SortId(s), fs)),
@@ -89,8 +87,8 @@ fn change(t: &mut [u32], i: u32, f: u32, s: u32, x: u32, fs: &[u32; 16], xs: &[u
         7 | 8 => ask_term(t, id::TermId(x), f as usize % 8),
         9 => cut(t, x),
         10 => made(cx::mk_eq(t, id::TermId(x), id::TermId(x / 2))),
-        11 => made(cx::mk_eq(t, id::TermId(x), id::TermId(x / 3))),
-        12 => made(cx::mk_eq(t, id::TermId(x / 5), id::TermId(x))),
+        11 => made(cx::mk_eq(t, id::TermId(x), id::TermId(0))),
+        12 => made(cx::mk_eq(t, id::TermId(0), id::TermId(x))),
         13 => made(cx::mk_eq(t, id::TermId(x / 7), id::TermId(x))),
         14 => made(cx::mk_app(t, id::SymbolId(f / 64), xs)),
         _ => made(cx::mk_app(t, id::SymbolId(f), xs)),
@@ -144,12 +142,12 @@ fn print(n: usize) {
     io::write_all(1, b" ");
 }
 
-// A run of 250 commands ends with a line, and the first runs of each half with an empty table.
+// A run of 400 commands ends with a line, and the first runs of each half with an empty table.
 fn step(t: &mut [u32], i: u32, sum: u32) -> u32
     requires { ⌜ ContextSound (now t) ⌝ }
     ensures { λ _. ⌜ ContextSound (now (t .exit)) ⌝ }
 {
-    if i % 250 != 0 {
+    if i % 400 != 0 {
         return mix(sum, command(t, i));
     }
     print(cx::sort_count(t));
@@ -158,7 +156,7 @@ fn step(t: &mut [u32], i: u32, sum: u32) -> u32
     print(cx::place_count(t));
     io::print_decimal(1, sum as u64);
     io::write_all(1, b"\n");
-    if i % 8000 < 2000 {
+    if i % 12000 < 2400 {
         cx::clear(t);
     }
     sum
@@ -169,7 +167,7 @@ fn main() {
     cx::clear(&mut t);
     let mut sum = 0;
     let mut i = 1;
-    while i <= 16000 {
+    while i <= 24000 {
         sum = step(&mut t, i, sum);
         i += 1;
     }

@@ -34,7 +34,7 @@ fn mix(sum: u32, answer: u32) -> u32 {
     ((sum as u64 * 48271 + answer as u64) % 4294967291) as u32
 }
 
-// By a literal, or by an interface leaf with numbers from both ends.
+// Merges a and b by a literal, or by an interface leaf with numbers from both ends of what fits.
 fn relate(t: &mut [u32], seed: u32, what: u32, a: u32, b: u32) -> u32
     requires { ⌜ TwoNodes (now t) a b ⌝ }
     ensures { λ _. ⌜ EngineSound (now (t .exit)) ⌝ }
@@ -67,7 +67,7 @@ fn twin(t: &[u32], x: u32, y: u32) -> u32
     x
 }
 
-// By k argument pairs: two pairs of nodes from n down by at most d that are equal now, again and again.
+// Merges a and b by k argument pairs: two pairs of nodes from n down by at most d that are equal now, again and again.
 fn join(t: &mut [u32], seed: u32, a: u32, b: u32, n: u32, d: u32, k: usize)
     requires { ⌜ TwoNodes (now t) a b × (k ≤ 5) × (pairs-in-force (merges (now t)) + k ≤ max-pairs) ⌝ }
     ensures { λ _. ⌜ EngineSound (now (t .exit)) ⌝ }
@@ -80,6 +80,7 @@ fn join(t: &mut [u32], seed: u32, a: u32, b: u32, n: u32, d: u32, k: usize)
     eq::merge_congruence(t, id::TermId(a), id::TermId(b), &xs[..k], &ys[..k]);
 }
 
+// Merges a and b by what is drawn, past the limit of pairs by a literal.
 fn merge(t: &mut [u32], seed: u32, kinds: u32, a: u32, b: u32, n: u32, d: u32) -> u32
     requires { ⌜ TwoNodes (now t) a b ⌝ }
     ensures { λ _. ⌜ EngineSound (now (t .exit)) ⌝ }

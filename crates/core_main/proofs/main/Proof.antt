@@ -8,7 +8,7 @@ abbrev Inv-loop : tie.InvT-loop
 Inv-loop t₀ sum₀ i₀ t sum i = ContextSound t × (length t ≡ 16384)
 
 abbrev μ-loop : tie.MeasureT-loop
-μ-loop t₀ sum₀ i₀ t sum i = 16001 - i
+μ-loop t₀ sum₀ i₀ t sum i = 24001 - i
 
 pub main-spec : {M : Type 1} → statement M
 main-spec =

@@ -1,6 +1,5 @@
 -- Whether the variable is registered was asked.
-use mathlib.Core.Path.{sym, _∙_}
-use borrow.Author.Needs.{needs}
+use Rattle.core.proofs.Kit.{sym, _∙_, needs}
 use Rattle.theory_main.proofs.enroll.Statement.{statement}
 use Rattle.theory_main.proofs.enroll.Tie as tie
 

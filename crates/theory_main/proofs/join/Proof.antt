@@ -1,10 +1,6 @@
 -- Two pairs of equal nodes, again and again, are a list of such pairs, and so are its first k.
-use Prim.Native.Nat.{ℕ, zero, suc}
-use mathlib.Core.Logic.{inl, inr}
-use mathlib.Core.List.{List, [], _∷_}
-use native.Mathlib.Omega.{arith}
-use lib.ListN.{take, length-take}
-use borrow.Author.Needs.{needs}
+use Rattle.core.proofs.Kit.{ℕ, zero, suc, inl, inr, List, [], _∷_, arith, take, needs}
+use lib.ListN.{length-take}
 use Rattle.core.specs.Lists.{zip}
 use Rattle.core.proofs.Lists.{true-T}
 use Rattle.theory.specs.Memory.Explaining.{EqualNodes}

@@ -1,6 +1,5 @@
 -- Straight.
-use Prim.Native.Nat.{_-_}
-use borrow.Author.Needs.{needs}
+use Rattle.core.proofs.Kit.{_-_, needs}
 use Rattle.theory_main.proofs.mix_leaves.Statement.{statement}
 use Rattle.theory_main.proofs.mix_leaves.Tie as tie
 

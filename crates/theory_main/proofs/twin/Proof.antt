@@ -1,7 +1,5 @@
 -- The nodes are tried from y down; a node equals itself.
-use Prim.Native.Nat.{_≤_}
-use mathlib.Core.Path.{sym, _∙_}
-use borrow.Author.Needs.{needs}
+use Rattle.core.proofs.Kit.{_≤_, sym, _∙_, needs}
 use Rattle.core.specs.Limits.{max-terms}
 use Rattle.core.proofs.Lists.{T-true}
 use Rattle.theory.proofs.Classes.{equal-refl}

@@ -1,5 +1,5 @@
 -- A cleared list of leaves is sound, whatever merges are in force.
-use borrow.Author.Needs.{needs}
+use Rattle.core.proofs.Kit.{needs}
 use Rattle.theory_main.proofs.why.Statement.{statement}
 use Rattle.theory_main.proofs.why.Tie as tie
 
