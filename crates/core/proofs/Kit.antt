@@ -10,7 +10,7 @@ pub use native.Mathlib.Decide.{decLe, ℕ-discrete, decLt}
 pub use native.Mathlib.Nat.{le-antisymm, add-zero, add-suc, suc-add, zero-add, add-assoc, mod-lt}
 pub use native.Mathlib.Numerals.{add-one}
 pub use borrow.Author.Needs.{needs}
-pub use borrow.Author.Tests.{eq-eqb, ne-eqb, not-true, eqb-true, not-false, le-leb, lt-leb, eqb-false, ltb-true, ltb-false, le-ltb}
+pub use borrow.Author.Tests.{eq-eqb, ne-eqb, eqb-true, not-false, le-leb, lt-leb, eqb-false, ltb-true, ltb-false, le-ltb}
 pub use borrow.Author.Count.{below-more}
 pub use lib.Dec.{T, eqb, eqb→eq, leb, leb→le, eqb·suc-suc, lit<, eqb-refl, ltb}
 pub use lib.ListN.{length, getD, take, drop, set, length-set, drop-of-length-le, length-append, length-drop, List·getD-eq-default, length-map, replicate}

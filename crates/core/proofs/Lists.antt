@@ -93,6 +93,11 @@ unfolding range
 in-range k zero x h l = absurd (omega arith)
 in-range k (suc n) x h l = range-step k n x (decLe x k) h (λ g. in-range (suc k) n x g (omega arith))
 
+pub length-range : (k n : ℕ) → length (range k n) ≡ n
+unfolding range
+length-range k zero = refl
+length-range k (suc n) = ap suc (length-range (suc k) n)
+
 pub range-in : (k n x : ℕ) → In x (range k n) → (k ≤ x) × (x < k + n)
 unfolding range
 range-in k zero x i = absurd i

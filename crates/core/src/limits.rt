@@ -18,6 +18,3 @@ pub const MAX_LEVELS: usize = 64;
 
 // Variables are numbered below it.
 pub const MAX_VARS: usize = 1024;
-
-// A line has at most 17 numbers, so a symbol has at most 16 parameters.
-pub const MAX_PARAMS: usize = 16;

@@ -1,5 +1,5 @@
-// The words of a lent table, by its regions (specs/Memory/Words.antt). Every word of a table that is read or stored goes through these two;
-// only the arguments of a term are copied, and handed out as a slice, as a run of words (context.rt).
+// The words of a lent table, by its regions (specs/Memory/Words.antt). Each word that is read or stored alone goes through these two;
+// a run of words is stored by `copy_words` and handed out by `children` (context.rt).
 ghost use mathlib.Core.Path.{_≡_};
 ghost use Prim.Native.Nat.{_+_, _<_};
 ghost use lib.ListN.{length};

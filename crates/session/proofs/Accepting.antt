@@ -14,7 +14,7 @@ use Rattle.core.specs.Term as Term
 use Rattle.core.specs.Term.{Term, Op, Eq, Symbol}
 use Rattle.core.specs.Sort.{SortNode}
 use Rattle.core.specs.Context.{Context, Made, TesterApp, term, all-grounded, sort-of, symbol, tester-app, declare-sort, dt-add-constructor, declare-fun, with-symbols, is-datatype-sort, mk-app, mk-eq}
-use Rattle.core.proofs.Lists.{In, true-T, every-in}
+use Rattle.core.proofs.Lists.{In, true-T, every-in, same-list-eq}
 use Rattle.theory.specs.Types.{EqLeaf}
 use Rattle.theory.specs.EqEngine.{Merge}
 use Rattle.theory.specs.Atom as Atom
@@ -27,8 +27,8 @@ use Rattle.solver.specs.Rules as Rules
 use Rattle.solver.specs.Rules.{Phase, TCheck, Conflict, Split}
 use Rattle.solver.specs.Check as Check
 use Rattle.solver.specs.Check.{before-ring}
-use Rattle.solver.proofs.Basics.{Ascending, none-some, T-no}
-use Rattle.solver.proofs.Terms.{Extends, extends-sorts, extends-symbols, Below, Agrees, Formed, Makes, mk-app-makes, mk-app-formed, same-list-eq, app}
+use Rattle.solver.proofs.Basics.{Ascending, none-some, T-no, false-T}
+use Rattle.solver.proofs.Terms.{Extends, extends-sorts, extends-symbols, Below, Agrees, Formed, Makes, mk-app-makes, mk-app-formed, app}
 use Rattle.solver.proofs.Signature.{Signed, sort-signed, fun-signed, ctor-signed}
 use Rattle.solver.proofs.Apps.{tester-app-is}
 use Rattle.solver.proofs.Clash.{Refuted, Recorded, tester-refuted}
@@ -114,9 +114,6 @@ good-ok s c p h a n I = record {
   made-eq = λ t u k e q. let w : _≡_ {A = ℕ} 0 1 = ap answer-kind (sym a ∙ q) in absurd (omega arith);
 }
 
-T-closed : (b : Bool) → b ≡ false → T b → ⊥
-T-closed b e t = subst T e t
-
 T-open : (b : Bool) → T b → b ≡ false → ⊥
 T-open b t e = subst T e t
 
@@ -143,7 +140,7 @@ declare-kept s h d cx I o k e S b l p q =
       bool-there = b;
       sorts = p;
       symbols = q;
-      grounded = λ t. absurd (T-closed (s .closed) o t);
+      grounded = λ t. absurd (false-T (s .closed) o t);
       unmade = λ w. e ∙ I .unmade w;
       relevant-back = λ a i t m r. absurd (nothing t m);
     })

@@ -16,7 +16,7 @@ use Rattle.core.specs.Term as Term
 use Rattle.core.specs.Term.{Symbol, Op, Eq, Term, same-op, same-term}
 pub use Rattle.core.specs.Formed.{Agrees, Formed}
 use Rattle.core.specs.Context.{Context, Made, symbol, term, no-term, children, result-of, sort-of, intern, mk-app}
-use Rattle.core.proofs.Lists.{In, T-and, T-both, T-true, true-T}
+use Rattle.core.proofs.Lists.{In, T-and, T-both, T-true, true-T, same-list-eq}
 use Rattle.solver.proofs.Basics.{none-some, some-none, some-is}
 
 -- ---- tests of operations and terms
@@ -32,17 +32,6 @@ pub same-op-refl : (p : Op) → T (same-op p p)
 unfolding same-op
 same-op-refl Eq = tt
 same-op-refl (Term.Uninterpreted r) = eqb-refl r
-
-pub same-list-eq : (xs ys : List ℕ) → T (same-list xs ys) → xs ≡ ys
-unfolding same-list
-same-list-eq [] [] t = refl
-same-list-eq [] (y ∷ ys) t = absurd t
-same-list-eq (x ∷ xs) [] t = absurd t
-same-list-eq (x ∷ xs) (y ∷ ys) t = go (eqb x y) refl t (same-list-eq xs ys)
-  where
-    go : (b : Bool) → eqb x y ≡ b → T (cond b (same-list xs ys) false) → (T (same-list xs ys) → xs ≡ ys) → x ∷ xs ≡ y ∷ ys
-    go true e u f = ap₂ (λ (z : ℕ) (zs : List ℕ). z ∷ zs) (eqb→eq x y (true-T (eqb x y) e)) (f u)
-    go false e u f = absurd u
 
 pub same-list-refl : (xs : List ℕ) → T (same-list xs xs)
 unfolding same-list

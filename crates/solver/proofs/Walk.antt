@@ -12,7 +12,7 @@ use borrow.Author.Tests.{eqb-true}
 use lib.ListN.{length}
 use Rattle.core.specs.Lists.{range, mem, any}
 use Rattle.core.specs.Context.{CtorApp, ctor-app}
-use Rattle.core.proofs.Lists.{In, any-in, in-range, true-T}
+use Rattle.core.proofs.Lists.{In, any-in, in-range, true-T, length-range}
 use Rattle.theory.proofs.Members.{Apart, apart-length, in-any}
 use Rattle.solver.proofs.Apps.{ctor-app-is, app-within}
 use Rattle.solver.specs.State.{State, ctor-apps, ctor-of-class, watched-dt-terms, equal}
@@ -29,11 +29,6 @@ class-ctor s t c e =
     (subst⁻¹ (λ (z : ℕ). In z (s .dt .marks)) a j, subst⁻¹ (λ (z : ℕ). ctor-app (s .terms) z ≡ some c) a p, q)
 
 -- ---- no more than n different numbers below n
-
-length-range : (k n : ℕ) → length (range k n) ≡ n
-unfolding range
-length-range k zero = refl
-length-range k (suc n) = ap suc (length-range (suc k) n)
 
 apart-below : (n : ℕ) (xs : List ℕ) → Apart xs → ((x : ℕ) → In x xs → x < n) → length xs ≤ n
 apart-below n xs a h =

@@ -1,7 +1,7 @@
 -- Sizes of classes, and bounds: merges among N terms are fewer than N, and a class has at most one term more than there are merges.
 use Rattle.core.proofs.Kit.{ℕ, zero, suc, _+_, _≤_, _<_, _≡_, refl, sym, subst, ap, _∙_, inl, inr, ⊎-elim, false, List, [], _∷_, map, ℕ-discrete, arith, length, eq-eqb, ne-eqb}
 use Rattle.core.specs.Lists.{range, total}
-use Rattle.core.proofs.Lists.{In, in-range}
+use Rattle.core.proofs.Lists.{In, in-range, length-range}
 use Rattle.theory.specs.EqEngine.{Merge, singletons, classes, find, are-equal}
 use Rattle.theory.proofs.Members.{Apart, apart-length}
 use Rattle.theory.specs.Memory.Replay.{child-of, root-of}
@@ -105,11 +105,6 @@ gone-more n m ms j w g = record {
 gone-of : (n : ℕ) (ms : List Merge) → Joins ms → Within n ms → Gone n ms
 gone-of n [] j w = record { gone = []; count = refl; apart = tt; never = λ x i. i; within = λ r i. absurd i }
 gone-of n (m ∷ ms) j w = gone-more n m ms (j .0) w (gone-of n ms (j .1) (λ k i. w k (inr i)))
-
-pub length-range : (k n : ℕ) → length (range k n) ≡ n
-unfolding range
-length-range k zero = refl
-length-range k (suc n) = ap suc (length-range (suc k) n)
 
 -- Merges among n terms are fewer than n.
 pub merges-fewer : (n : ℕ) (ms : List Merge) → 0 < n → Joins ms → Within n ms → length ms < n

@@ -5,7 +5,7 @@ use Rattle.core.specs.Lists.{In}
 use Rattle.core.specs.Memory.Words.{put}
 use Rattle.theory.specs.EqEngine.{Merge, singletons, classes, way}
 use Rattle.theory.specs.Memory.Replay.{IsNode, parent, Justified}
-use Rattle.theory.specs.Memory.Table.{engine-size, COUNTS, MERGES, LEVEL, PARENT, SIZE, FPARENT, merges#, level-word, parent-word, size-word, fparent-word, merges-below, merges, FirstEdge, EngineSound, Engine}
+use Rattle.theory.specs.Memory.Table.{engine-size, COUNTS, MERGES, LEVEL, PARENT, SIZE, FPARENT, merges#, level-word, parent-word, size-word, fparent-word, merges-below, merges, FirstEdge, Engine}
 use Rattle.theory.proofs.Memory.EngineStores.{stores}
 
 pub record Alone (t : List ℕ) (x : ℕ) : Type 0 where

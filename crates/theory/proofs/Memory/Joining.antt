@@ -8,8 +8,8 @@ use Rattle.theory.specs.Types.{EqJust, Asserted, Congruence, Interface}
 use Rattle.theory.specs.declared.types.EqJust as Given
 use Rattle.theory.specs.declared.eq_engine.LabelWords as LabelWords
 use Rattle.theory.specs.EqEngine.{Merge, are-equal, merge, pairs-of, pairs-in-force, way}
-use Rattle.theory.specs.Memory.Replay.{IsNode, EqualPairs}
-use Rattle.theory.specs.Memory.Table.{engine-size, COUNTS, MERGES, LEVEL, PARENT, SIZE, LEFT, RIGHT, engine-room, merges#, level-word, left-word, right-word, pair-at, kind-unit, label, begins, merges, just-meaning, EngineSound, Engine, TwoNodes, Merges, Congruent}
+use Rattle.theory.specs.Memory.Replay.{EqualPairs}
+use Rattle.theory.specs.Memory.Table.{engine-size, COUNTS, MERGES, LEVEL, PARENT, SIZE, LEFT, RIGHT, engine-room, merges#, level-word, left-word, right-word, pair-at, label, begins, merges, just-meaning, EngineSound, Engine, TwoNodes, Merges, Congruent}
 use Rattle.theory.specs.Memory.Steps.{SamePairs, SameLog, Joinable, HoldsLabel, PairRoom, Copied}
 use Rattle.theory.proofs.Memory.EngineStores.{stores}
 use Rattle.theory.proofs.Memory.Log.{pairs-more, after-within}

@@ -1,6 +1,6 @@
 -- The log of merges: tables that agree on its first merges give the same list of merges; how many merges and argument pairs there are;
 -- a label's word taken apart.
-use Rattle.core.proofs.Kit.{ℕ, zero, suc, _+_, _-_, _*_, _/_, _%_, _≤_, _<_, _≡_, refl, sym, subst, ap, ap₂, _∙_, inl, inr, List, [], _∷_, arith, decLe, length}
+use Rattle.core.proofs.Kit.{ℕ, zero, suc, _+_, _-_, _≤_, _<_, _≡_, refl, sym, subst, ap, ap₂, _∙_, inl, inr, List, _∷_, arith, decLe, length}
 use Rattle.core.specs.Limits.{max-terms, max-pairs}
 use Rattle.core.specs.Lists.{In, total}
 use Rattle.core.proofs.Lists.{length-map-range, map-range-cong}

@@ -3,14 +3,13 @@ use Rattle.core.proofs.Kit.{ℕ, zero, suc, _+_, _-_, _≤_, _<_, _≡_, refl, 
 use Rattle.core.specs.Limits.{max-vars, max-terms}
 use Rattle.core.specs.Lists.{first, range}
 use Rattle.core.specs.Memory.Words.{at, put, apart, counted}
-use Rattle.core.proofs.Lists.{In, in-range}
+use Rattle.core.proofs.Lists.{In, in-range, length-range}
 use Rattle.core.proofs.Memory.Counted.{counted-length, counted-in, counted-grown}
 use Rattle.core.proofs.Memory.Searching.{any-found}
 use Rattle.core.proofs.Memory.Stores as Stores
 use Rattle.theory.specs.Atom.{Registered, register, is-registered}
 use Rattle.theory.specs.Memory.Registry.{COUNTS, VARS, VAR, ATOM, FIRST, registry-room, registry-size, vars#, registered-at, atoms, of-var, of-atom, word-for, or-else, atom-word, first-word, first-with, RegistrySound, Registrable}
 use Rattle.theory.proofs.Members.{Apart, apart-length, apart-last}
-use Rattle.theory.proofs.Sizes.{length-range}
 use Rattle.theory.proofs.Memory.Registering.{registered-yes}
 
 -- ---- stores

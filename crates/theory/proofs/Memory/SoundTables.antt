@@ -1,6 +1,6 @@
 -- When another table is sound: one that keeps the first merges of a sound one, with the classes and the forest of these; one with another
 -- level; one with one more merge.
-use Rattle.core.proofs.Kit.{ℕ, zero, suc, _+_, _≤_, _<_, _≡_, refl, sym, subst, ap, ap₂, _∙_, inl, inr, false, List, [], _∷_, arith, decLe, add-one, length}
+use Rattle.core.proofs.Kit.{ℕ, suc, _+_, _≤_, _<_, _≡_, refl, sym, subst, ap, ap₂, _∙_, inl, inr, false, List, [], _∷_, arith, decLe, add-one, length}
 use Rattle.core.specs.Limits.{max-terms, max-pairs, max-levels}
 use Rattle.core.specs.Lists.{In}
 use Rattle.core.specs.Memory.Words.{put}

@@ -1,6 +1,6 @@
 -- Merges taken back: the class of the newest is its own again, and the way from the old root is turned again; back to a level, one after
 -- the other.
-use Rattle.core.proofs.Kit.{ℕ, zero, suc, _+_, _-_, _≤_, _<_, _≡_, refl, sym, subst, ap, ap₂, _∙_, inl, inr, Bool, true, false, cond, false≢true, List, [], _∷_, _++_, arith, ℕ-discrete, decLe, eq-eqb, ne-eqb, ltb-true, ltb-false, le-ltb, le-leb, lt-leb, eqb, leb, ltb, lit<, length}
+use Rattle.core.proofs.Kit.{ℕ, zero, suc, _+_, _-_, _≤_, _<_, _≡_, refl, sym, subst, ap, ap₂, _∙_, inl, inr, Bool, true, false, cond, false≢true, List, [], _∷_, _++_, arith, ℕ-discrete, decLe, eq-eqb, ne-eqb, ltb-true, ltb-false, le-ltb, le-leb, lt-leb, eqb, leb, ltb, length}
 use Rattle.core.specs.Limits.{max-terms, max-pairs}
 use Rattle.core.specs.Lists.{In}
 use Rattle.core.specs.Memory.Words.{put}

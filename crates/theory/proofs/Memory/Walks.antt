@@ -3,14 +3,13 @@
 use Rattle.core.proofs.Kit.{ℕ, suc, _+_, _-_, _≤_, _<_, _≡_, refl, sym, subst, ap, _∙_, _⊎_, inl, inr, true, List, [], _∷_, map, arith, length}
 use Rattle.core.specs.Limits.{max-terms}
 use Rattle.core.specs.Lists.{In, range}
-use Rattle.core.proofs.Lists.{in-range, true-T}
+use Rattle.core.proofs.Lists.{in-range, true-T, length-range}
 use Rattle.theory.specs.EqEngine.{Merge, Step, find, are-equal, nodes, common, way}
 use Rattle.theory.specs.Memory.Replay.{IsNode, parent, end, BothSides}
 use Rattle.theory.specs.Memory.Table.{merges#, parent-word, fparent-word, fedge-word, just-at, merge-at, merges, FirstEdge, EngineSound, TwoNodes}
 use Rattle.theory.proofs.Members.{apart-length}
 use Rattle.theory.proofs.Classes.{equal-same}
 use Rattle.theory.proofs.Forest.{On, Forest, way-over, Above, Meet, at-root, lower, longer, meet-up, way-forest, way-apart, way-meets}
-use Rattle.theory.proofs.Sizes.{length-range}
 use Rattle.theory.proofs.UnionFind.{Up, up, depth, parent-within}
 use Rattle.theory.proofs.Memory.Log.{merges-within, sound-joins}
 

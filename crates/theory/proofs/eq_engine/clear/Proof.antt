@@ -1,7 +1,6 @@
 -- The counts are cleared, then one node after the other is alone.
-use Rattle.core.proofs.Kit.{_∙_, _-_, needs}
+use Rattle.core.proofs.Kit.{_-_, needs}
 use Rattle.core.specs.Limits.{max-terms}
-use Rattle.core.proofs.Memory.Stores.{length-put}
 use Rattle.theory.proofs.Memory.Clearing.{Clearing, clear-first, clear-next, clear-done}
 use Rattle.theory.proofs.eq_engine.clear.Statement.{statement}
 use Rattle.theory.proofs.eq_engine.clear.Tie as tie
