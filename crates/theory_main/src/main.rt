@@ -149,13 +149,14 @@ fn mix_leaves(out: &[u32]) -> u32
     sum
 }
 
-// The leaves of two equalities in one list: x and its twin from y down, u and its twin from x down.
+// A literal and the leaves of two equalities in one list: x and its twin from y down, u and its twin from x down.
 fn why(t: &[u32], x: u32, y: u32, u: u32, out: &mut [u32]) -> u32
     requires { ⌜ TwoNodes (now t) x y × IsNode u × (answer-size ≤ length (now out)) ⌝ }
 {
     let z = twin(t, x, y);
     let v = twin(t, u, x);
     ty::clear_leaves(out);
+    ty::push_leaf(out, ty::EqLeaf::Asserted(id::Lit(2 * u)));
     eq::explain(t, id::TermId(x), id::TermId(z), out);
     eq::explain(t, id::TermId(u), id::TermId(v), out);
     mix_leaves(out)

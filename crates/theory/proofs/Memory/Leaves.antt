@@ -205,3 +205,11 @@ push-sound ms o u l other a f c p = go (has-leaf l (leaves o)) refl (p .listed)
     go false q e =
         made (leaves o ++ (l ∷ [])) e (apart-last (leaves o) l a (λ i. subst T q (in-seen l (leaves o) i)))
         (λ k i. more k (in-either k (leaves o) (l ∷ []) i))
+
+-- the first leaf pushed may be any: there is room, and an explanation may follow
+pub first-asks : {o : List ℕ} (l : EqLeaf) → Cleared o → LeavesSound o × HasRoom o l
+first-asks l c = (c .sound [] .words, inr (let e = ap length (c .empty) in omega arith))
+
+pub first-sound : {o u : List ℕ} {l : EqLeaf} (ms : List Merge) → Cleared o → Pushed o u l → AnswerSound ms u
+first-sound {o} {u} {l} ms c p =
+    push-sound ms o u l l (c .sound ms .apart) (subst (Cited ms l) (sym (c .empty)) (λ k i. absurd i)) (inl refl) p
