@@ -2,6 +2,7 @@
 pub mod Types
 pub mod EqEngine
 pub mod Atom
+-- All these definitions by one name, for proofs by computation.
 pub mod Unfolding
 pub mod Examples
 -- How lent tables hold it, and what the functions on them promise one another.
