@@ -14,6 +14,6 @@ pub mod Undoing
 pub mod Leaves
 pub mod Marks
 pub mod Explaining
--- The registry.
-pub mod Registering
-pub mod Registers
+-- The registry's table. RegistryWords: what its words say of the registrations; RegistryStores: an empty registry, one more registration.
+pub mod RegistryWords
+pub mod RegistryStores

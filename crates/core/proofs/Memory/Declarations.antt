@@ -1,12 +1,11 @@
 -- Declarations: an empty table, terms given back, one more sort, one more symbol, a function, a constructor.
 use Rattle.core.proofs.Kit.{ℕ, zero, suc, _+_, _-_, _*_, _/_, _%_, _≤_, _<_, _≡_, refl, sym, ap, _∙_, true, false, true≢false, List, [], _∷_, _++_, append-assoc, append-nil, ℕ-discrete, add-one, arith, below-more, le-leb, lt-leb, leb, length, getD, take, drop, length-append, drop-of-length-le, drop-cons, take-all, take-take, length-take-le}
-use Rattle.core.specs.Limits.{max-sorts, max-symbols}
+use Rattle.core.specs.Limits.{max-sorts, max-symbols, table-words}
 use Rattle.core.specs.Lists.{range}
 use Rattle.core.specs.Sort.{SortNode, BoolSort}
 use Rattle.core.specs.Term.{Function, Symbol}
 use Rattle.core.specs.Context.{Context, empty-context, with-symbols, declare-sort, declare-fun, selectors-from, constructor-symbols, dt-add-constructor, cut-terms, declarations-fit}
 use Rattle.core.specs.Memory.Words.{at, put, put-all, Kept, counted}
-use Rattle.core.specs.Limits.{table-words}
 use Rattle.core.specs.Memory.Table.{COUNTS, SORTS, SYMBOLS, TERMS, SORT, OWNER, RESULT, ARITY, PARAMS, OP, OFFSET, BUCKET, LINK, core-room, sorts#, symbols#, terms#, digit, packed, packed-words, node-of, role-of, sort-at, param-at, symbol-at, term-at, context, buckets, bucket-of, newest, AllBelow, SymbolSound, ContextSound, MayDeclare, SymbolRoom, SymbolAdded, SelectorRoom, SymbolsAdded, NoTerms}
 use Rattle.core.specs.Memory.Codes.{Declares}
 use Rattle.core.specs.declared.context.Declared as Declared

@@ -1,12 +1,11 @@
 -- Terms: an application looked up among them, one more at their end, and making one.
 use Rattle.core.proofs.Kit.{ℕ, zero, suc, _+_, _-_, _≤_, _<_, _≡_, refl, sym, ap, ap₂, _∙_, subst, Bool, true, false, not, _&&_, true≢false, List, [], _∷_, _++_, map, map-append, none, zero-add, add-assoc, add-one, decLe, ℕ-discrete, arith, eq-eqb, ne-eqb, eqb-true, not-false, le-leb, lt-leb, T, eqb, leb, eqb→eq, eqb·suc-suc, length, getD, length-append}
-use Rattle.core.specs.Limits.{max-terms, max-places}
+use Rattle.core.specs.Limits.{max-terms, max-places, table-words}
 use Rattle.core.specs.Lists.{same-list, range, total}
 use Rattle.core.specs.Term.{Op, Eq, Uninterpreted, Term, same-op, same-term}
 use Rattle.core.specs.Context as Context
 use Rattle.core.specs.Context.{Context, intern, mk-app, places, terms-fit}
 use Rattle.core.specs.Memory.Words.{at, put, put-all, Kept, counted, stretch}
-use Rattle.core.specs.Limits.{table-words}
 use Rattle.core.specs.Memory.Table.{COUNTS, TERMS, OP, OFFSET, POOL, BUCKET, LINK, core-room, sorts#, symbols#, terms#, op-of, args-at, term-at, context, buckets, bucket, bucket-of, newest, AllBelow, TermSound, IndexSound, ContextSound, FindsApp, MayIntern, MayApply, MayEquate, Appendable, Appended}
 use Rattle.core.specs.Memory.Codes.{made-answer, made-context, MkApp}
 use Rattle.core.specs.declared.context.Made as Made

@@ -6,9 +6,8 @@ use Rattle.core.specs.Lists.{In}
 use Rattle.core.specs.Memory.Words.{put}
 use Rattle.core.proofs.Memory.Stores.{kept-more, kept-put}
 use Rattle.theory.specs.EqEngine.{Merge, child, root, classes, find, are-equal, Step, before, way}
-use Rattle.theory.specs.Memory.Replay.{IsNode, child-of, root-of, parent, end, BothSides}
+use Rattle.theory.specs.Memory.Replay.{IsNode, child-of, root-of, parent, end, BothSides, ups, On}
 use Rattle.theory.specs.Memory.Table.{engine-size, COUNTS, MERGES, LEVEL, PARENT, SIZE, FPARENT, FEDGE, FROOT, engine-room, merges#, level-word, parent-word, size-word, fparent-word, fedge-word, a-word, b-word, label-word, value-word, child-word, froot-word, after-word, left-word, right-word, label-code, level-of, kind-of, theory-of, label, begins, just-at, merge-at, pairs-start, merges, FirstEdge, EngineSound, Engine, TwoNodes}
-use Rattle.theory.specs.Memory.Replay.{ups, On}
 use Rattle.theory.specs.Memory.Steps.{SameEntry, SameLog, Upward, SameNode, Rerooted, Spliced, TwoClasses, united, Entry, logged, Joinable}
 use Rattle.theory.proofs.Members.{in-right}
 use Rattle.theory.proofs.Classes.{turned-sides, size-more}

@@ -4,9 +4,8 @@ use Rattle.core.specs.Lists.{In, Apart}
 use Rattle.core.specs.Memory.Words.{put, Kept}
 use Rattle.core.proofs.Memory.Stores.{kept-none, kept-put}
 use Rattle.theory.specs.EqEngine.{Step, before, way}
-use Rattle.theory.specs.Memory.Replay.{IsNode}
+use Rattle.theory.specs.Memory.Replay.{IsNode, ups, On}
 use Rattle.theory.specs.Memory.Table.{engine-size, FPARENT, FEDGE, engine-room, fparent-word, fedge-word, merges}
-use Rattle.theory.specs.Memory.Replay.{ups, On}
 use Rattle.theory.specs.Memory.Steps.{Upward, SameNode, Turned, Rerooted}
 use Rattle.theory.proofs.Members.{in-left, in-either}
 use Rattle.theory.proofs.Forest.{Forest, Above, at-root, at-step, split, apart}

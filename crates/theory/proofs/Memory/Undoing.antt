@@ -5,9 +5,8 @@ use Rattle.core.specs.Limits.{max-terms, max-pairs}
 use Rattle.core.specs.Lists.{In}
 use Rattle.core.specs.Memory.Words.{put}
 use Rattle.theory.specs.EqEngine.{Merge, classes, find, pop-merges, Step, before, turned, way}
-use Rattle.theory.specs.Memory.Replay.{IsNode, child-of, root-of, parent, end, BothSides}
+use Rattle.theory.specs.Memory.Replay.{IsNode, child-of, root-of, parent, end, BothSides, ups, On}
 use Rattle.theory.specs.Memory.Table.{engine-size, COUNTS, MERGES, LEVEL, PARENT, SIZE, merges#, level-word, parent-word, size-word, fparent-word, fedge-word, a-word, label-word, child-word, froot-word, level-of, merge-at, merges-below, merges, FirstEdge, EngineSound, Engine, Pops}
-use Rattle.theory.specs.Memory.Replay.{ups, On}
 use Rattle.theory.specs.Memory.Steps.{SameLog, Upward, SameNode, Rerooted, Separable, separated, Undoes, newest-above, Drops}
 use Rattle.theory.proofs.Members.{in-right}
 use Rattle.theory.proofs.Classes.{Same, unequal, turned-sides, roots-apart}

@@ -1,6 +1,6 @@
 -- Straight.
 use Rattle.core.proofs.Kit.{needs}
-use Rattle.theory.proofs.Memory.Registering.{first-new, first-old}
+use Rattle.theory.proofs.Memory.RegistryWords.{first-new, first-old}
 use Rattle.theory.proofs.atom.first_with.Statement.{statement}
 use Rattle.theory.proofs.atom.first_with.Tie as tie
 

@@ -1,6 +1,6 @@
 -- A variable is registered where its word is not 0.
 use Rattle.core.proofs.Kit.{needs}
-use Rattle.theory.proofs.Memory.Registering.{registered-no, registered-yes, registered-beyond}
+use Rattle.theory.proofs.Memory.RegistryWords.{registered-no, registered-yes, registered-beyond}
 use Rattle.theory.proofs.atom.is_registered.Statement.{statement}
 use Rattle.theory.proofs.atom.is_registered.Tie as tie
 

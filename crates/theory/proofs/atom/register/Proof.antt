@@ -1,6 +1,6 @@
 -- Four stores.
 use Rattle.core.proofs.Kit.{needs, arith}
-use Rattle.theory.proofs.Memory.Registers.{registers}
+use Rattle.theory.proofs.Memory.RegistryStores.{registers}
 use Rattle.theory.proofs.atom.register.Statement.{statement}
 use Rattle.theory.proofs.atom.register.Tie as tie
 

@@ -1,7 +1,7 @@
 -- The word of the atom says which.
 use Rattle.core.proofs.Kit.{needs}
 use Rattle.theory.specs.Memory.Registry.{first-var-meaning}
-use Rattle.theory.proofs.Memory.Registering.{no-var, one-var}
+use Rattle.theory.proofs.Memory.RegistryWords.{no-var, one-var}
 use Rattle.theory.proofs.atom.var_of_atom.Statement.{statement}
 use Rattle.theory.proofs.atom.var_of_atom.Tie as tie
 

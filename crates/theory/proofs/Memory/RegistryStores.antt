@@ -1,4 +1,4 @@
--- One more registration: the table that its stores leave is sound and means the list with it at the end.
+-- An empty registry, and one more registration: the table that its stores leave is sound and means the list with it at the end.
 use Rattle.core.proofs.Kit.{ℕ, zero, suc, _+_, _-_, _≤_, _<_, _≡_, refl, sym, subst, ap, _∙_, inl, inr, Bool, true, false, cond, true≢false, List, [], _∷_, _++_, Option, none, some, ℕ-discrete, add-one, arith, below-more, eq-eqb, ne-eqb, T, eqb, leb, lit<, length}
 use Rattle.core.specs.Limits.{max-vars, max-terms}
 use Rattle.core.specs.Lists.{first, range}
@@ -10,7 +10,7 @@ use Rattle.core.proofs.Memory.Stores as Stores
 use Rattle.theory.specs.Atom.{Registered, register, is-registered}
 use Rattle.theory.specs.Memory.Registry.{COUNTS, VARS, VAR, ATOM, FIRST, registry-room, registry-size, vars#, registered-at, atoms, of-var, of-atom, word-for, or-else, atom-word, first-word, first-with, RegistrySound, Registrable}
 use Rattle.theory.proofs.Members.{Apart, apart-length, apart-last}
-use Rattle.theory.proofs.Memory.Registering.{registered-yes}
+use Rattle.theory.proofs.Memory.RegistryWords.{registered-yes}
 
 -- ---- stores
 
