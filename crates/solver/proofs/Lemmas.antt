@@ -84,7 +84,7 @@ ctor-within : (cx : Context) (c : CtorApp) → IsCtor cx (c .app) c → c .app <
 ctor-within cx c C = app-within cx (c .app) (c .ctor) (C .op)
 
 -- an application of a constructor is an argument for its tester and selectors
-one-arg : (cx : Context) (a c f : ℕ) → sort-of cx a ≡ symbol cx c .result → symbol cx f .params ≡ symbol cx c .result ∷ [] → map (sort-of cx) (a ∷ []) ≡ symbol cx f .params
+pub one-arg : (cx : Context) (a c f : ℕ) → sort-of cx a ≡ symbol cx c .result → symbol cx f .params ≡ symbol cx c .result ∷ [] → map (sort-of cx) (a ∷ []) ≡ symbol cx f .params
 one-arg cx a c f e p = ap (λ (z : ℕ). z ∷ []) e ∙ sym p
 
 ctor-sort : (cx : Context) (c : CtorApp) (d : ℕ) → IsCtor cx (c .app) c → c .ctor ≡ d → sort-of cx (c .app) ≡ symbol cx d .result
@@ -242,29 +242,29 @@ module _ (s : State) (R : Ready s) where
 -- ---- guarded instantiation
 
 -- the terms stand for the selectors k, k + 1, … on t
-abbrev Selects : Context → ℕ → ℕ → List ℕ → Type 0
+abbrev pub Selects : Context → ℕ → ℕ → List ℕ → Type 0
 Selects cx t k [] = Unit {0}
 Selects cx t k (d ∷ ds) = (d < length (cx .terms)) × (term cx d ≡ app (Term.Uninterpreted k) (t ∷ [])) × Selects cx t (suc k) ds
 
-selects-kept : (a b : Context) (t k : ℕ) (ds : List ℕ) → Extends a b → Selects a t k ds → Selects b t k ds
+pub selects-kept : (a b : Context) (t k : ℕ) (ds : List ℕ) → Extends a b → Selects a t k ds → Selects b t k ds
 selects-kept a b t k [] e h = tt
 selects-kept a b t k (d ∷ ds) e (l, q, h) =
     let m = extends-length a b e in
     (omega arith, extends-term a b d e l ∙ q, selects-kept a b t (suc k) ds e h)
 
-selects-more : (cx : Context) (t k : ℕ) (ds : List ℕ) (d : ℕ) → Selects cx t k ds → d < length (cx .terms) → term cx d ≡ app (Term.Uninterpreted (k + length ds)) (t ∷ []) → Selects cx t k (ds ++ (d ∷ []))
+pub selects-more : (cx : Context) (t k : ℕ) (ds : List ℕ) (d : ℕ) → Selects cx t k ds → d < length (cx .terms) → term cx d ≡ app (Term.Uninterpreted (k + length ds)) (t ∷ []) → Selects cx t k (ds ++ (d ∷ []))
 selects-more cx t k [] d h l e = (l, e ∙ ap (λ (n : ℕ). app (Term.Uninterpreted n) (t ∷ [])) (add-zero k), tt)
 selects-more cx t k (x ∷ ds) d (a, b, h) l e =
     (a, b, selects-more cx t (suc k) ds d h l (e ∙ ap (λ (n : ℕ). app (Term.Uninterpreted n) (t ∷ [])) (add-suc k (length ds) ∙ sym (suc-add k (length ds)))))
 
-selects-below : (cx : Context) (t k : ℕ) (ds : List ℕ) → Selects cx t k ds → Below (length (cx .terms)) ds
+pub selects-below : (cx : Context) (t k : ℕ) (ds : List ℕ) → Selects cx t k ds → Below (length (cx .terms)) ds
 selects-below cx t k [] h a i = absurd i
 selects-below cx t k (d ∷ ds) (l, e, h) a (inl q) = subst⁻¹ (λ (z : ℕ). z < length (cx .terms)) q l
 selects-below cx t k (d ∷ ds) (l, e, h) a (inr i) = selects-below cx t (suc k) ds h a i
 
 -- the selectors of constructor c on a term of its sort
 module _ (cx : Context) (S : Signed cx) (c t : ℕ) (K : symbol cx c .role ≡ Constructor) where
-  abbrev Tail : ℕ → List ℕ → Type 0
+  abbrev pub Tail : ℕ → List ℕ → Type 0
   Tail i ps = (j : ℕ) → j < length ps → (i + j < length (symbol cx c .params)) × (getD ps j 0 ≡ getD (symbol cx c .params) (i + j) 0)
 
   tail-next : (i p : ℕ) (ps : List ℕ) → Tail i (p ∷ ps) → Tail (suc i) ps
@@ -272,7 +272,7 @@ module _ (cx : Context) (S : Signed cx) (c t : ℕ) (K : symbol cx c .role ≡ C
       let (a, b) = h (suc j) (omega arith) in
       (omega arith, b ∙ ap (λ (n : ℕ). getD (symbol cx c .params) n 0) (add-suc i j ∙ sym (suc-add i j)))
 
-  selects-sorts : (ds ps : List ℕ) (i : ℕ) → length ds ≡ length ps → Tail i ps → Selects cx t (c + 2 + i) ds → map (sort-of cx) ds ≡ ps
+  pub selects-sorts : (ds ps : List ℕ) (i : ℕ) → length ds ≡ length ps → Tail i ps → Selects cx t (c + 2 + i) ds → map (sort-of cx) ds ≡ ps
   selects-sorts [] [] i e h w = refl
   selects-sorts [] (p ∷ ps) i e h w = absurd (omega arith)
   selects-sorts (d ∷ ds) [] i e h w = absurd (omega arith)
@@ -302,7 +302,7 @@ module _ (cx : Context) (S : Signed cx) (c t : ℕ) (K : symbol cx c .role ≡ C
         ∙ own-field-is c i whole v (r .foreign (c + 2 + i) (values-of r (t ∷ []))) (ap (field whole) (sym x) ∙ sym (f 0)))
         (selects-values ds ps vs (suc i) (omega arith) (tail-next i p ps h) os (λ j. f (suc j) ∙ ap (field whole) (add-suc i j ∙ sym (suc-add i j))) (subst (λ (n : ℕ). Selects cx t n ds) (sym (add-suc (c + 2) i)) w))
 
-  whole-tail : Tail 0 (symbol cx c .params)
+  pub whole-tail : Tail 0 (symbol cx c .params)
   whole-tail j l = (omega arith, ap (λ (n : ℕ). getD (symbol cx c .params) n 0) (sym (zero-add j)))
 
 -- the fields that were made so far
@@ -582,7 +582,7 @@ is-ctor-role (Tester c) t = absurd t
 is-ctor-role (Selector c i) t = absurd t
 is-ctor-role Function t = absurd t
 
-builds-is : (cx : Context) (dt c : ℕ) → T (builds cx dt c) → (symbol cx c .role ≡ Constructor) × (symbol cx c .result ≡ dt)
+pub builds-is : (cx : Context) (dt c : ℕ) → T (builds cx dt c) → (symbol cx c .role ≡ Constructor) × (symbol cx c .result ≡ dt)
 unfolding builds
 builds-is cx dt c t =
     let (a, b) = T-and (is-constructor (symbol cx c .role)) (eqb (symbol cx c .result) dt) t in
@@ -598,7 +598,7 @@ in-builds : (cx : Context) (dt c : ℕ) → In c (dt-constructors cx dt) → T (
 unfolding dt-constructors
 in-builds cx dt c i = keep-in (builds cx dt) (range 0 (length (cx .symbols))) c i .1
 
-builds-kept : (a b : Context) (dt c : ℕ) → Extends a b → T (builds b dt c) → T (builds a dt c)
+pub builds-kept : (a b : Context) (dt c : ℕ) → Extends a b → T (builds b dt c) → T (builds a dt c)
 unfolding builds
 builds-kept a b dt c e t = subst (λ (x : Symbol). T (is-constructor (x .role) && eqb (x .result) dt)) (extends-symbol a b c e) t
 

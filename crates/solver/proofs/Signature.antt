@@ -12,31 +12,11 @@ use lib.Seq.{getD-append-add}
 use Rattle.core.specs.Term.{Symbol, Role, Constructor, Tester, Selector, Function}
 use Rattle.core.specs.Sort.{SortNode, BoolSort, is-datatype}
 use Rattle.core.specs.Context.{Context, empty-context, with-symbols, declare-sort, selectors-from, constructor-symbols, dt-add-constructor, declare-fun, sort-node, is-datatype-sort, symbol, no-symbol, is-constructor}
+pub use Rattle.core.specs.Formed.{TesterIs, SelectorIs, Signed}
 use Rattle.core.specs.Reading.{is-function, is-selector}
 use Rattle.core.proofs.Readings.{datatype-in-range}
 use Rattle.core.proofs.Symbols.{symbol-count}
 use Rattle.solver.proofs.Terms.{Extends, extends-sorts}
-
--- w is the tester of constructor d
-abbrev pub TesterIs : Symbol → Symbol → Type 0
-TesterIs w d = (d .role ≡ Constructor) × (w .params ≡ d .result ∷ []) × (w .result ≡ 0)
-
--- w is the i-th selector of constructor d
-abbrev pub SelectorIs : Symbol → Symbol → ℕ → Type 0
-SelectorIs w d i =
-    (d .role ≡ Constructor)
-    × (w .params ≡ d .result ∷ [])
-    × (i < length (d .params))
-    × (w .result ≡ getD (d .params) i 0)
-
--- Sort 0 is Bool; constructors build datatypes; a constructor's tester and selectors stand right behind it.
-pub record Signed (cx : Context) : Type 0 where
-  pub bool : sort-node cx 0 ≡ BoolSort
-  pub datatype : (c : ℕ) → symbol cx c .role ≡ Constructor → T (is-datatype-sort cx (symbol cx c .result))
-  pub tester : (f c : ℕ) → symbol cx f .role ≡ Tester c → TesterIs (symbol cx f) (symbol cx c)
-  pub selector : (f c i : ℕ) → symbol cx f .role ≡ Selector c i → SelectorIs (symbol cx f) (symbol cx c) i
-  pub own-tester : (c : ℕ) → symbol cx c .role ≡ Constructor → symbol cx (c + 1) .role ≡ Tester c
-  pub own-selector : (c i : ℕ) → symbol cx c .role ≡ Constructor → i < length (symbol cx c .params) → symbol cx (c + 2 + i) .role ≡ Selector c i
 
 -- ---- roles are told apart
 

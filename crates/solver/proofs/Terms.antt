@@ -14,7 +14,7 @@ use lib.Seq.{getD-append-seam}
 use Rattle.core.specs.Lists.{place-from, same-list}
 use Rattle.core.specs.Term as Term
 use Rattle.core.specs.Term.{Symbol, Op, Eq, Term, same-op, same-term}
-pub use Rattle.core.specs.Formed.{Agrees, Formed}
+pub use Rattle.core.specs.Formed.{Agrees, Formed, grown, Extends}
 use Rattle.core.specs.Context.{Context, Made, symbol, term, no-term, children, result-of, sort-of, intern, mk-app}
 use Rattle.core.proofs.Lists.{In, T-and, T-both, T-true, true-T, same-list-eq}
 use Rattle.solver.proofs.Basics.{none-some, some-none, some-is}
@@ -84,12 +84,6 @@ module _ {A : Type 0} (p : A → Bool) where
 
 -- ---- a table that grows at its end
 
-abbrev pub grown : Context → List Term → Context
-grown cx new = record { sorts = cx .sorts; symbols = cx .symbols; terms = cx .terms ++ new }
-
-abbrev pub Extends : Context → Context → Type 0
-Extends cx cx′ = (new : List Term) × (cx′ ≡ grown cx new)
-
 pub extends-self : (cx : Context) → Extends cx cx
 extends-self cx = ([], ap (λ (ts : List Term). record { sorts = cx .sorts; symbols = cx .symbols; terms = ts }) (sym (append-nil (cx .terms))))
 
@@ -157,7 +151,7 @@ pub record Makes (cx : Context) (o : Op) (as′ : List ℕ) (m : Made) : Type 0 
   pub within : m .id < length (m .context .terms)
   pub made : term (m .context) (m .id) ≡ app o as′
 
-term-in : (ts : List Term) (t : ℕ) (d : Term) → t < length ts → In (getD ts t d) ts
+pub term-in : (ts : List Term) (t : ℕ) (d : Term) → t < length ts → In (getD ts t d) ts
 term-in [] t d l = absurd (omega arith)
 term-in (x ∷ xs) zero d l = inl refl
 term-in (x ∷ xs) (suc t) d l = inr (term-in xs t d (omega arith))

@@ -5,3 +5,5 @@ pub mod Rules
 pub mod Ring
 pub mod Check
 pub mod Examples
+-- How lent tables hold it, and what the functions on them promise one another.
+pub mod Memory

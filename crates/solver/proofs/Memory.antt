@@ -1,0 +1,49 @@
+-- Lemmas about the lent tables. TableStores, WorkStores, SplitStores, RingStores: the laws of stores at each table; Flags: sets of terms
+-- as flags; Frames: what stores in some regions leave; Roles: the kind of a term's mark, and the applications of the definition.
+pub mod TableStores
+pub mod WorkStores
+pub mod SplitStores
+pub mod RingStores
+pub mod Flags
+pub mod Frames
+pub mod Roles
+-- Registering: an empty table, the registry; Collecting: collection; Entries: the entries of the level record; Recording: one more;
+-- Levels: push and pop.
+pub mod Registering
+pub mod Collecting
+pub mod Entries
+pub mod Recording
+pub mod Levels
+-- Working: the work table of a check; Beginning: a check begins; AppNumbers: the marked applications by their numbers.
+pub mod Working
+pub mod Beginning
+pub mod AppNumbers
+-- Growing: what a table that grows at its end keeps; Unfitting: what does not fit does not fit later; Minting: terms made and marked,
+-- lemmas handed out; Splits: the answer table of a split; Trying: a rule that is tried for each of a list.
+pub mod Growing
+pub mod Unfitting
+pub mod Minting
+pub mod Splits
+pub mod Trying
+-- The rules. ConstructorClash, Clashing: the two clashes; Asserting: assert; Selected, Injecting: injectivity; Chains, Collapsing,
+-- TesterLemmas, Once: collapse and the tester lemma; Instantiating: guarded instantiation; Splitting: exhaustiveness and unknown.
+pub mod ConstructorClash
+pub mod Clashing
+pub mod Asserting
+pub mod Selected
+pub mod Injecting
+pub mod Chains
+pub mod Collapsing
+pub mod TesterLemmas
+pub mod Once
+pub mod Instantiating
+pub mod Splitting
+-- The ring. Resuming: the definition's walk step by step; Rings: the walk's table; RingSteps, RingWalks: its steps and loops; RingLeaves:
+-- the conflict.
+pub mod Resuming
+pub mod Rings
+pub mod RingSteps
+pub mod RingWalks
+pub mod RingLeaves
+-- Checking: a whole check.
+pub mod Checking

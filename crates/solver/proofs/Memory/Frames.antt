@@ -1,0 +1,98 @@
+-- What stores in some regions leave of the registry, of a set of flags and of the level record.
+use Rattle.core.proofs.Kit.{ℕ, _≤_, _<_, _≡_, sym, ap, _∙_, subst, _⊎_, List, T, eqb, arith, length, getD, ext-getD, getD-take, length-take-le, zero-add}
+use Rattle.core.specs.Limits.{max-terms, table-words}
+use Rattle.core.specs.Lists.{In, Apart, any}
+use Rattle.core.specs.Memory.Words.{at, counted, clear-of, Kept}
+use Rattle.core.specs.Memory.Table.{context}
+use Rattle.core.proofs.Memory.Counted.{counted-same}
+use Rattle.theory.specs.Atom.{Registered}
+use Rattle.theory.specs.Memory.Registry.{registry-size, atoms, RegistrySound}
+use Rattle.solver.specs.Memory.Table.{REGISTRY, COUNTS, RECORDS, MARK, COLLECTED, LASTING, RECORDED, REC-ATOM, REC-LIT, solver-room, records#, registry, is-set, flagged-from, term-kind, asserted-at, level-record, SolverSound, CollectedSound, StateSound}
+use Rattle.solver.proofs.Memory.Flags.{flagged-same}
+
+module _ {ws s u : List ℕ} (k : Kept solver-room ws s u) where
+  pub registry-kept : T (clear-of solver-room REGISTRY ws) → table-words ≤ length s → registry u ≡ registry s
+  unfolding at
+  registry-kept a l = ext-getD 0 (registry u) (registry s) (e ∙ sym f) each
+    where
+      f : length (registry s) ≡ registry-size
+      f = length-take-le registry-size s (omega arith)
+
+      e : length (registry u) ≡ registry-size
+      e = let m = k .long in length-take-le registry-size u (omega arith)
+
+      each : (i : ℕ) → i < length (registry u) → getD (registry u) i 0 ≡ getD (registry s) i 0
+      each i h =
+          let q = e in
+          let m : i < registry-size = omega arith in
+          let z = zero-add i in
+          getD-take registry-size u i 0 m
+          ∙ ap (λ (j : ℕ). getD u j 0) (sym z)
+          ∙ k .rest REGISTRY i a m
+          ∙ ap (λ (j : ℕ). getD s j 0) z
+          ∙ sym (getD-take registry-size s i 0 m)
+
+  -- a region of one word a term
+  pub flagged-kept : (b i : ℕ) → T (clear-of solver-room b ws) → solver-room b ≡ max-terms → flagged-from u b i ≡ flagged-from s b i
+  flagged-kept b i a r = flagged-same s u b b i (λ x l h. ap is-set (k .rest b x a (omega arith)))
+
+  pub level-record-kept : (lv : ℕ → ℕ) → records# s ≤ max-terms → records# u ≡ records# s → T (clear-of solver-room REC-ATOM ws) →
+      T (clear-of solver-room REC-LIT ws) → level-record u lv ≡ level-record s lv
+  unfolding level-record asserted-at
+  level-record-kept lv f n a b =
+      ap (counted (asserted-at u lv)) n
+      ∙ counted-same (asserted-at u lv) (asserted-at s lv) (records# s)
+      (λ i h j. record { atom = k .rest REC-ATOM i a (omega arith) j; lit = k .rest REC-LIT i b (omega arith) j; level = lv i })
+
+  -- a table stays sound by the registry, the level record and its flags
+  pub solver-kept : T (clear-of solver-room REGISTRY ws) → T (clear-of solver-room COUNTS ws) → T (clear-of solver-room RECORDED ws) →
+      T (clear-of solver-room REC-ATOM ws) → SolverSound s → SolverSound u
+  solver-kept a b c d z =
+      let l = k .long in
+      let m = z .long in
+      let fit = z .records-fit in
+      let n : records# u ≡ records# s = k .rest COUNTS RECORDS b (omega arith) in
+      let same : counted (at u REC-ATOM) (records# u) ≡ counted (at s REC-ATOM) (records# s) =
+      ap (counted (at u REC-ATOM)) n
+      ∙ counted-same (at u REC-ATOM) (at s REC-ATOM) (records# s) (λ i h. k .rest REC-ATOM i d (omega arith)) in
+      record {
+        long = omega arith;
+        atoms = subst RegistrySound (sym (registry-kept a m)) (z .atoms);
+        records-fit = omega arith;
+        once = subst Apart (sym same) (z .once);
+        recorded = λ x h.
+            ap is-set (k .rest RECORDED x c h) ∙ z .recorded x h ∙ ap (any (eqb x)) (sym same);
+      }
+
+  -- and so do the three tables, by the marks, what is collected and the lasting record as well
+  pub state-kept : {c e : List ℕ} → T (clear-of solver-room REGISTRY ws) → T (clear-of solver-room COUNTS ws) →
+      T (clear-of solver-room MARK ws) → T (clear-of solver-room COLLECTED ws) → T (clear-of solver-room LASTING ws) →
+      T (clear-of solver-room RECORDED ws) → T (clear-of solver-room REC-ATOM ws) → StateSound c e s → StateSound c e u
+  state-kept {c} {e} r n m d l f a z =
+      let fit = z .solver .records-fit in
+      let count : records# u ≡ records# s = k .rest COUNTS RECORDS n (omega arith) in
+      record {
+        core = z .core;
+        formed = z .formed;
+        signed = z .signed;
+        engine = z .engine;
+        solver = solver-kept r n f a (z .solver);
+        registered = subst (λ (t : List ℕ). (x : Registered) → In x (atoms t) → x .atom < length (context c .terms))
+            (sym (registry-kept r (z .solver .long))) (z .registered);
+        marks = λ x h. subst (λ (v : ℕ). (v ≡ 0) ⊎ (v ≡ term-kind (context c) x)) (sym (k .rest MARK x m h)) (z .marks x h);
+        collected = λ x h q. still x h (z .collected x h (sym (ap is-set (k .rest COLLECTED x d h)) ∙ q));
+        lasting = λ x h q. z .lasting x h (sym (ap is-set (k .rest LASTING x l h)) ∙ q);
+        records = λ i h. ap (term-kind (context c)) (k .rest REC-ATOM i a (omega arith)) ∙ z .records i (omega arith);
+      }
+    where
+      still : (x : ℕ) → x < max-terms → CollectedSound (context c) s x → CollectedSound (context c) u x
+      still x h q =
+          let few = z .core .terms-fit in
+          let count = z .core .term-count in
+          record {
+            within = q .within;
+            mark = k .rest MARK x m h ∙ q .mark;
+            below = λ y i.
+                let y-lower = z .formed .lower x (q .within) y i in
+                ap is-set (k .rest COLLECTED y d (omega arith)) ∙ q .below y i;
+          }

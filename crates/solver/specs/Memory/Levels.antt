@@ -1,0 +1,97 @@
+-- The level record by levels: the caller's mark counts say how many entries it had when each open level began. What the functions on
+-- them promise.
+use Prim.Native.Nat.{ℕ, zero, suc, _≤_, _<_}
+use mathlib.Core.Path.{_≡_}
+use mathlib.Core.Bool.{cond}
+use mathlib.Core.List.{List, [], _∷_}
+use lib.Dec.{eqb, leb}
+use lib.ListN.{length, getD}
+use Rattle.core.specs.Limits.{max-levels, max-terms, table-words}
+use Rattle.core.specs.Memory.Words.{at, Kept}
+use Rattle.core.specs.Memory.Table.{context}
+use Rattle.theory.specs.Memory.Table.{level}
+use Rattle.solver.specs.State.{with-level-record}
+use Rattle.solver.specs.Records.{record-tester, pop-testers}
+use Rattle.solver.specs.declared.levels.TesterMarks.{TesterMarks}
+use Rattle.solver.specs.Memory.Table.{COUNTS, RECORDED, REC-ATOM, REC-LIT, solver-room, records#, level-record, state, term-kind, SolverSound, StateSound}
+
+-- ---- levels
+
+-- how many of the first n counts are at most i
+unfoldable pub begun : List ℕ → ℕ → ℕ → ℕ
+begun cs zero i = 0
+begun cs (suc n) i = cond (leb (getD cs n 0) i) (suc (begun cs n i)) (begun cs n i)
+
+-- the level of entry i: how many of the open levels had begun when it came
+unfoldable pub entry-level : TesterMarks → ℕ → ℕ
+entry-level m i = begun (m .counts) (m .levels) i
+
+-- ---- when the counts are sound
+
+-- the counts rise, and none is above the number of entries
+pub record MarksSound (s : List ℕ) (m : TesterMarks) : Type 0 where
+  pub levels-fit : m .levels ≤ max-levels
+  pub rise : (i j : ℕ) → i ≤ j → j < m .levels → getD (m .counts) i 0 ≤ getD (m .counts) j 0
+  pub within : (i : ℕ) → i < m .levels → getD (m .counts) i 0 ≤ records# s
+
+-- the solver's table is sound, and its level record has terms; both follow from a sound state
+pub record RecordsSound (s : List ℕ) : Type 0 where
+  pub solver : SolverSound s
+  pub terms : (i : ℕ) → i < records# s → at s REC-ATOM i < max-terms
+
+-- ---- push
+
+-- one level more is open, and each entry keeps its level
+pub record Opened (s : List ℕ) (m m′ : TesterMarks) : Type 0 where
+  pub marks : MarksSound s m′
+  pub one-more : m′ .levels ≡ suc (m .levels)
+  pub entries : level-record s (entry-level m′) ≡ level-record s (entry-level m)
+  pub state : (c e : List ℕ) → state c e s (entry-level m′) ≡ state c e s (entry-level m)
+
+-- ---- pop
+
+-- the entries from n on are dropped
+pub record Dropped (s : List ℕ) (n : ℕ) (s′ : List ℕ) : Type 0 where
+  pub sound : RecordsSound s′
+  pub count : records# s′ ≡ n
+  pub kept : Kept solver-room (COUNTS ∷ RECORDED ∷ []) s s′
+
+-- The entries of level `to` or lower are left; what else the table means is as it was. A level that is not open takes nothing back.
+pub record Popped (s : List ℕ) (m : TesterMarks) (to : ℕ) (s′ : List ℕ) (m′ : TesterMarks) : Type 0 where
+  pub sound : RecordsSound s′
+  pub marks : MarksSound s′ m′
+  pub below : to < m .levels → m′ .levels ≡ to
+  pub above : m .levels ≤ to → (s′ ≡ s) × (m′ ≡ m)
+  pub entries : level-record s′ (entry-level m′) ≡ pop-testers to (level-record s (entry-level m))
+  pub state-sound : (c e : List ℕ) → StateSound c e s → StateSound c e s′
+  pub state : (c e : List ℕ) →
+      state c e s′ (entry-level m′) ≡ with-level-record (state c e s (entry-level m)) (pop-testers to (level-record s (entry-level m)))
+  pub kept : Kept solver-room (COUNTS ∷ RECORDED ∷ []) s s′
+
+-- ---- record_tester
+
+-- the atom x may be recorded
+pub record Recordable (s : List ℕ) (x : ℕ) : Type 0 where
+  pub sound : RecordsSound s
+  pub atom : x < max-terms
+
+-- and is not
+pub record NewEntry (s : List ℕ) (x : ℕ) : Type 0 where
+  pub may : Recordable s x
+  pub new : at s RECORDED x ≡ 0
+
+-- there is one entry more: the atom x with the literal l
+pub record Entered (s : List ℕ) (x l : ℕ) (s′ : List ℕ) : Type 0 where
+  pub long : table-words ≤ length s′
+  pub count : records# s′ ≡ suc (records# s)
+  pub flags : (y : ℕ) → y < max-terms → at s′ RECORDED y ≡ cond (eqb y x) 1 (at s RECORDED y)
+  pub atoms : (i : ℕ) → i < max-terms → at s′ REC-ATOM i ≡ cond (eqb i (records# s)) x (at s REC-ATOM i)
+  pub lits : (i : ℕ) → i < max-terms → at s′ REC-LIT i ≡ cond (eqb i (records# s)) l (at s REC-LIT i)
+  pub kept : Kept solver-room (COUNTS ∷ RECORDED ∷ REC-ATOM ∷ REC-LIT ∷ []) s s′
+
+-- The tester x was recorded with the literal l. `lv` gives the entries' levels; a new entry has the present level.
+pub record Recorded (s : List ℕ) (x l : ℕ) (s′ : List ℕ) : Type 0 where
+  pub sound : RecordsSound s′
+  pub state-sound : (c e : List ℕ) → StateSound c e s → term-kind (context c) x ≡ 4 → StateSound c e s′
+  pub state : (c e : List ℕ) (lv : ℕ → ℕ) → lv (records# s) ≡ level e → state c e s′ lv ≡ record-tester (state c e s lv) x l
+  pub marks : (m : TesterMarks) → MarksSound s m → MarksSound s′ m

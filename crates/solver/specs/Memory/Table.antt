@@ -1,0 +1,187 @@
+-- The lent table of this layer: where each part stands, what a table means, and when the three tables fit together.
+use Prim.Native.Nat.{ℕ, zero, suc, _-_, _≤_, _<_}
+use mathlib.Core.Path.{_≡_}
+use mathlib.Core.Logic.{_⊎_}
+use mathlib.Core.Bool.{Bool, true, false, cond, _||_}
+use mathlib.Core.List.{List, [], _∷_}
+use lib.Dec.{eqb}
+use lib.ListN.{length, take}
+use Rattle.core.specs.Limits.{max-terms, table-words}
+use Rattle.core.specs.Lists.{In, Apart, any, keep, range}
+use Rattle.core.specs.Term as Term
+use Rattle.core.specs.Term.{Role, Constructor, Tester, Selector, Function, Op, Eq}
+use Rattle.core.specs.Context.{Context, symbol, term, children, is-datatype-sort}
+use Rattle.core.specs.Formed.{Formed, Signed}
+use Rattle.core.specs.Memory.Words.{at, counted, room-in}
+use Rattle.core.specs.Memory.Table.{context, ContextSound}
+use Rattle.theory.specs.Atom.{Registered}
+use Rattle.theory.specs.Memory.Table.{merges, level, EngineSound}
+use Rattle.theory.specs.Memory.Registry.{registry-size, atoms, RegistrySound}
+use Rattle.solver.specs.State.{State, DtSolver, AssertedTester}
+
+-- ---- the layout
+
+-- the registry of variables, a table of its own
+abbrev pub REGISTRY : ℕ
+REGISTRY = 0
+
+-- how many entries the level record has
+abbrev pub COUNTS : ℕ
+COUNTS = 3136
+
+abbrev pub RECORDS : ℕ
+RECORDS = 0
+
+-- for each term: what it was marked as, or 0; whether it was collected, whether it stands in the lasting record, was handed out,
+-- was split on, stands in the level record
+abbrev pub MARK : ℕ
+MARK = 3200
+
+abbrev pub COLLECTED : ℕ
+COLLECTED = 4224
+
+abbrev pub LASTING : ℕ
+LASTING = 5248
+
+abbrev pub EMITTED : ℕ
+EMITTED = 6272
+
+abbrev pub SPLIT : ℕ
+SPLIT = 7296
+
+abbrev pub RECORDED : ℕ
+RECORDED = 8320
+
+-- for each entry of the level record: its atom and its literal
+abbrev pub REC-ATOM : ℕ
+REC-ATOM = 9344
+
+abbrev pub REC-LIT : ℕ
+REC-LIT = 10368
+
+-- The words from 11,392 on are free; at least 4,000 are to stay so.
+abbrev pub layout : List (ℕ × ℕ)
+layout =
+    (REGISTRY, registry-size)
+    ∷ (COUNTS, 64)
+    ∷ (MARK, max-terms)
+    ∷ (COLLECTED, max-terms)
+    ∷ (LASTING, max-terms)
+    ∷ (EMITTED, max-terms)
+    ∷ (SPLIT, max-terms)
+    ∷ (RECORDED, max-terms)
+    ∷ (REC-ATOM, max-terms)
+    ∷ (REC-LIT, max-terms)
+    ∷ []
+
+abbrev pub solver-room : ℕ → ℕ
+solver-room = room-in layout
+
+abbrev pub records# : List ℕ → ℕ
+records# s = at s COUNTS RECORDS
+
+-- the part of the table that is the registry's
+abbrev pub registry : List ℕ → List ℕ
+registry s = take registry-size s
+
+-- ---- sets of terms as flags
+
+-- a flag is any word but 0
+unfoldable pub is-set : ℕ → Bool
+is-set zero = false
+is-set (suc n) = true
+
+-- the terms from i on whose flag in a region is set
+unfoldable pub flagged-from : List ℕ → ℕ → ℕ → List ℕ
+flagged-from t b i = keep (λ x. is-set (at t b x)) (range i (max-terms - i))
+
+abbrev pub flagged : List ℕ → ℕ → List ℕ
+flagged t b = flagged-from t b 0
+
+-- ---- marks
+
+-- What a mark says of its term: 1 it is an application of a constructor, 2 of a selector, 3 of a selector with a datatype field, 4 of a
+-- tester, 5 of a function with a datatype result; 0 none of these.
+unfoldable pub role-kind : Role → Bool → ℕ
+role-kind Constructor datatype = 1
+role-kind (Selector c i) datatype = cond datatype 3 2
+role-kind (Tester c) datatype = 4
+role-kind Function datatype = cond datatype 5 0
+
+unfoldable pub op-kind : Context → Op → ℕ
+op-kind cx Eq = 0
+op-kind cx (Term.Uninterpreted f) = role-kind (symbol cx f .role) (is-datatype-sort cx (symbol cx f .result))
+
+unfoldable pub term-kind : Context → ℕ → ℕ
+term-kind cx t = op-kind cx (term cx t .op)
+
+-- does a mark say that its term is a datatype term?
+unfoldable pub watched-kind : ℕ → Bool
+watched-kind k = eqb k 1 || eqb k 3 || eqb k 5
+
+-- a region has a mark, the right one, or none for each term
+abbrev pub MarksAre : Context → List ℕ → ℕ → Type 0
+MarksAre cx t b = (x : ℕ) → x < max-terms → (at t b x ≡ 0) ⊎ (at t b x ≡ term-kind cx x)
+
+-- ---- what a table means
+
+-- The level that an entry of the level record came at is known by the caller's mark counts: `lv` gives it for entry i.
+unfoldable pub asserted-at : List ℕ → (ℕ → ℕ) → ℕ → AssertedTester
+asserted-at s lv i = record { atom = at s REC-ATOM i; lit = at s REC-LIT i; level = lv i }
+
+unfoldable pub level-record : List ℕ → (ℕ → ℕ) → List AssertedTester
+level-record s lv = counted (asserted-at s lv) (records# s)
+
+-- what the solver keeps, with these marks
+unfoldable pub dt-with : List ℕ → (ℕ → ℕ) → List ℕ → DtSolver
+dt-with s lv marks = record {
+  marks = marks;
+  level-record = level-record s lv;
+  lasting = flagged s LASTING;
+  emitted = flagged s EMITTED;
+  split-done = flagged s SPLIT;
+}
+
+-- the state that three tables mean: core's, the engine's and the solver's, with these marks
+unfoldable pub state-with : List ℕ → List ℕ → List ℕ → (ℕ → ℕ) → List ℕ → State
+state-with c e s lv marks = record {
+  terms = context c;
+  eq = merges e;
+  atoms = atoms (registry s);
+  level = level e;
+  dt = dt-with s lv marks;
+}
+
+-- and with those that the solver's table has
+abbrev pub state : List ℕ → List ℕ → List ℕ → (ℕ → ℕ) → State
+state c e s lv = state-with c e s lv (flagged s MARK)
+
+-- ---- when a table is sound
+
+pub record SolverSound (s : List ℕ) : Type 0 where
+  pub long : table-words ≤ length s
+  pub atoms : RegistrySound (registry s)
+  -- an atom stands in the level record once, and its flag says so
+  pub records-fit : records# s ≤ max-terms
+  pub once : Apart (counted (at s REC-ATOM) (records# s))
+  pub recorded : (x : ℕ) → x < max-terms → is-set (at s RECORDED x) ≡ any (eqb x) (counted (at s REC-ATOM) (records# s))
+
+-- a collected term: its mark is there if it is to have one, and its children are collected
+pub record CollectedSound (cx : Context) (s : List ℕ) (x : ℕ) : Type 0 where
+  pub within : x < length (cx .terms)
+  pub mark : at s MARK x ≡ term-kind cx x
+  pub below : (y : ℕ) → In y (children cx x) → is-set (at s COLLECTED y) ≡ true
+
+-- The three tables fit together.
+pub record StateSound (c e s : List ℕ) : Type 0 where
+  pub core : ContextSound c
+  pub formed : Formed (context c)
+  pub signed : Signed (context c)
+  pub engine : EngineSound e
+  pub solver : SolverSound s
+  pub registered : (r : Registered) → In r (atoms (registry s)) → r .atom < length (context c .terms)
+  pub marks : MarksAre (context c) s MARK
+  pub collected : (x : ℕ) → x < max-terms → is-set (at s COLLECTED x) ≡ true → CollectedSound (context c) s x
+  -- the atoms of both records are tester applications
+  pub lasting : (x : ℕ) → x < max-terms → is-set (at s LASTING x) ≡ true → term-kind (context c) x ≡ 4
+  pub records : (i : ℕ) → i < records# s → term-kind (context c) (at s REC-ATOM i) ≡ 4

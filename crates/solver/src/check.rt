@@ -1,0 +1,206 @@
+// A check: the rules in order, the first that applies answers.
+use crate::answer::TCheck;
+use crate::clashes::tester_clash;
+use crate::collapse::collapse_lemma;
+use crate::collapse::tester_lemma;
+use crate::constructor_clash::constructor_clash;
+use crate::exhaustiveness::exhaustiveness_split;
+use crate::injectivity::instantiate_injectivity_selectors;
+use crate::instantiation::instantiate_constructor;
+use crate::layout::MARK;
+use crate::ring::ring;
+use crate::work::W_MARK;
+use crate::work::WORK_SIZE;
+use crate::work::begin;
+use core::context::term_count;
+use core::context::truncate;
+use core::limits::MAX_TERMS;
+use core::table::get_at;
+use core::table::put_at;
+ghost use mathlib.Core.Path.{_≡_};
+ghost use Prim.Native.Nat.{_≤_};
+ghost use lib.ListN.{length};
+ghost use Rattle.theory.specs.Memory.Answer.{answer-size};
+ghost use Rattle.solver.specs.Check.{before-ring};
+ghost use Rattle.solver.specs.Memory.Table.{StateSound};
+ghost use Rattle.solver.specs.Memory.Work.{CheckSound};
+ghost use Rattle.solver.specs.Memory.Answer.{Tried};
+ghost use Rattle.solver.specs.Memory.Checks.{passes, has-room, from-instantiation, from-tester-lemma, from-collapse, from-injectivity, from-tester-clash, Underway, Beginnable, ChecksFully, MarksFit, KeepsMarks, Checks};
+
+// Does a rule pass on to the next?
+fn passes(r: TCheck) -> bool
+    ensures { λ b. ⌜ b ≡ passes r ⌝ }
+{
+    match r {
+        TCheck::Sat => true,
+        TCheck::Conflict => false,
+        TCheck::Split => false,
+        TCheck::Unknown => false,
+        TCheck::NoRoom => false,
+    }
+}
+
+// Is there room for what a check makes?
+fn has_room(r: TCheck) -> bool
+    ensures { λ b. ⌜ b ≡ has-room r ⌝ }
+{
+    match r {
+        TCheck::Sat => true,
+        TCheck::Conflict => true,
+        TCheck::Split => true,
+        TCheck::Unknown => true,
+        TCheck::NoRoom => false,
+    }
+}
+
+// ---- the rules before the ring, from each of them on
+
+// Guarded instantiation, then exhaustiveness and unknown.
+fn from_instantiation(
+    t: &mut [u32],
+    e: &[u32],
+    s: &mut [u32],
+    w: &mut [u32],
+    out: &mut [u32],
+) -> TCheck
+    requires { ⌜ CheckSound (now t) (now e) (now s) (now w) × (answer-size ≤ length (now out)) ⌝ }
+    ensures { λ r. ⌜ Tried from-instantiation (now (t .entry)) (now (e .entry)) (now (s .entry)) (now (w .entry)) r (now (t .exit))
+        (now (s .exit)) (now (w .exit)) (now (out .exit)) ⌝ }
+{
+    let r = instantiate_constructor(t, e, s, w, out);
+    if !passes(r) {
+        return r;
+    }
+    exhaustiveness_split(t, e, s, w, out)
+}
+
+// Tester lemma, and what follows it.
+fn from_tester_lemma(
+    t: &mut [u32],
+    e: &[u32],
+    s: &mut [u32],
+    w: &mut [u32],
+    out: &mut [u32],
+) -> TCheck
+    requires { ⌜ Underway (now t) (now e) (now s) (now w) (now out) ⌝ }
+    ensures { λ r. ⌜ Tried from-tester-lemma (now (t .entry)) (now (e .entry)) (now (s .entry)) (now (w .entry)) r (now (t .exit))
+        (now (s .exit)) (now (w .exit)) (now (out .exit)) ⌝ }
+{
+    let r = tester_lemma(t, e, s, w, out);
+    if !passes(r) {
+        return r;
+    }
+    from_instantiation(t, e, s, w, out)
+}
+
+// Collapse, and what follows it.
+fn from_collapse(t: &mut [u32], e: &[u32], s: &mut [u32], w: &mut [u32], out: &mut [u32]) -> TCheck
+    requires { ⌜ Underway (now t) (now e) (now s) (now w) (now out) ⌝ }
+    ensures { λ r. ⌜ Tried from-collapse (now (t .entry)) (now (e .entry)) (now (s .entry)) (now (w .entry)) r (now (t .exit)) (now
+        (s .exit)) (now (w .exit)) (now (out .exit)) ⌝ }
+{
+    let r = collapse_lemma(t, e, s, w, out);
+    if !passes(r) {
+        return r;
+    }
+    from_tester_lemma(t, e, s, w, out)
+}
+
+// Injectivity selectors, and what follows them.
+fn from_injectivity(
+    t: &mut [u32],
+    e: &[u32],
+    s: &mut [u32],
+    w: &mut [u32],
+    out: &mut [u32],
+) -> TCheck
+    requires { ⌜ Underway (now t) (now e) (now s) (now w) (now out) ⌝ }
+    ensures { λ r. ⌜ Tried from-injectivity (now (t .entry)) (now (e .entry)) (now (s .entry)) (now (w .entry)) r (now (t .exit))
+        (now (s .exit)) (now (w .exit)) (now (out .exit)) ⌝ }
+{
+    let r = instantiate_injectivity_selectors(t, e, w);
+    if !passes(r) {
+        return r;
+    }
+    from_collapse(t, e, s, w, out)
+}
+
+// Tester clash, and what follows it.
+fn from_tester_clash(
+    t: &mut [u32],
+    e: &[u32],
+    s: &mut [u32],
+    w: &mut [u32],
+    out: &mut [u32],
+) -> TCheck
+    requires { ⌜ Underway (now t) (now e) (now s) (now w) (now out) ⌝ }
+    ensures { λ r. ⌜ Tried from-tester-clash (now (t .entry)) (now (e .entry)) (now (s .entry)) (now (w .entry)) r (now (t .exit))
+        (now (s .exit)) (now (w .exit)) (now (out .exit)) ⌝ }
+{
+    let r = tester_clash(t, e, s, w, out);
+    if !passes(r) {
+        return r;
+    }
+    from_injectivity(t, e, s, w, out)
+}
+
+// Constructor clash, and what follows it.
+fn before_ring(t: &mut [u32], e: &[u32], s: &mut [u32], w: &mut [u32], out: &mut [u32]) -> TCheck
+    requires { ⌜ Underway (now t) (now e) (now s) (now w) (now out) ⌝ }
+    ensures { λ r. ⌜ Tried before-ring (now (t .entry)) (now (e .entry)) (now (s .entry)) (now (w .entry)) r (now (t .exit)) (now
+        (s .exit)) (now (w .exit)) (now (out .exit)) ⌝ }
+{
+    let r = constructor_clash(t, e, s, w, out);
+    if !passes(r) {
+        return r;
+    }
+    from_tester_clash(t, e, s, w, out)
+}
+
+// ---- a check
+
+// A full check on a blank work table.
+fn full_check(t: &mut [u32], e: &[u32], s: &mut [u32], w: &mut [u32], out: &mut [u32]) -> TCheck
+    requires { ⌜ Beginnable (now t) (now e) (now s) (now w) (now out) ⌝ }
+    ensures { λ r. ⌜ ChecksFully (now (t .entry)) (now (e .entry)) (now (s .entry)) r (now (t .exit)) (now (s .exit)) (now
+        (w .exit)) (now (out .exit)) ⌝ }
+{
+    begin(t, e, s, w);
+    let r = before_ring(t, e, s, w, out);
+    if !passes(r) {
+        return r;
+    }
+    ring(t, e, w, out)
+}
+
+// The marks of the work table become the solver's.
+fn keep_marks(s: &mut [u32], w: &[u32])
+    requires { ⌜ MarksFit (now s) (now w) ⌝ }
+    ensures { λ _. ⌜ KeepsMarks (now (s .entry)) (now (w .entry)) (now (s .exit)) ⌝ }
+{
+    let mut x = 0;
+    while x < MAX_TERMS {
+        put_at(s, MARK, x, get_at(w, W_MARK, x));
+        x += 1;
+    }
+}
+
+// A check; one that is not full does nothing. If the terms that it makes do not fit, they are given back, and its marks are dropped
+// with the work table.
+pub fn check(t: &mut [u32], e: &[u32], s: &mut [u32], full: bool, out: &mut [u32]) -> TCheck
+    requires { ⌜ StateSound (now t) (now e) (now s) × (answer-size ≤ length (now out)) ⌝ }
+    ensures { λ r. ⌜ Checks full (now (t .entry)) (now (e .entry)) (now (s .entry)) r (now (t .exit)) (now (s .exit)) (now (out .exit)) ⌝ }
+{
+    if !full {
+        return TCheck::Sat;
+    }
+    let n = term_count(t);
+    let mut w = [0u32; WORK_SIZE];
+    let r = full_check(t, e, s, &mut w, out);
+    if has_room(r) {
+        keep_marks(s, &w);
+    } else {
+        truncate(t, n);
+    }
+    r
+}

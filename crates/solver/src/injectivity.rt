@@ -1,0 +1,138 @@
+// Injectivity: selectors made on the applications of one class.
+use crate::answer::TCheck;
+use crate::constructor_clash::symbol_of;
+use crate::layout::CTOR_APP;
+use crate::make::mint;
+use crate::work::LOWEST;
+use crate::work::NEXT;
+use crate::work::W_MARK;
+use crate::work::root_of;
+use core::context::Made;
+use core::context::arity;
+use core::context::term_count;
+use core::ids::SymbolId;
+use core::table::get_at;
+ghost use mathlib.Core.Path.{_≡_};
+ghost use mathlib.Core.Bool.{true};
+ghost use mathlib.Core.List.{_∷_, []};
+ghost use Rattle.core.specs.Memory.Table.{context};
+ghost use Rattle.solver.specs.State.{mint};
+ghost use Rattle.solver.specs.Rules.{mint-on-both, mint-selectors};
+ghost use Rattle.solver.specs.Memory.ConstructorClash.{app-at};
+ghost use Rattle.solver.specs.Memory.Injecting.{Steps, Selectable, SelectableBoth, AppliesBoth, OneClass, Injectable, InjectableAt, AppAsked, Covered, Injects, select-both, select-from};
+
+// A selector made on a term and marked.
+fn mint_selector(t: &mut [u32], e: &[u32], w: &mut [u32], f: usize, x: usize) -> bool
+    requires { ⌜ Selectable (now t) (now e) (now w) f x ⌝ }
+    ensures { λ r. ⌜ Steps (λ s. mint s f (x ∷ []) .state) (now (t .entry)) (now (e .entry)) (now (w .entry)) r (now (t .exit)) (now
+        (w .exit)) ⌝ }
+{
+    let args = [x as u32];
+    match mint(t, e, w, SymbolId(f as u32), &args) {
+        Made::At(_) => true,
+        Made::NoRoom => false,
+    }
+}
+
+// A selector on the lower application, then on the higher one.
+fn mint_on_both(t: &mut [u32], e: &[u32], w: &mut [u32], f: usize, p: usize, q: usize) -> bool
+    requires { ⌜ SelectableBoth (now t) (now e) (now w) f p q ⌝ }
+    ensures { λ r. ⌜ Steps (λ s. mint-on-both p q s f) (now (t .entry)) (now (e .entry)) (now (w .entry)) r (now (t .exit)) (now
+        (w .exit)) ⌝ }
+{
+    if mint_selector(t, e, w, f, p) {
+        return mint_selector(t, e, w, f, q);
+    }
+    false
+}
+
+// The selectors of a constructor on two of its applications.
+fn select_both(t: &mut [u32], e: &[u32], w: &mut [u32], c: usize, p: usize, q: usize) -> bool
+    requires { ⌜ AppliesBoth (now t) (now e) (now w) c p q ⌝ }
+    ensures { λ r. ⌜ Steps (select-both (context (now (t .entry))) c p q) (now (t .entry)) (now (e .entry)) (now (w .entry)) r (now
+        (t .exit)) (now (w .exit)) ⌝ }
+{
+    let n = arity(t, SymbolId(c as u32));
+    let mut i = 0;
+    while i < n {
+        if !mint_on_both(t, e, w, c + 2 + i, p, q) {
+            return false;
+        }
+        i += 1;
+    }
+    true
+}
+
+// Two applications of one class: the selectors are made if their constructors are the same.
+fn mint_selectors(t: &mut [u32], e: &[u32], w: &mut [u32], p: usize, q: usize) -> bool
+    requires { ⌜ OneClass (now t) (now e) (now w) p q ⌝ }
+    ensures { λ r. ⌜ Steps (λ s. mint-selectors s (app-at (context (now (t .entry))) p, app-at (context (now (t .entry))) q)) (now
+        (t .entry)) (now (e .entry)) (now (w .entry)) r (now (t .exit)) (now (w .exit)) ⌝ }
+{
+    let c = symbol_of(t, p);
+    if symbol_of(t, q) != c {
+        return true;
+    }
+    select_both(t, e, w, c, p, q)
+}
+
+// Has the class of a marked application a lower one of its constructor? The lowest one of the class is looked at.
+fn covered(t: &[u32], e: &[u32], w: &[u32], p: usize) -> bool
+    requires { ⌜ AppAsked (now t) (now e) (now w) p ⌝ }
+    ensures { λ r. ⌜ (r ≡ true → Covered (now (t .entry)) (now (e .entry)) (now (w .entry)) p) ⌝ }
+{
+    let root = root_of(t, e, w, p);
+    let word = get_at(w, LOWEST, root);
+    if word == p + 1 {
+        return false;
+    }
+    symbol_of(t, word - 1) == symbol_of(t, p)
+}
+
+// A marked application with each one behind it in its class.
+fn select_class(t: &mut [u32], e: &[u32], w: &mut [u32], p: usize) -> bool
+    requires { ⌜ AppAsked (now t) (now e) (now w) p ⌝ }
+    ensures { λ r. ⌜ Steps (select-from (context (now (t .entry))) (now (w .entry)) p) (now (t .entry)) (now (e .entry)) (now
+        (w .entry)) r (now (t .exit)) (now (w .exit)) ⌝ }
+{
+    let mut k = get_at(w, NEXT, p);
+    while k != 0 {
+        if !mint_selectors(t, e, w, p, k - 1) {
+            return false;
+        }
+        k = get_at(w, NEXT, k - 1);
+    }
+    true
+}
+
+// The same for any term. If there is a lower application of its constructor in its class, both of each pair were paired with that one
+// before, so all selectors on them are made and marked.
+fn select_from(t: &mut [u32], e: &[u32], w: &mut [u32], p: usize) -> bool
+    requires { ⌜ InjectableAt (now t) (now e) (now w) p ⌝ }
+    ensures { λ r. ⌜ Steps (select-from (context (now (t .entry))) (now (w .entry)) p) (now (t .entry)) (now (e .entry)) (now
+        (w .entry)) r (now (t .exit)) (now (w .exit)) ⌝ }
+{
+    if get_at(w, W_MARK, p) != CTOR_APP {
+        return true;
+    }
+    if covered(t, e, w, p) {
+        return true;
+    }
+    select_class(t, e, w, p)
+}
+
+// `Sat` stands for a rule that passes.
+pub fn instantiate_injectivity_selectors(t: &mut [u32], e: &[u32], w: &mut [u32]) -> TCheck
+    requires { ⌜ Injectable (now t) (now e) (now w) ⌝ }
+    ensures { λ r. ⌜ Injects (now (t .entry)) (now (e .entry)) (now (w .entry)) r (now (t .exit)) (now (w .exit)) ⌝ }
+{
+    let n = term_count(t);
+    let mut p = 0;
+    while p < n {
+        if !select_from(t, e, w, p) {
+            return TCheck::NoRoom;
+        }
+        p += 1;
+    }
+    TCheck::Sat
+}

@@ -1,0 +1,40 @@
+// The layout of the solver's table (specs/Memory/Table.antt).
+
+// The registry of variables, a table of its own, has the first words.
+pub const REGISTRY_SIZE: usize = 3073;
+
+// How many entries the level record has.
+pub const COUNTS: usize = 3136;
+
+pub const RECORDS: usize = 0;
+
+// For each term: what it was marked as, or 0; whether it was collected, stands in the lasting record, was handed out, was split on,
+// stands in the level record.
+pub const MARK: usize = 3200;
+
+pub const COLLECTED: usize = 4224;
+
+pub const LASTING: usize = 5248;
+
+pub const EMITTED: usize = 6272;
+
+pub const SPLIT: usize = 7296;
+
+pub const RECORDED: usize = 8320;
+
+// For each entry of the level record: its atom and its literal.
+pub const REC_ATOM: usize = 9344;
+
+pub const REC_LIT: usize = 10368;
+
+// What a mark says of its term: an application of a constructor, of a selector, of a selector with a datatype field, of a tester, of a
+// function with a datatype result.
+pub const CTOR_APP: usize = 1;
+
+pub const SEL_APP: usize = 2;
+
+pub const DT_SEL_APP: usize = 3;
+
+pub const TESTER_APP: usize = 4;
+
+pub const DT_FUN_APP: usize = 5;

@@ -1,0 +1,109 @@
+// The level record by levels: push and pop on the caller's mark counts, and record_tester.
+use crate::layout::COUNTS;
+use crate::layout::LASTING;
+use crate::layout::REC_ATOM;
+use crate::layout::REC_LIT;
+use crate::layout::RECORDED;
+use crate::layout::RECORDS;
+use core::ids::Lit;
+use core::ids::TermId;
+use core::table::get_at;
+use core::table::put_at;
+ghost use Prim.Native.Nat.{_≤_, _<_};
+ghost use Rattle.core.specs.Limits.{max-levels};
+ghost use Rattle.solver.specs.Memory.Table.{records#, SolverSound};
+ghost use Rattle.solver.specs.Memory.Levels.{MarksSound, RecordsSound, Opened, Dropped, Popped, Recordable, NewEntry, Entered, Recorded};
+
+// How many levels are open, and for each how many entries the level record had when it began.
+pub struct TesterMarks {
+    pub levels: usize,
+    pub counts: [u32; 64],
+}
+
+// ---- push
+
+// One level more, which begins now.
+pub fn opened(s: &[u32], m: TesterMarks) -> TesterMarks
+    requires { ⌜ SolverSound (now s) × MarksSound (now s) m × (m .levels < max-levels) ⌝ }
+    ensures { λ r. ⌜ Opened (now (s .entry)) m r ⌝ }
+{
+    let n = get_at(s, COUNTS, RECORDS);
+    let k = m.levels;
+    let mut r = m;
+    r.counts[k] = n as u32;
+    r.levels = k + 1;
+    r
+}
+
+// Opens a level.
+pub fn push(s: &[u32], m: &mut TesterMarks)
+    requires { ⌜ SolverSound (now s) × MarksSound (now s) (now m) × (now m .levels < max-levels) ⌝ }
+    ensures { λ _. ⌜ Opened (now (s .entry)) (now (m .entry)) (now (m .exit)) ⌝ }
+{
+    *m = opened(s, *m);
+}
+
+// ---- pop
+
+// Drops the entries from n on; the newest goes first.
+fn drop_records(s: &mut [u32], n: usize)
+    requires { ⌜ RecordsSound (now s) × (n ≤ records# (now s)) ⌝ }
+    ensures { λ _. ⌜ Dropped (now (s .entry)) n (now (s .exit)) ⌝ }
+{
+    let mut i = get_at(s, COUNTS, RECORDS);
+    while n < i {
+        i -= 1;
+        let x = get_at(s, REC_ATOM, i);
+        put_at(s, RECORDED, x, 0);
+    }
+    put_at(s, COUNTS, RECORDS, n);
+}
+
+// The counts once the levels above `to` are closed and their entries dropped.
+pub fn closed(s: &mut [u32], m: TesterMarks, to: usize) -> TesterMarks
+    requires { ⌜ RecordsSound (now s) × MarksSound (now s) m ⌝ }
+    ensures { λ r. ⌜ Popped (now (s .entry)) m to (now (s .exit)) r ⌝ }
+{
+    if m.levels <= to {
+        return m;
+    }
+    let n = m.counts[to];
+    drop_records(s, n as usize);
+    let mut r = m;
+    r.levels = to;
+    r
+}
+
+// Closes the levels above `to`.
+pub fn pop(s: &mut [u32], m: &mut TesterMarks, to: usize)
+    requires { ⌜ RecordsSound (now s) × MarksSound (now s) (now m) ⌝ }
+    ensures { λ _. ⌜ Popped (now (s .entry)) (now (m .entry)) to (now (s .exit)) (now (m .exit)) ⌝ }
+{
+    *m = closed(s, *m, to);
+}
+
+// ---- record_tester
+
+// One entry more in the level record, for an atom that it does not have.
+fn append_record(s: &mut [u32], x: usize, l: usize)
+    requires { ⌜ NewEntry (now s) x × (l < 4294967296) ⌝ }
+    ensures { λ _. ⌜ Entered (now (s .entry)) x l (now (s .exit)) ⌝ }
+{
+    let n = get_at(s, COUNTS, RECORDS);
+    put_at(s, RECORDED, x, 1);
+    put_at(s, REC_ATOM, n, x);
+    put_at(s, REC_LIT, n, l);
+    put_at(s, COUNTS, RECORDS, n + 1);
+}
+
+// A positive tester goes into the lasting record, and into the level record unless it stands there.
+pub fn record_tester(s: &mut [u32], x: TermId, l: Lit)
+    requires { ⌜ Recordable (now s) (x .0) ⌝ }
+    ensures { λ _. ⌜ Recorded (now (s .entry)) (x .0) (l .0) (now (s .exit)) ⌝ }
+{
+    let i = x.0 as usize;
+    put_at(s, LASTING, i, 1);
+    if get_at(s, RECORDED, i) == 0 {
+        append_record(s, i, l.0 as usize);
+    }
+}

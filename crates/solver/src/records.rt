@@ -1,0 +1,107 @@
+// The solver's table between checks: an empty one, the registry of variables, and collection (DtSolver::collect, new_var).
+use crate::layout::COLLECTED;
+use crate::layout::COUNTS;
+use crate::layout::MARK;
+use crate::layout::REGISTRY_SIZE;
+use crate::roles::term_kind;
+use core::context::children;
+use core::ids::TermId;
+use core::ids::Var;
+use core::table::get_at;
+use core::table::put_at;
+use theory::atom;
+ghost use mathlib.Core.Path.{_≡_};
+ghost use mathlib.Core.Bool.{true};
+ghost use Prim.Native.Nat.{_≤_, _<_};
+ghost use lib.ListN.{length};
+ghost use Rattle.core.specs.Limits.{max-terms, table-words};
+ghost use Rattle.core.specs.Memory.Table.{context};
+ghost use Rattle.theory.specs.Atom.{is-registered, atom};
+ghost use Rattle.theory.specs.Memory.Registry.{atoms};
+ghost use Rattle.solver.specs.Memory.Table.{registry, SolverSound};
+ghost use Rattle.solver.specs.Memory.Recording.{Wiped, SolverCleared, MayRegister, Registers, Collecting, Collects, CollectsChildren, CollectsVar};
+
+// The count of the level record and the flags of all terms stand side by side, from COUNTS on.
+const FLAG_WORDS: usize = 6208;
+
+// ---- an empty table
+
+fn wipe(s: &mut [u32])
+    requires { ⌜ table-words ≤ length (now s) ⌝ }
+    ensures { λ _. ⌜ Wiped (now (s .entry)) (now (s .exit)) ⌝ }
+{
+    let mut i = 0;
+    while i < FLAG_WORDS {
+        put_at(s, COUNTS, i, 0);
+        i += 1;
+    }
+}
+
+// Whatever the table held, it is now that of an empty session.
+pub fn clear(s: &mut [u32])
+    requires { ⌜ table-words ≤ length (now s) ⌝ }
+    ensures { λ _. ⌜ SolverCleared (now (s .exit)) ⌝ }
+{
+    wipe(s);
+    atom::clear(&mut s[..REGISTRY_SIZE]);
+}
+
+// ---- variables
+
+pub fn is_registered(s: &[u32], v: Var) -> bool
+    requires { ⌜ SolverSound (now s) ⌝ }
+    ensures { λ r. ⌜ r ≡ is-registered (atoms (registry (now (s .entry)))) (v .0) ⌝ }
+{
+    atom::is_registered(&s[..REGISTRY_SIZE], v)
+}
+
+// The atom of a registered variable.
+pub fn atom(s: &[u32], v: Var) -> TermId
+    requires { ⌜ SolverSound (now s) × (is-registered (atoms (registry (now s))) (v .0) ≡ true) ⌝ }
+    ensures { λ r. ⌜ (r .0 ≡ atom (atoms (registry (now (s .entry)))) (v .0)) × (r .0 < max-terms) ⌝ }
+{
+    atom::atom(&s[..REGISTRY_SIZE], v)
+}
+
+// The variable must not be registered yet.
+pub fn register(s: &mut [u32], v: Var, x: TermId)
+    requires { ⌜ MayRegister (now s) (v .0) (x .0) ⌝ }
+    ensures { λ _. ⌜ Registers (now (s .entry)) (v .0) (x .0) (now (s .exit)) ⌝ }
+{
+    atom::register(&mut s[..REGISTRY_SIZE], v, x);
+}
+
+// ---- collection
+
+fn collect_children(t: &[u32], s: &mut [u32], x: usize)
+    requires { ⌜ Collecting (now t) (now s) × (x < length (context (now t) .terms)) ⌝ }
+    ensures { λ _. ⌜ CollectsChildren (now (t .entry)) (now (s .entry)) x (now (s .exit)) ⌝ }
+{
+    let args = children(t, TermId(x as u32));
+    let mut i = 0;
+    while i < args.len() {
+        collect(t, s, args[i] as usize);
+        i += 1;
+    }
+}
+
+// Collects a term and what lies below it, each once: what is relevant is marked. A collected term is passed over for good.
+fn collect(t: &[u32], s: &mut [u32], x: usize)
+    requires { ⌜ Collecting (now t) (now s) × (x < length (context (now t) .terms)) ⌝ }
+    ensures { λ _. ⌜ Collects (now (t .entry)) (now (s .entry)) x (now (s .exit)) ⌝ }
+{
+    if get_at(s, COLLECTED, x) == 0 {
+        collect_children(t, s, x);
+        let kind = term_kind(t, TermId(x as u32));
+        put_at(s, MARK, x, kind);
+        put_at(s, COLLECTED, x, 1);
+    }
+}
+
+// A registered atom is collected.
+pub fn new_var(t: &[u32], s: &mut [u32], x: TermId)
+    requires { ⌜ Collecting (now t) (now s) × (x .0 < length (context (now t) .terms)) ⌝ }
+    ensures { λ _. ⌜ CollectsVar (now (t .entry)) (now (s .entry)) (x .0) (now (s .exit)) ⌝ }
+{
+    collect(t, s, x.0 as usize);
+}
