@@ -26,7 +26,7 @@ pub mod Minting
 pub mod Splits
 pub mod Trying
 -- The rules. ConstructorClash, Clashing: the two clashes; Asserting: assert; Selected, Injecting: injectivity; Chains, Collapsing,
--- TesterLemmas, Once: collapse and the tester lemma; Instantiating: guarded instantiation; Splitting: exhaustiveness and unknown.
+-- TesterLemmas, Once, TestsOnce: collapse and the tester lemma; Instantiating: guarded instantiation; Splitting: exhaustiveness and unknown.
 pub mod ConstructorClash
 pub mod Clashing
 pub mod Asserting
@@ -36,6 +36,7 @@ pub mod Chains
 pub mod Collapsing
 pub mod TesterLemmas
 pub mod Once
+pub mod TestsOnce
 pub mod Instantiating
 pub mod Splitting
 -- The ring. Resuming: the definition's walk step by step; Rings: the walk's table; RingSteps, RingWalks: its steps and loops; RingLeaves:

@@ -34,7 +34,7 @@ ghost use Rattle.core.specs.Memory.Table.{context};
 ghost use Rattle.solver.specs.Rules.{equate-field, collapse-at, collapse-lemma, tester-lemma-at, tester-lemma};
 ghost use Rattle.solver.specs.Memory.Answer.{Tried};
 ghost use Rattle.solver.specs.Memory.Checks.{Underway};
-ghost use Rattle.solver.specs.Memory.Collapse.{when, by-apps, if-marked, at-made, selection, testing, FieldEquatable, Collapsible, Testable, SelectorOn, TesterOn, CollapsesAt, TestsAt, DoneSound, TriedOnce, CollapsibleOnce, SelectedBy};
+ghost use Rattle.solver.specs.Memory.Collapse.{when, by-apps, if-marked, at-made, selection, testing, FieldEquatable, Collapsible, Testable, SelectorOn, TesterOn, CollapsesAt, TestsAt, DoneSound, CollapsesOnce, CollapsibleOnce, SelectedBy, TestsSound, TestsOnce, TestableOnce};
 
 // The flags of a rule, one for each term (specs/Memory/Collapse.antt).
 const FLAGS: usize = 0;
@@ -140,7 +140,7 @@ fn collapse_flagged(
     out: &mut [u32],
 ) -> TCheck
     requires { ⌜ SelectedBy (now t) (now e) (now s) (now w) (now done) (f .0) (ctor .0) i arg (z .0) (now out) ⌝ }
-    ensures { λ r. ⌜ TriedOnce (by-apps (collapse-at (selection (f .0) (ctor .0) i arg))) (now (t .entry)) (now (e .entry)) (now
+    ensures { λ r. ⌜ CollapsesOnce (by-apps (collapse-at (selection (f .0) (ctor .0) i arg))) (now (t .entry)) (now (e .entry)) (now
         (s .entry)) (now (w .entry)) r (now (t .exit)) (now (s .exit)) (now (done .exit)) (now (out .exit)) ⌝ }
 {
     let flag = z.0 as usize;
@@ -172,7 +172,7 @@ fn collapse_once(
     out: &mut [u32],
 ) -> TCheck
     requires { ⌜ CollapsibleOnce (now t) (now e) (now s) (now w) (now done) (f .0) (ctor .0) i arg (app .0) (now out) ⌝ }
-    ensures { λ r. ⌜ TriedOnce (by-apps (collapse-at (selection (f .0) (ctor .0) i arg))) (now (t .entry)) (now (e .entry)) (now
+    ensures { λ r. ⌜ CollapsesOnce (by-apps (collapse-at (selection (f .0) (ctor .0) i arg))) (now (t .entry)) (now (e .entry)) (now
         (s .entry)) (now (w .entry)) r (now (t .exit)) (now (s .exit)) (now (done .exit)) (now (out .exit)) ⌝ }
 {
     let args = [app.0];
@@ -197,7 +197,7 @@ fn collapse_argument(
 ) -> TCheck
     requires { ⌜ SelectorOn (now t) (now e) (now s) (now w) (f .0) (ctor .0) i arg (now out) × DoneSound (now t) (now e) (now s)
         (now w) (now done) ⌝ }
-    ensures { λ r. ⌜ TriedOnce (by-apps (collapse-at (selection (f .0) (ctor .0) i arg))) (now (t .entry)) (now (e .entry)) (now
+    ensures { λ r. ⌜ CollapsesOnce (by-apps (collapse-at (selection (f .0) (ctor .0) i arg))) (now (t .entry)) (now (e .entry)) (now
         (s .entry)) (now (w .entry)) r (now (t .exit)) (now (s .exit)) (now (done .exit)) (now (out .exit)) ⌝ }
 {
     match ctor_of_class(t, e, w, TermId(arg as u32)) {
@@ -223,7 +223,7 @@ fn collapse_selector(
 ) -> TCheck
     requires { ⌜ Underway (now t) (now e) (now s) (now w) (now out) × DoneSound (now t) (now e) (now s) (now w) (now done) ×
         (x .0 < length (context (now t) .terms)) ⌝ }
-    ensures { λ r. ⌜ TriedOnce (λ S. when (λ a. by-apps (collapse-at a)) (sel-app (context (now (t .entry))) (x .0)) S) (now
+    ensures { λ r. ⌜ CollapsesOnce (λ S. when (λ a. by-apps (collapse-at a)) (sel-app (context (now (t .entry))) (x .0)) S) (now
         (t .entry)) (now (e .entry)) (now (s .entry)) (now (w .entry)) r (now (t .exit)) (now (s .exit)) (now (done .exit)) (now
         (out .exit)) ⌝ }
 {
@@ -251,7 +251,7 @@ fn collapse_term(
 ) -> TCheck
     requires { ⌜ Underway (now t) (now e) (now s) (now w) (now out) × DoneSound (now t) (now e) (now s) (now w) (now done) ×
         (x < length (context (now t) .terms)) ⌝ }
-    ensures { λ r. ⌜ TriedOnce (if-marked (now (w .entry)) x (when (λ a. by-apps (collapse-at a)) (sel-app (context (now
+    ensures { λ r. ⌜ CollapsesOnce (if-marked (now (w .entry)) x (when (λ a. by-apps (collapse-at a)) (sel-app (context (now
         (t .entry))) x))) (now (t .entry)) (now (e .entry)) (now (s .entry)) (now (w .entry)) r (now (t .exit)) (now (s .exit)) (now
         (done .exit)) (now (out .exit)) ⌝ }
 {
@@ -343,18 +343,80 @@ fn tester_lemma_class(
     TCheck::Sat
 }
 
+// The same, unless the flag of y says that it was done for this tester: y is the lowest application of the class.
+fn tester_lemma_once(
+    t: &mut [u32],
+    e: &[u32],
+    s: &mut [u32],
+    w: &[u32],
+    done: &mut [u32],
+    f: SymbolId,
+    ctor: SymbolId,
+    arg: usize,
+    y: TermId,
+    out: &mut [u32],
+) -> TCheck
+    requires { ⌜ TestableOnce (now t) (now e) (now s) (now w) (now done) (f .0) (ctor .0) arg (y .0) (now out) ⌝ }
+    ensures { λ r. ⌜ TestsOnce (by-apps (tester-lemma-at (testing (f .0) (ctor .0) arg))) (now (t .entry)) (now (e .entry)) (now
+        (s .entry)) (now (w .entry)) r (now (t .exit)) (now (s .exit)) (now (done .exit)) (now (out .exit)) ⌝ }
+{
+    let flag = y.0 as usize;
+    let word = f.0 as usize + 1;
+    if get_at(done, FLAGS, flag) == word {
+        return TCheck::Sat;
+    }
+    let r = tester_lemma_class(t, e, s, w, f, ctor, arg, out);
+    match r {
+        TCheck::Sat => {
+            put_at(done, FLAGS, flag, word);
+            TCheck::Sat
+        }
+        _ => r,
+    }
+}
+
+// Once for a class, where its lowest application is one of the tester's constructor.
+fn tester_lemma_argument(
+    t: &mut [u32],
+    e: &[u32],
+    s: &mut [u32],
+    w: &[u32],
+    done: &mut [u32],
+    f: SymbolId,
+    ctor: SymbolId,
+    arg: usize,
+    out: &mut [u32],
+) -> TCheck
+    requires { ⌜ TesterOn (now t) (now e) (now s) (now w) (f .0) (ctor .0) arg (now out) × TestsSound (now t) (now e) (now s)
+        (now w) (now done) ⌝ }
+    ensures { λ r. ⌜ TestsOnce (by-apps (tester-lemma-at (testing (f .0) (ctor .0) arg))) (now (t .entry)) (now (e .entry)) (now
+        (s .entry)) (now (w .entry)) r (now (t .exit)) (now (s .exit)) (now (done .exit)) (now (out .exit)) ⌝ }
+{
+    match ctor_of_class(t, e, w, TermId(arg as u32)) {
+        CtorOf::Nothing => tester_lemma_class(t, e, s, w, f, ctor, arg, out),
+        CtorOf::At(g, app) => {
+            if g.0 != ctor.0 {
+                return tester_lemma_class(t, e, s, w, f, ctor, arg, out);
+            }
+            tester_lemma_once(t, e, s, w, done, f, ctor, arg, app, out)
+        }
+    }
+}
+
 // A tester application; another term lets the rule pass.
 fn tester_lemma_of(
     t: &mut [u32],
     e: &[u32],
     s: &mut [u32],
     w: &[u32],
+    done: &mut [u32],
     x: TermId,
     out: &mut [u32],
 ) -> TCheck
-    requires { ⌜ Underway (now t) (now e) (now s) (now w) (now out) × (x .0 < length (context (now t) .terms)) ⌝ }
-    ensures { λ r. ⌜ Tried (λ S. when (λ a. by-apps (tester-lemma-at a)) (tester-app (context (now (t .entry))) (x .0)) S) (now
-        (t .entry)) (now (e .entry)) (now (s .entry)) (now (w .entry)) r (now (t .exit)) (now (s .exit)) (now (w .entry)) (now
+    requires { ⌜ Underway (now t) (now e) (now s) (now w) (now out) × TestsSound (now t) (now e) (now s) (now w) (now done) ×
+        (x .0 < length (context (now t) .terms)) ⌝ }
+    ensures { λ r. ⌜ TestsOnce (λ S. when (λ a. by-apps (tester-lemma-at a)) (tester-app (context (now (t .entry))) (x .0)) S) (now
+        (t .entry)) (now (e .entry)) (now (s .entry)) (now (w .entry)) r (now (t .exit)) (now (s .exit)) (now (done .exit)) (now
         (out .exit)) ⌝ }
 {
     match op(t, x) {
@@ -362,7 +424,7 @@ fn tester_lemma_of(
         Op::Uninterpreted(f) => match dt_role(t, f) {
             DtRole::Tester(ctor) => {
                 let arg = children(t, x)[0] as usize;
-                tester_lemma_class(t, e, s, w, f, ctor, arg, out)
+                tester_lemma_argument(t, e, s, w, done, f, ctor, arg, out)
             }
             _ => TCheck::Sat,
         },
@@ -375,18 +437,20 @@ fn tester_lemma_term(
     e: &[u32],
     s: &mut [u32],
     w: &[u32],
+    done: &mut [u32],
     x: usize,
     out: &mut [u32],
 ) -> TCheck
-    requires { ⌜ Underway (now t) (now e) (now s) (now w) (now out) × (x < length (context (now t) .terms)) ⌝ }
-    ensures { λ r. ⌜ Tried (if-marked (now (w .entry)) x (when (λ a. by-apps (tester-lemma-at a)) (tester-app (context (now
+    requires { ⌜ Underway (now t) (now e) (now s) (now w) (now out) × TestsSound (now t) (now e) (now s) (now w) (now done) ×
+        (x < length (context (now t) .terms)) ⌝ }
+    ensures { λ r. ⌜ TestsOnce (if-marked (now (w .entry)) x (when (λ a. by-apps (tester-lemma-at a)) (tester-app (context (now
         (t .entry))) x))) (now (t .entry)) (now (e .entry)) (now (s .entry)) (now (w .entry)) r (now (t .exit)) (now (s .exit)) (now
-        (w .entry)) (now (out .exit)) ⌝ }
+        (done .exit)) (now (out .exit)) ⌝ }
 {
     if get_at(w, W_MARK, x) != TESTER_APP {
         return TCheck::Sat;
     }
-    tester_lemma_of(t, e, s, w, TermId(x as u32), out)
+    tester_lemma_of(t, e, s, w, done, TermId(x as u32), out)
 }
 
 // By marked tester application, ascending.
@@ -395,10 +459,11 @@ pub fn tester_lemma(t: &mut [u32], e: &[u32], s: &mut [u32], w: &[u32], out: &mu
     ensures { λ r. ⌜ Tried tester-lemma (now (t .entry)) (now (e .entry)) (now (s .entry)) (now (w .entry)) r (now (t .exit)) (now
         (s .exit)) (now (w .entry)) (now (out .exit)) ⌝ }
 {
+    let mut done = [0u32; MAX_TERMS];
     let n = term_count(t);
     let mut x = 0;
     while x < n {
-        let r = tester_lemma_term(t, e, s, w, x, out);
+        let r = tester_lemma_term(t, e, s, w, &mut done, x, out);
         match r {
             TCheck::Sat => {}
             _ => return r,

@@ -303,14 +303,14 @@ module _ {c e s w w₁ : List ℕ} (z : StateSound c e s) (b : Blank w) (m : Mar
 
 -- ---- a blank work table
 
--- a fresh array
+-- an array of zeros
+pub zeros : (n i : ℕ) → getD {A = ℕ} (replicate n 0) i 0 ≡ 0
+zeros zero i = refl
+zeros (suc n) zero = refl
+zeros (suc n) (suc i) = zeros n i
+
 pub fresh : {w : List ℕ} (n : ℕ) → work-size ≤ n → w ≡ replicate n 0 → Blank w
 fresh n l e = record {
   long = let m = length-replicate {A = ℕ} n 0 in let k = ap length e in omega arith;
   zero = λ i. ap (λ (u : List ℕ). getD u i 0) e ∙ zeros n i;
 }
-  where
-    zeros : (k i : ℕ) → getD {A = ℕ} (replicate k 0) i 0 ≡ 0
-    zeros zero i = refl
-    zeros (suc k) zero = refl
-    zeros (suc k) (suc i) = zeros k i

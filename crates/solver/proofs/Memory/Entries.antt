@@ -1,5 +1,5 @@
 -- The entries of the level record: those from a place on dropped, one more, and a sound state whose records change.
-use Rattle.core.proofs.Kit.{ℕ, suc, _+_, _-_, _≤_, _<_, _≡_, refl, sym, ap, _∙_, subst, _⊎_, ⊎-elim, inl, inr, Bool, true, false, cond, true≢false, List, [], _∷_, _++_, ℕ-discrete, add-one, arith, eqb, eqb→eq, eq-eqb, ne-eqb, length}
+use Rattle.core.proofs.Kit.{ℕ, suc, _+_, _-_, _≤_, _<_, _≡_, refl, sym, ap, _∙_, subst, _⊎_, ⊎-elim, inl, inr, Bool, true, false, cond, true≢false, List, [], _∷_, _++_, ℕ-discrete, add-one, arith, T, eqb, eqb→eq, eq-eqb, ne-eqb, leb, leb→le, length}
 use Rattle.core.specs.Limits.{max-terms, table-words}
 use Rattle.core.specs.Lists.{In, any, range}
 use Rattle.core.specs.Memory.Words.{at, put, counted, Kept}
@@ -85,8 +85,11 @@ module _ {s t : List ℕ} {n i : ℕ} (z : Dropping s t n i) where
   pub drop-read : n < i → REC-ATOM + (i - 1) < length t
   drop-read h = let f = z .sound .solver .records-fit in let w = z .within in let g = drop-long in omega arith
 
-  pub drop-write : {x : ℕ} → n < i → x ≡ at t REC-ATOM (i - 1) → RECORDED + x < length t
-  drop-write h e = let b = drop-term (i - 1) (omega arith) in let g = drop-long in omega arith
+  pub drop-write : (b : ℕ) {x : ℕ} → T (leb (b + max-terms) table-words) → n < i → x ≡ at t REC-ATOM (i - 1) → b + x < length t
+  drop-write b f h e =
+      let m = leb→le (b + max-terms) table-words f in
+      let k = drop-term (i - 1) (omega arith) in
+      let g = drop-long in omega arith
 
   pub drop-count : (COUNTS + RECORDS < length t) × (n < 4294967296)
   drop-count =

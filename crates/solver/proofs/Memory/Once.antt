@@ -26,7 +26,7 @@ use Rattle.solver.specs.Memory.Work.{W-MARK, state-at, apps-from, first-
 use Rattle.solver.specs.declared.work.CtorOf as CtorOf
 use Rattle.core.specs.declared.ids.SymbolId.{SymbolId}
 use Rattle.solver.specs.Memory.Answer.{Outcome, Tried}
-use Rattle.solver.specs.Memory.Collapse.{when, by-apps, at-made, selection, SelectorOn, FLAGS, Collapsible, Collapsed, DoneSound, TriedOnce, SelectedBy, CollapsibleOnce}
+use Rattle.solver.specs.Memory.Collapse.{when, by-apps, at-made, selection, SelectorOn, FLAGS, Collapsible, Collapsed, DoneSound, CollapsesOnce, SelectedBy, CollapsibleOnce}
 use Rattle.solver.specs.Memory.Making.{MadeOutcome, MadeWithin, MakesTerm}
 use Rattle.solver.proofs.Basics.{first-some, gather-in}
 use Rattle.solver.proofs.Terms.{extends-then, app, extends-symbol, extends-term, extends-length}
@@ -37,6 +37,7 @@ use Rattle.solver.proofs.Memory.Growing.{may-apply, old-children, old-c
 use Rattle.solver.proofs.Memory.Trying.{sat-split, tried-pass, tried-as}
 use Rattle.solver.proofs.Memory.Unfitting.{onward-through, try-onward, equate-field-onward, collapse-at-onward}
 use Rattle.solver.proofs.Memory.Flags.{has, flagged-in}
+use Rattle.solver.proofs.Memory.Beginning.{zeros}
 use Rattle.solver.proofs.Memory.Chains.{chain-from, apps-here, all-apps, to-first, still-under}
 use Rattle.solver.proofs.Memory.Collapsing.{made-none, made-is, app-is-term, makeable, makes, own-rule, collapse-others}
 
@@ -76,16 +77,16 @@ all-pass x as′ S h =
 module _ {c e s w : List ℕ} {rule : State → Ruled} {r : TCheck.TCheck} {c′ s′ o : List ℕ} (C : CheckSound c e s w)
     (K : Tried rule c e s w r c′ s′ w o) (q : r ≡ TCheck.the-variants.Sat)
   where
-    goes-on : (lv : ℕ → ℕ) → GoesOn (state-at c e s w lv) (state-at c′ e s′ w lv)
+    pub goes-on : (lv : ℕ → ℕ) → GoesOn (state-at c e s w lv) (state-at c′ e s′ w lv)
     unfolding state-with dt-with
     goes-on lv = record { terms = K .extends; eq = refl; emitted = ap (λ (t : List ℕ). flagged t EMITTED) (K .unchanged (sat-split r q)) }
 
-    apps-back : (a : CtorApp) → In a (apps-from (context c′) w 0) → In a (apps-from (context c) w 0)
+    pub apps-back : (a : CtorApp) → In a (apps-from (context c′) w 0) → In a (apps-from (context c) w 0)
     apps-back a j =
         subst (λ (as′ : List CtorApp). In a as′)
         (old-apps (context c) (context c′) (K .extends) w (C .work .marks) 0 (omega arith)) j
 
-    role-back : (f : ℕ) (ρ : Term.Role) → symbol (context c′) f .role ≡ ρ → symbol (context c) f .role ≡ ρ
+    pub role-back : (f : ℕ) (ρ : Term.Role) → symbol (context c′) f .role ≡ ρ → symbol (context c) f .role ≡ ρ
     role-back f ρ h = ap (λ (z : Symbol). z .role) (sym (extends-symbol (context c) (context c′) f (K .extends))) ∙ h
 
     collapsed-keeps : (z : ℕ) → Collapsed c e s w z → Collapsed c′ e s′ w z
@@ -123,7 +124,7 @@ module _ {c e s w d : List ℕ} {f ctor i arg z : ℕ} {o : List ℕ} (P : Selec
   node = let l = P .within in omega (arith, C .state .core .term-count, C .state .core .terms-fit)
 
   -- it was done: the rule passes, for every argument of the class
-  pub done-passes : {o′ : List ℕ} → is-set (at d FLAGS z) ≡ true → TriedOnce rule c e s w TCheck.the-variants.Sat c s d o′
+  pub done-passes : {o′ : List ℕ} → is-set (at d FLAGS z) ≡ true → CollapsesOnce rule c e s w TCheck.the-variants.Sat c s d o′
   unfolding equal state-with
   done-passes h = record {
     tried = tried-pass C (λ lv.
@@ -179,13 +180,13 @@ module _ {c e s w d : List ℕ} {f ctor i arg z : ℕ} {o : List ℕ} (P : Selec
 
     -- it is done now, and the flag is set
     pub done-now : {d′ : List ℕ} → r ≡ TCheck.the-variants.Sat → d′ ≡ put d FLAGS z 1 →
-        TriedOnce rule c e s w TCheck.the-variants.Sat c′ s′ d′ o′
+        CollapsesOnce rule c e s w TCheck.the-variants.Sat c′ s′ d′ o′
     done-now {d′} q g =
-        subst (λ (m : TCheck.TCheck). TriedOnce rule c e s w m c′ s′ d′ o′) q
+        subst (λ (m : TCheck.TCheck). CollapsesOnce rule c e s w m c′ s′ d′ o′) q
         (record { tried = K; flags = λ m. subst⁻¹ (DoneSound c′ e s′ w) g (done-more m) })
 
     -- it answers
-    pub done-answer : {d′ : List ℕ} → (r ≡ TCheck.the-variants.Sat → ⊥) → TriedOnce rule c e s w r c′ s′ d′ o′
+    pub done-answer : {d′ : List ℕ} → (r ≡ TCheck.the-variants.Sat → ⊥) → CollapsesOnce rule c e s w r c′ s′ d′ o′
     done-answer n = record { tried = K; flags = λ m. absurd (n m) }
 
 -- ---- the selector on the lowest application is made first
@@ -275,7 +276,7 @@ module _ {c e s w d : List ℕ} {f ctor i arg y : ℕ} {o : List ℕ} (P : Colla
 
     -- it does not fit
     pub once-none : {o′ : List ℕ} {d′ : List ℕ} → m ≡ Made.the-variants.NoRoom →
-        TriedOnce (by-apps low-rule) c e s w TCheck.the-variants.NoRoom c₁ s d′ o′
+        CollapsesOnce (by-apps low-rule) c e s w TCheck.the-variants.NoRoom c₁ s d′ o′
     once-none q = record {
       tried =
           tried-as
@@ -363,14 +364,14 @@ module _ {c e s w d : List ℕ} {f ctor i arg y : ℕ} {o : List ℕ} (P : Colla
         near = low-near;
       }
 
-      pub once-some : {r : TCheck.TCheck} {c′ s′ d′ o′ : List ℕ} → TriedOnce (by-apps low-rule) c₁ e s w r c′ s′ d′ o′ →
-          TriedOnce (by-apps low-rule) c e s w r c′ s′ d′ o′
+      pub once-some : {r : TCheck.TCheck} {c′ s′ d′ o′ : List ℕ} → CollapsesOnce (by-apps low-rule) c₁ e s w r c′ s′ d′ o′ →
+          CollapsesOnce (by-apps low-rule) c e s w r c′ s′ d′ o′
       once-some T = record { tried = tried-from (low-makes .extends) early (T .tried); flags = T .flags }
 
 -- ---- a class whose lowest application is of another constructor, or that has none
 
 pub not-once : {rule : State → Ruled} {c e s w d : List ℕ} {r : TCheck.TCheck} {c′ s′ o : List ℕ} → CheckSound c e s w →
-    DoneSound c e s w d → Tried rule c e s w r c′ s′ w o → TriedOnce rule c e s w r c′ s′ d o
+    DoneSound c e s w d → Tried rule c e s w r c′ s′ w o → CollapsesOnce rule c e s w r c′ s′ d o
 not-once C D T = record { tried = T; flags = λ q. done-keeps C T q D }
 
 pub lowest-is : {c e s w d : List ℕ} {f ctor i arg : ℕ} {o : List ℕ} {a : CtorOf.CtorOf} {g : SymbolId} {x : TermId} →
@@ -391,10 +392,5 @@ pub done-first : {c e s w : List ℕ} (n : ℕ) → max-terms ≤ n → DoneSoun
 unfolding at is-set
 done-first n l = record {
   long = let e = length-replicate {A = ℕ} n 0 in omega arith;
-  done = λ z h q. absurd (true≢false (sym q ∙ ap is-set (getD-replicate n (FLAGS + z))));
+  done = λ z h q. absurd (true≢false (sym q ∙ ap is-set (zeros n (FLAGS + z))));
 }
-  where
-    getD-replicate : (k j : ℕ) → _≡_ {A = ℕ} (getD (replicate k 0) j 0) 0
-    getD-replicate zero j = refl
-    getD-replicate (suc k) zero = refl
-    getD-replicate (suc k) (suc j) = getD-replicate k j

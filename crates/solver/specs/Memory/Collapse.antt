@@ -1,5 +1,5 @@
 -- What the functions of collapse and of the tester lemma ask and promise.
-use Prim.Native.Nat.{ℕ, _≤_, _<_}
+use Prim.Native.Nat.{ℕ, _≤_, _<_, suc}
 use mathlib.Core.Path.{_≡_}
 use mathlib.Core.Bool.{true, cond}
 use mathlib.Core.List.{List, [], _∷_}
@@ -121,10 +121,14 @@ pub record DoneSound (c e s w d : List ℕ) : Type 0 where
   pub long : max-terms ≤ length d
   pub done : (z : ℕ) → z < max-terms → is-set (at d FLAGS z) ≡ true → Collapsed c e s w z
 
--- a rule was tried, and the flags are right if it passes
-pub record TriedOnce (rule : State → Ruled) (c e s w : List ℕ) (r : TCheck.TCheck) (c′ s′ d′ o : List ℕ) : Type 0 where
+-- a rule was tried, and what the flags say is right if it passes
+pub record TriedOnce (Done : (c s : List ℕ) → Type 0) (rule : State → Ruled) (c e s w : List ℕ) (r : TCheck.TCheck) (c′ s′ o : List ℕ) :
+    Type 0 where
   pub tried : Tried rule c e s w r c′ s′ w o
-  pub flags : r ≡ TCheck.the-variants.Sat → DoneSound c′ e s′ w d′
+  pub flags : r ≡ TCheck.the-variants.Sat → Done c′ s′
+
+abbrev pub CollapsesOnce : (State → Ruled) → (c e s w : List ℕ) → TCheck.TCheck → (c′ s′ d o : List ℕ) → Type 0
+CollapsesOnce rule c e s w r c′ s′ d o = TriedOnce (λ a b. DoneSound a e b w d) rule c e s w r c′ s′ o
 
 -- f is selector i of a constructor, y the lowest application of arg's class, and one of that constructor
 pub record CollapsibleOnce (c e s w d : List ℕ) (f ctor i arg y : ℕ) (o : List ℕ) : Type 0 where
@@ -141,4 +145,24 @@ pub record SelectedBy (c e s w d : List ℕ) (f ctor i arg z : ℕ) (o : List �
   pub within : z < length (context c .terms)
   pub y : ℕ
   pub is : term (context c) z ≡ record { op = Uninterpreted f; args = y ∷ [] }
+  pub near : are-equal (merges e) arg y ≡ true
+
+-- the tester lemma has been done for tester f and the class of y: it passes on each marked application
+pub record Tested (c e s w : List ℕ) (f y : ℕ) : Type 0 where
+  pub passes : (ctor : ℕ) → symbol (context c) f .role ≡ Tester ctor → (lv : ℕ → ℕ) (a : CtorApp) → In a (apps-from (context c) w 0) →
+      tester-lemma-at (testing f ctor y) a (state-at c e s w lv) ≡ pass (state-at c e s w lv)
+
+-- a flag has one more than such a tester
+pub record TestsSound (c e s w d : List ℕ) : Type 0 where
+  pub long : max-terms ≤ length d
+  pub done : (y f : ℕ) → y < max-terms → at d FLAGS y ≡ suc f → Tested c e s w f y
+
+abbrev pub TestsOnce : (State → Ruled) → (c e s w : List ℕ) → TCheck.TCheck → (c′ s′ d o : List ℕ) → Type 0
+TestsOnce rule c e s w r c′ s′ d o = TriedOnce (λ a b. TestsSound a e b w d) rule c e s w r c′ s′ o
+
+-- f is a tester, y a term of arg's class
+pub record TestableOnce (c e s w d : List ℕ) (f ctor arg y : ℕ) (o : List ℕ) : Type 0 where
+  pub on : TesterOn c e s w f ctor arg o
+  pub flags : TestsSound c e s w d
+  pub is-node : y < max-terms
   pub near : are-equal (merges e) arg y ≡ true
