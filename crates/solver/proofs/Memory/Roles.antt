@@ -141,17 +141,6 @@ module _ (cx : Context) where
       go (selector-of f c i p q) = app-within cx t f p
       go (function-app f p q) = app-within cx t f p
 
-  -- a kind is one of six
-  pub kind-below : (t : ℕ) → term-kind cx t < 6
-  kind-below t = go (see t)
-    where
-      go : Seen t → term-kind cx t < 6
-      go (equation p) = omega (arith, equation-kind t p)
-      go (constructor-app f p q) = omega (arith, ctor-kind t f p q)
-      go (tester-of f c p q) = omega (arith, tester-kind t f p c q)
-      go (selector-of f c i p q) = omega (arith, sel-kind t f p c i q, sel-range (field-test f))
-      go (function-app f p q) = omega (arith, function-kind t f p q, fun-range (field-test f))
-
   -- ---- with a formed table and signature
 
   module _ (F : Formed cx) (Z : Signed cx) where
@@ -180,20 +169,6 @@ module _ (cx : Context) where
     sel-at t f c i p q =
         let (a, e) = one-arg t f (symbol cx c .result) p (Z .selector f c i q .1) in
         (f, c, i, a, p, q, e, sel-app-by t f p (Selector c i) q ∙ ap (sel-by-role t f (Selector c i)) e)
-
-    pub kind-sel : (t : ℕ) → (term-kind cx t ≡ 2) ⊎ (term-kind cx t ≡ 3) → SelAt t
-    kind-sel t e = go (see t) (range e)
-      where
-        range : (term-kind cx t ≡ 2) ⊎ (term-kind cx t ≡ 3) → (2 ≤ term-kind cx t) × (term-kind cx t ≤ 3)
-        range (inl k) = (omega arith, omega arith)
-        range (inr k) = (omega arith, omega arith)
-
-        go : Seen t → (2 ≤ term-kind cx t) × (term-kind cx t ≤ 3) → SelAt t
-        go (equation p) (l, h) = absurd (omega (arith, equation-kind t p))
-        go (constructor-app f p q) (l, h) = absurd (omega (arith, ctor-kind t f p q))
-        go (tester-of f c p q) (l, h) = absurd (omega (arith, tester-kind t f p c q))
-        go (selector-of f c i p q) (l, h) = sel-at t f c i p q
-        go (function-app f p q) (l, h) = absurd (omega (arith, function-kind t f p q, fun-range (field-test f)))
 
     pub kind-no-sel : (t : ℕ) → (term-kind cx t ≡ 2 → ⊥) → (term-kind cx t ≡ 3 → ⊥) → sel-app cx t ≡ none
     unfolding sel-app sel-by-op sel-by-role

@@ -14,7 +14,7 @@ use Rattle.theory.specs.Types.{EqLeaf}
 use Rattle.theory.specs.Atom.{var-of-atom}
 use Rattle.solver.specs.State.{State, AssertedTester, MadeIn, with-terms, with-dt, with-marks, with-emitted, with-split-done, ctor-apps, sel-apps, testers, watched-dt-terms, equal, ctor-of-class, mark, made-in, make-app, marked-in, mint}
 use Rattle.solver.specs.Records.{is-some, tester-conflict}
-use Rattle.solver.specs.Rules.{TCheck, Split, Unknown, Ruled, pass, answered, go-on, then, try-each, clash, clash-answer, constructor-clash, conflict-of, tester-clash-at, tester-clash, mint-on-both, same-constructor, mint-selectors, instantiate-injectivity-selectors, hand-out, hand-out-made, make-eq, equate-field, collapse-field, collapse-at, collapse-lemma, tester-lemma-at, tester-lemma, Fields, mint-field, mint-fields, guard, equate-with, instantiate, instantiate-at, instantiate-constructor, Testers, make-tester, split-on, to-split, split-answer, exhaustiveness-split, has-undetermined-class, unknown-fence}
+use Rattle.solver.specs.Rules.{TCheck, Split, Unknown, Ruled, pass, answered, go-on, then, try-each, conflict-of, tester-clash-at, tester-clash, mint-on-both, same-constructor, mint-selectors, instantiate-injectivity-selectors, hand-out, hand-out-made, make-eq, equate-field, collapse-field, collapse-at, collapse-lemma, tester-lemma-at, tester-lemma, Fields, mint-field, mint-fields, guard, equate-with, instantiate, instantiate-at, instantiate-constructor, Testers, make-tester, split-on, to-split, split-answer, exhaustiveness-split, has-undetermined-class, unknown-fence}
 use Rattle.solver.specs.Memory.Checks.{from-split, from-instantiation, from-tester-lemma, from-collapse, from-injectivity, from-tester-clash}
 use Rattle.solver.proofs.Terms.{extends-self, extends-then, extends-length, mk-app-makes}
 
@@ -157,14 +157,6 @@ either-rule false s x y p q = q
 pub pass-onward : (s : State) → Onward s (pass s .state)
 unfolding pass
 pass-onward s = onward-self s
-
-pub constructor-clash-onward : (s : State) → Onward s (constructor-clash s .state)
-unfolding constructor-clash
-constructor-clash-onward s = go (first (clash s) (pairs (ctor-apps s)))
-  where
-    go : (o : Option (CtorApp × CtorApp)) → Onward s (clash-answer s o .state)
-    go none = unfold clash-answer pass in onward-self s
-    go (some (p, q)) = unfold clash-answer answered in onward-self s
 
 tester-clash-at-onward : (l : ℕ) (o : Option TesterApp) (s : State) → Onward s (tester-clash-at l o s .state)
 unfolding tester-clash-at pass
