@@ -51,7 +51,7 @@ pub ctor-app-is : (cx : Context) (t : ℕ) (c : CtorApp) → ctor-app cx t ≡ s
 unfolding ctor-app
 ctor-app-is cx t c e = ctor-op cx t (term cx t .op) (children cx t) c refl refl e
 
-op-apart : (f : ℕ) → Eq ≡ Term.Uninterpreted f → ⊥
+pub op-apart : (f : ℕ) → Eq ≡ Term.Uninterpreted f → ⊥
 op-apart f e = subst is-eq e tt
   where
     is-eq : Op → Type 0

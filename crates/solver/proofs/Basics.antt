@@ -155,6 +155,34 @@ module _ {A : Type 0} where
       go (inl (e, j)) f = (inl e, inr j)
       go (inr j) f = let (a, b) = f j in (inr a, inr b)
 
+  in-beside-rest : (x : A) (ys : List A) (rest : List (A × A)) (p : A × A) → In p rest → In p (beside x ys rest)
+  unfolding beside
+  in-beside-rest x [] rest p i = i
+  in-beside-rest x (y ∷ ys) rest p i = inr (in-beside-rest x ys rest p i)
+
+  in-beside : (x y : A) (ys : List A) (rest : List (A × A)) → In y ys → In (x, y) (beside x ys rest)
+  unfolding beside
+  in-beside x y [] rest i = absurd i
+  in-beside x y (z ∷ zs) rest (inl e) = inl (ap (λ (w : A). (x, w)) e)
+  in-beside x y (z ∷ zs) rest (inr i) = inr (in-beside x y zs rest i)
+
+  -- two members are one, or a pair in one order or the other
+  pub in-pairs : (xs : List A) (p q : A) → In p xs → In q xs → (p ≡ q) ⊎ (In (p, q) (pairs xs) ⊎ In (q, p) (pairs xs))
+  unfolding pairs
+  in-pairs [] p q i j = absurd i
+  in-pairs (x ∷ xs) p q (inl e) (inl f) = inl (e ∙ sym f)
+  in-pairs (x ∷ xs) p q (inl e) (inr j) = inr
+      (inl (subst⁻¹ (λ (z : A). In (z, q) (beside x xs (pairs xs))) e (in-beside x q xs (pairs xs) j)))
+  in-pairs (x ∷ xs) p q (inr i) (inl f) = inr
+      (inr (subst⁻¹ (λ (z : A). In (z, p) (beside x xs (pairs xs))) f (in-beside x p xs (pairs xs) i)))
+  in-pairs (x ∷ xs) p q (inr i) (inr j) = go (in-pairs xs p q i j)
+    where
+      go : (p ≡ q) ⊎ (In (p, q) (pairs xs) ⊎ In (q, p) (pairs xs)) → (p ≡ q) ⊎ (In (p, q) (beside x xs (pairs xs)) ⊎ In (q, p)
+          (beside x xs (pairs xs)))
+      go (inl e) = inl e
+      go (inr (inl k)) = inr (inl (in-beside-rest x xs (pairs xs) (p, q) k))
+      go (inr (inr k)) = inr (inr (in-beside-rest x xs (pairs xs) (q, p) k))
+
   pub reverse-in : (x : A) (xs : List A) → In x (reverse xs) → In x xs
   reverse-in x [] i = i
   reverse-in x (y ∷ ys) i =

@@ -43,7 +43,7 @@ equation-true r F t a b l e q =
 
 -- ---- the field of an application
 
-element-at : (g : ℕ → ℕ) (xs : List ℕ) (i y : ℕ) → getElem? xs i ≡ some y → In y xs × (getD (map g xs) i 0 ≡ g y)
+pub element-at : (g : ℕ → ℕ) (xs : List ℕ) (i y : ℕ) → getElem? xs i ≡ some y → In y xs × (getD (map g xs) i 0 ≡ g y)
 element-at g [] i y e = absurd (none-some y e)
 element-at g (x ∷ xs) zero y e = let k = some-is x y e in (inl (sym k), ap g k)
 element-at g (x ∷ xs) (suc i) y e = let (a, b) = element-at g xs i y e in (inr a, b)

@@ -11,7 +11,7 @@ use Rattle.core.specs.Lists.{mem, insert}
 use Rattle.core.specs.Ids.{lit, negate}
 use Rattle.core.specs.Term as Term
 use Rattle.core.specs.Term.{Term, Op, Eq, Symbol}
-use Rattle.core.specs.Context.{Context, CtorApp, SelApp, TesterApp, symbol, term, children, sort-of, result-of, mk-app, mk-eq}
+use Rattle.core.specs.Context.{Context, CtorApp, SelApp, TesterApp, symbol, term, children, sort-of, result-of, ctor-app, ctor-by-op, ctor-by-role, tester-app, tester-by-op, tester-by-role, mk-app, mk-eq}
 use Rattle.core.specs.Reading.{Reading, truth, value}
 use Rattle.core.proofs.Lists.{In}
 use Rattle.theory.specs.EqEngine.{Merge}
@@ -162,6 +162,27 @@ sel-kept a b t c e C =
       args = ap (λ (x : Term). x .args) k ∙ C .args;
       role = ap (λ (x : Symbol). x .role) (extends-symbol a b (c .selector) e) ∙ C .role;
     }
+
+ctor-op-kept : (a b : Context) (t : ℕ) (o : Op) (as′ : List ℕ) → Extends a b → ctor-by-op b t o as′ ≡ ctor-by-op a t o as′
+unfolding ctor-by-op
+ctor-op-kept a b t Eq as′ e = refl
+ctor-op-kept a b t (Term.Uninterpreted f) as′ e = ap (λ (x : Symbol). ctor-by-role t f (x .role) as′) (extends-symbol a b f e)
+
+pub ctor-app-kept : (a b : Context) (t : ℕ) → Extends a b → t < length (a .terms) → ctor-app b t ≡ ctor-app a t
+unfolding ctor-app children
+ctor-app-kept a b t e l =
+    ap (λ (x : Term). ctor-by-op b t (x .op) (x .args)) (extends-term a b t e l) ∙ ctor-op-kept a b t (term a t .op) (term a t .args) e
+
+tester-op-kept : (a b : Context) (t : ℕ) (o : Op) (as′ : List ℕ) → Extends a b → tester-by-op b t o as′ ≡ tester-by-op a t o as′
+unfolding tester-by-op
+tester-op-kept a b t Eq as′ e = refl
+tester-op-kept a b t (Term.Uninterpreted f) as′ e = ap (λ (x : Symbol). tester-by-role t f (x .role) as′) (extends-symbol a b f e)
+
+pub tester-app-kept : (a b : Context) (t : ℕ) → Extends a b → t < length (a .terms) → tester-app b t ≡ tester-app a t
+unfolding tester-app children
+tester-app-kept a b t e l =
+    ap (λ (x : Term). tester-by-op b t (x .op) (x .args)) (extends-term a b t e l) ∙ tester-op-kept a b t (term a t .op)
+    (term a t .args) e
 
 -- ---- what an answer owes
 

@@ -1,0 +1,214 @@
+-- The two clashes are tried first. Each leaves the state as it is and answers conflict or nothing, so a check that finds a clash says
+-- so; where neither answers, the marked applications of a class have one constructor, and recorded testers agree with it.
+use Prim.Native.Nat.{ℕ}
+use mathlib.Core.Path.{_≡_, refl, sym, subst, subst⁻¹, ap, _∙_}
+use mathlib.Core.Logic.{_⊎_, inl, inr}
+use mathlib.Core.Bool.{Bool, true, false, cond, not}
+use mathlib.Core.List.{List, [], _∷_}
+use mathlib.Core.Option.{Option, none, some}
+use lib.Dec.{T, eqb}
+use borrow.Author.Tests.{eqb-true}
+use Rattle.core.specs.Lists.{first, pairs}
+use Rattle.core.specs.Context.{CtorApp, TesterApp, tester-app}
+use Rattle.core.proofs.Lists.{In, T-both}
+use Rattle.theory.specs.Types.{EqLeaf}
+use Rattle.theory.specs.EqEngine.{are-equal, explain, firsts}
+use Rattle.theory.proofs.Classes.{equal-sym, equal-trans}
+use Rattle.solver.specs.State.{State, AssertedTester, ctor-apps, equal, ctor-of-class}
+use Rattle.solver.specs.Records.{tester-leaves, disagrees, tester-conflict}
+use Rattle.solver.specs.Rules.{TCheck, Conflict, Ruled, pass, answered, go-on, then, try-each, clash, clash-answer, constructor-clash, conflict-of, tester-clash-at, tester-clash}
+use Rattle.solver.specs.Check.{before-ring}
+use Rattle.solver.proofs.Basics.{in-pairs, none-some, some-none, some-is, first-some, first-none, false-T, by-test}
+
+-- ---- rules that answer conflict or nothing
+
+-- a rule that leaves the state as it is, and answers conflict or nothing
+pub record Tells (s : State) (r : Ruled) : Type 0 where
+  pub state : r .state ≡ s
+  pub conflict : (a : TCheck) → r .answer ≡ some a → (ls : List EqLeaf) × (a ≡ Conflict ls)
+
+pass-tells : (s : State) → Tells s (pass s)
+unfolding pass
+pass-tells s = record { state = refl; conflict = λ a e. absurd (none-some a e) }
+
+answered-tells : (s : State) (ls : List EqLeaf) → Tells s (answered s (Conflict ls))
+unfolding answered
+answered-tells s ls = record { state = refl; conflict = λ a e. (ls, sym (some-is (Conflict ls) a e)) }
+
+then-some : (r : Ruled) (next : State → Ruled) (a : TCheck) → r .answer ≡ some a → then r next .answer ≡ some a
+unfolding then go-on answered
+then-some r next a e = ap (λ (o : Option TCheck). go-on o (r .state) next .answer) e
+
+then-next : (r : Ruled) (next : State → Ruled) → r .answer ≡ none → then r next ≡ next (r .state)
+unfolding then go-on
+then-next r next e = ap (λ (o : Option TCheck). go-on o (r .state) next) e
+
+then-none : (r : Ruled) (next : State → Ruled) → then r next .answer ≡ none → r .answer ≡ none
+then-none r next e = go (r .answer) refl
+  where
+    go : (o : Option TCheck) → r .answer ≡ o → o ≡ none
+    go none q = refl
+    go (some a) q = absurd (some-none a (sym (then-some r next a q) ∙ e))
+
+then-tells : (s : State) (r : Ruled) (next : State → Ruled) → Tells s r → Tells s (next s) → Tells s (then r next)
+then-tells s r next t n = go (r .answer) refl
+  where
+    go : (o : Option TCheck) → r .answer ≡ o → Tells s (then r next)
+    go none e = subst⁻¹ (Tells s) (then-next r next e ∙ ap next (t .state)) n
+    go (some a) e = record {
+      state = unfold then go-on answered in ap (λ (p : Option TCheck). go-on p (r .state) next .state) e ∙ t .state;
+      conflict = λ b q. t .conflict b (e ∙ sym (then-some r next a e) ∙ q);
+    }
+
+try-tells : {A : Type 0} (s : State) (rule : A → State → Ruled) (xs : List A) → ((x : A) → Tells s (rule x s)) →
+    Tells s (try-each rule xs s)
+unfolding try-each
+try-tells s rule [] h = pass-tells s
+try-tells s rule (x ∷ xs) h = then-tells s (rule x s) (λ s′. try-each rule xs s′) (h x) (try-tells s rule xs h)
+
+try-none : {A : Type 0} (s : State) (rule : A → State → Ruled) (xs : List A) → ((x : A) → Tells s (rule x s)) →
+    try-each rule xs s .answer ≡ none → (x : A) → In x xs → rule x s .answer ≡ none
+unfolding try-each
+try-none s rule [] h e x i = absurd i
+try-none s rule (y ∷ ys) h e x i = go i (try-none s rule ys h later x)
+  where
+    here : rule y s .answer ≡ none
+    here = then-none (rule y s) (λ s′. try-each rule ys s′) e
+
+    later : try-each rule ys s .answer ≡ none
+    later = ap (λ (r : Ruled). r .answer) (sym (then-next (rule y s) (λ s′. try-each rule ys s′) here ∙ ap (try-each rule ys)
+        (h y .state))) ∙ e
+
+    go : In x (y ∷ ys) → (In x ys → rule x s .answer ≡ none) → rule x s .answer ≡ none
+    go (inl q) f = ap (λ (z : _). rule z s .answer) q ∙ here
+    go (inr j) f = f j
+
+-- ---- the two clashes
+
+module _ (s : State) where
+  pub constructor-tells : Tells s (constructor-clash s)
+  unfolding constructor-clash
+  constructor-tells = go (first (clash s) (pairs (ctor-apps s)))
+    where
+      go : (o : Option (CtorApp × CtorApp)) → Tells s (clash-answer s o)
+      go none = unfold clash-answer in pass-tells s
+      go (some (p, q)) = unfold clash-answer in answered-tells s (firsts (explain (s .eq) (p .app) (q .app)))
+
+  conflict-tells : (o : Option (List EqLeaf)) → Tells s (conflict-of s o)
+  unfolding conflict-of
+  conflict-tells none = pass-tells s
+  conflict-tells (some ls) = answered-tells s ls
+
+  tester-at-tells : (l : ℕ) (o : Option TesterApp) → Tells s (tester-clash-at l o s)
+  unfolding tester-clash-at
+  tester-at-tells l none = pass-tells s
+  tester-at-tells l (some x) = conflict-tells (tester-conflict s l x)
+
+  pub tester-tells : Tells s (tester-clash s)
+  unfolding tester-clash
+  tester-tells = try-tells s (λ (e : AssertedTester) s′. tester-clash-at (e .lit) (tester-app (s′ .terms) (e .atom)) s′)
+      (s .dt .level-record) (λ e. tester-at-tells (e .lit) (tester-app (s .terms) (e .atom)))
+
+-- ---- the first two rules
+
+module _ (s : State) (r : Ruled) (q next : State → Ruled) (t : Tells s r) where
+  second : r .answer ≡ none → then r (λ s′. then (q s′) next) ≡ then (q s) next
+  second e = then-next r (λ s′. then (q s′) next) e ∙ ap (λ (s′ : State). then (q s′) next) (t .state)
+
+  two-none : then r (λ s′. then (q s′) next) .answer ≡ none → (r .answer ≡ none) × (q s .answer ≡ none)
+  two-none e =
+      let a = then-none r (λ s′. then (q s′) next) e in
+      (a, then-none (q s) next (ap (λ (x : Ruled). x .answer) (sym (second a)) ∙ e))
+
+  two-first : Tells s (q s) → (r .answer ≡ none → q s .answer ≡ none → ⊥) → (ls : List EqLeaf) ×
+      (then r (λ s′. then (q s′) next) .answer ≡ some (Conflict ls))
+  two-first u h = go (r .answer) (q s .answer) refl refl
+    where
+      go : (a b : Option TCheck) → r .answer ≡ a → q s .answer ≡ b → (ls : List EqLeaf) × (then r (λ s′. then (q s′) next) .answer ≡
+          some (Conflict ls))
+      go (some k) b e f =
+          let (ls, w) = t .conflict k e in
+          (ls, then-some r (λ s′. then (q s′) next) (Conflict ls) (e ∙ ap {B = Option TCheck} some w))
+      go none (some k) e f =
+          let (ls, w) = u .conflict k f in
+          (ls, ap (λ (x : Ruled). x .answer) (second e) ∙ then-some (q s) next (Conflict ls) (f ∙ ap {B = Option TCheck} some w))
+      go none none e f = absurd (h e f)
+
+-- ---- no clash
+
+-- applications of one class have one constructor, which is that of each tester on a term of the class in the level record
+pub record Clear (s : State) : Type 0 where
+  pub constructors : (p q : CtorApp) → In p (ctor-apps s) → In q (ctor-apps s) → T (equal s (p .app) (q .app)) → p .ctor ≡ q .ctor
+  pub testers : (e : AssertedTester) (x : TesterApp) (c : CtorApp) → In e (s .dt .level-record) → tester-app (s .terms) (e .atom) ≡
+      some x → In c (ctor-apps s) → T (equal s (x .arg) (c .app)) → c .ctor ≡ x .ctor
+
+module _ (s : State) (a : constructor-clash s .answer ≡ none) (b : tester-clash s .answer ≡ none) where
+  none-first : first (clash s) (pairs (ctor-apps s)) ≡ none
+  unfolding constructor-clash
+  none-first = go (first (clash s) (pairs (ctor-apps s))) a
+    where
+      go : (o : Option (CtorApp × CtorApp)) → clash-answer s o .answer ≡ none → o ≡ none
+      go none e = refl
+      go (some (p, q)) e = absurd (some-none (Conflict (firsts (explain (s .eq) (p .app) (q .app))))
+          (unfold clash-answer answered in e))
+
+  same-by-test : (p q : CtorApp) → In (p, q) (pairs (ctor-apps s)) → T (equal s (p .app) (q .app)) → p .ctor ≡ q .ctor
+  same-by-test p q i t =
+      by-test (eqb (p .ctor) (q .ctor)) (λ e. eqb-true (p .ctor) (q .ctor) e)
+      (λ e. absurd (false-T (clash s (p, q)) (first-none (clash s) (pairs (ctor-apps s)) (p, q) none-first i)
+      (unfold clash in T-both (not (eqb (p .ctor) (q .ctor))) (equal s (p .app) (q .app)) (subst⁻¹ (λ (c : Bool). T (not c)) e tt) t)))
+
+  one-constructor : (p q : CtorApp) → In p (ctor-apps s) → In q (ctor-apps s) → T (equal s (p .app) (q .app)) → p .ctor ≡ q .ctor
+  unfolding equal
+  one-constructor p q i j t = go (in-pairs (ctor-apps s) p q i j)
+    where
+      go : (p ≡ q) ⊎ (In (p, q) (pairs (ctor-apps s)) ⊎ In (q, p) (pairs (ctor-apps s))) → p .ctor ≡ q .ctor
+      go (inl e) = ap (λ (c : CtorApp). c .ctor) e
+      go (inr (inl k)) = same-by-test p q k t
+      go (inr (inr k)) = sym (same-by-test q p k (equal-sym (s .eq) (p .app) (q .app) t))
+
+  agrees : (l : ℕ) (x : TesterApp) (o : Option CtorApp) → conflict-of s (disagrees s l x o) .answer ≡ none → (c : CtorApp) →
+      o ≡ some c → c .ctor ≡ x .ctor
+  agrees l x none e c q = absurd (none-some c q)
+  agrees l x (some d) e c q = go (eqb (d .ctor) (x .ctor)) refl (unfold disagrees in e)
+    where
+      go : (k : Bool) → eqb (d .ctor) (x .ctor) ≡ k → conflict-of s (cond k none (some (tester-leaves s l (x .arg) d))) .answer ≡ none
+          → c .ctor ≡ x .ctor
+      go true w z = ap (λ (y : CtorApp). y .ctor) (sym (some-is d c q)) ∙ eqb-true (d .ctor) (x .ctor) w
+      go false w z = absurd (some-none (Conflict (tester-leaves s l (x .arg) d)) (unfold conflict-of answered in z))
+
+  tester-constructor : (e : AssertedTester) (x : TesterApp) (c : CtorApp) → In e (s .dt .level-record) → tester-app (s .terms)
+      (e .atom) ≡ some x → In c (ctor-apps s) → T (equal s (x .arg) (c .app)) → c .ctor ≡ x .ctor
+  unfolding tester-clash equal ctor-of-class
+  tester-constructor e x c i q j t = go (ctor-of-class s (x .arg)) refl
+    where
+      here : tester-clash-at (e .lit) (tester-app (s .terms) (e .atom)) s .answer ≡ none
+      here = try-none s (λ (y : AssertedTester) s′. tester-clash-at (y .lit) (tester-app (s′ .terms) (y .atom)) s′)
+          (s .dt .level-record) (λ y. tester-at-tells s (y .lit) (tester-app (s .terms) (y .atom))) b e i
+
+      said : conflict-of s (disagrees s (e .lit) x (ctor-of-class s (x .arg))) .answer ≡ none
+      said = unfold tester-conflict tester-clash-at in subst (λ (o : Option TesterApp). tester-clash-at (e .lit) o s .answer ≡ none) q
+          here
+
+      go : (o : Option CtorApp) → ctor-of-class s (x .arg) ≡ o → c .ctor ≡ x .ctor
+      go none w = absurd (false-T (are-equal (s .eq) (x .arg) (c .app))
+          (first-none (λ (d : CtorApp). are-equal (s .eq) (x .arg) (d .app)) (ctor-apps s) c w j) t)
+      go (some d) w =
+          let (k, f) = first-some (λ (y : CtorApp). are-equal (s .eq) (x .arg) (y .app)) (ctor-apps s) d w in
+          one-constructor c d j k (equal-trans (s .eq) (c .app) (x .arg) (d .app) (equal-sym (s .eq) (x .arg) (c .app) t) f) ∙ agrees
+          (e .lit) x (ctor-of-class s (x .arg)) said d w
+
+  clear-by : Clear s
+  clear-by = record { constructors = one-constructor; testers = tester-constructor }
+
+-- ---- a check
+
+-- a check finds a clash first, if there is one
+pub clash-found : (s : State) → (Clear s → ⊥) → (ls : List EqLeaf) × (before-ring s .answer ≡ some (Conflict ls))
+unfolding before-ring
+clash-found s n = two-first s (constructor-clash s) tester-clash _ (constructor-tells s) (tester-tells s) (λ a b. n (clear-by s a b))
+
+-- and where no rule answers there is none
+pub clear-at-first : (s : State) → before-ring s .answer ≡ none → Clear s
+unfolding before-ring
+clear-at-first s e = let (a, b) = two-none s (constructor-clash s) tester-clash _ (constructor-tells s) e in clear-by s a b
