@@ -17,6 +17,8 @@ pub enum Kind {
 }
 
 impl Kind {
+    pub const ALL: [Kind; 5] = [Kind::Search, Kind::Refused, Kind::Limits, Kind::Damaged, Kind::Any];
+
     pub fn named(name: &str) -> Option<Kind> {
         match name {
             "search" => Some(Kind::Search),

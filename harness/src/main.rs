@@ -1,5 +1,6 @@
 //! Answers scripts with the published solver, makes scripts, and counts what they meet.
 
+mod compare;
 mod damage;
 mod generate;
 mod limits;
@@ -24,6 +25,7 @@ harness batch KIND COUNT SEED
 harness statistic KIND COUNT SEED
 harness fixed EXAMPLES
 harness verify
+harness compare PROGRAM COUNT SEED
 KIND is search, refused, limits, damaged or any.";
 
 fn main() {
@@ -48,6 +50,7 @@ fn command(arguments: &[&str]) -> Option<()> {
         }
         ["fixed", examples] => records::write_fixed(examples.as_ref(), &mut std::io::stdout()),
         ["verify"] => verify(),
+        ["compare", program, count, seed] => compare(program, count.parse().ok()?, seed.parse().ok()?),
         _ => return None,
     }
     Some(())
@@ -82,6 +85,15 @@ fn statistic(kind: Kind, count: u64, seed: u64) {
         statistic.add(statistic::met_by(&script));
     }
     statistic.print();
+}
+
+/// Answers generated scripts by the program, too, and compares.
+fn compare(program: &str, count: u64, seed: u64) {
+    if let Err(script) = compare::compare(program, count, seed) {
+        println!("the first script answered otherwise:");
+        put(&script);
+        std::process::exit(1);
+    }
 }
 
 /// Answers the scripts of records on standard input anew and compares.

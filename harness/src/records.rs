@@ -1,6 +1,6 @@
-//! Scripts with their answers as one stretch of bytes. A record is a line of four decimal numbers parted by blanks:
-//! the bytes of the script, the bytes of the answers, the result and the lines answered; then the script's bytes and
-//! the answers' bytes, with nothing between or after them.
+//! Scripts with their answers as one stretch of bytes. A record is a line of four decimal numbers of five digits each,
+//! parted by blanks: the bytes of the script, the bytes of the answers, the result and the lines answered; then the
+//! script's bytes and the answers' bytes, with nothing between or after them.
 
 use crate::generate::{self, Kind};
 use crate::limits;
@@ -21,7 +21,7 @@ const SEEDS_PER_FAMILY: u64 = 40;
 
 fn record(script: &[u8]) -> Vec<u8> {
     let run = run::run(script, |_, _, _| ());
-    let head = format!("{} {} {} {}\n", script.len(), run.output.len(), run.result, run.lines);
+    let head = format!("{:05} {:05} {:05} {:05}\n", script.len(), run.output.len(), run.result, run.lines);
     [head.as_bytes(), script, &run.output].concat()
 }
 

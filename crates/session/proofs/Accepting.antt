@@ -6,31 +6,35 @@ use mathlib.Core.Bool.{Bool, true, false, cond, not, false≢true}
 use mathlib.Core.List.{List, [], _∷_, _++_, map}
 use mathlib.Core.Option.{Option, none, some}
 use native.Mathlib.Omega.{arith}
-use lib.Dec.{T, eqb→eq, ltb→lt}
+use lib.Dec.{T, eqb, eqb→eq, ltb→lt}
+use borrow.Author.Tests.{eqb-true}
 use lib.ListN.{length, length-append}
 use Rattle.core.specs.Lists.{insert, every, same-list}
 use Rattle.core.specs.Ids as Ids
 use Rattle.core.specs.Term as Term
 use Rattle.core.specs.Term.{Term, Op, Eq, Symbol}
 use Rattle.core.specs.Sort.{SortNode}
-use Rattle.core.specs.Context.{Context, Made, TesterApp, term, all-grounded, sort-of, symbol, tester-app, declare-sort, dt-add-constructor, declare-fun, with-symbols, is-datatype-sort, mk-app, mk-eq}
+use Rattle.core.specs.Context.{Context, Made, CtorApp, TesterApp, term, all-grounded, sort-of, symbol, tester-app, declare-sort, dt-add-constructor, declare-fun, with-symbols, is-datatype-sort, mk-app, mk-eq}
+use Rattle.core.specs.Reading.{Reading}
 use Rattle.core.proofs.Lists.{In, true-T, every-in, same-list-eq}
+use Rattle.core.proofs.Readings.{has-reading}
 use Rattle.theory.specs.Types.{EqLeaf}
 use Rattle.theory.specs.EqEngine.{Merge}
 use Rattle.theory.specs.Atom as Atom
 use Rattle.theory.proofs.Explain.{Justified, TwoTerms}
 use Rattle.theory.proofs.Members.{in-either}
-use Rattle.solver.specs.State.{State, AssertedTester, with-terms, with-level, with-level-record, with-lasting, with-dt}
+use Rattle.solver.specs.State.{State, AssertedTester, with-terms, with-level, with-level-record, with-lasting, with-dt, ctor-of-class}
 use Rattle.solver.specs.Records as Records
 use Rattle.solver.specs.Records.{relevant}
 use Rattle.solver.specs.Rules as Rules
 use Rattle.solver.specs.Rules.{Phase, TCheck, Conflict, Split}
 use Rattle.solver.specs.Check as Check
 use Rattle.solver.specs.Check.{before-ring}
-use Rattle.solver.proofs.Basics.{Ascending, none-some, T-no, false-T}
+use Rattle.solver.proofs.Basics.{Ascending, some-is, none-some, some-none, T-no, false-T}
 use Rattle.solver.proofs.Terms.{Extends, extends-sorts, extends-symbols, Below, Agrees, Formed, Makes, mk-app-makes, mk-app-formed, app}
 use Rattle.solver.proofs.Signature.{Signed, sort-signed, fun-signed, ctor-signed}
-use Rattle.solver.proofs.Apps.{tester-app-is}
+use Rattle.solver.proofs.Apps.{ctor-app-is, tester-app-is}
+use Rattle.solver.proofs.Walk.{class-ctor}
 use Rattle.solver.proofs.Clash.{Refuted, Recorded, tester-refuted}
 use Rattle.solver.proofs.Moves.{Follows, follows-self, AnswerHolds}
 use Rattle.solver.proofs.Answers.{CheckedWell, RingDecides, full-check-decides, full-check-well}
@@ -38,13 +42,13 @@ use Rattle.solver.proofs.Collection.{relevant-kept}
 use Rattle.session.specs.Line as Line
 use Rattle.session.specs.Line.{Command, DeclareSort, DeclareCtor, DeclareFun, Close, MkTerm, MkEq, Register, Equate, Cong, Iface, Assert, Push, Pop}
 use Rattle.session.specs.Answer.{Refusal, Answer, Ok, TermIs, Checked, Refused}
-use Rattle.session.specs.Session.{Session, Performed, term-exists, one-sort, perform, done, numbered, conflict-or-ok}
+use Rattle.session.specs.Session.{Session, Performed, Asked, first-no, term-exists, one-sort, perform, done, numbered, conflict-or-ok}
 use Rattle.session.specs.History.{History, level, level-after, HoldsNow, IsAtom}
-use Rattle.session.specs.Claim.{AllInForce, Impossible, Valid, Ring, Cause, Determined, Undetermined, After, SaysConflict}
+use Rattle.session.specs.Claim.{AllInForce, Impossible, Valid, Ring, Cause, Against, Determined, Undetermined, Before, After, SaysConflict}
 use Rattle.session.proofs.Forces.{kind}
-use Rattle.session.proofs.Invariant.{signature, declared, kept-self, kept-extends, kept-terms, registered-atom, Entry, Entries, entries-on, Inv}
+use Rattle.session.proofs.Invariant.{signature, declared, kept-self, kept-extends, kept-terms, atom-one, registered-atom, Entry, Entries, entries-on, Inv}
 use Rattle.session.proofs.Truth.{two-terms, SaidNow, conflict-holds, lemma-holds}
-use Rattle.session.proofs.Rings.{ring-there, there-ring}
+use Rattle.session.proofs.Rings.{lowest-stands, ring-there, there-ring}
 use Rattle.session.proofs.Causes.{determined, undetermined, cause-now}
 use Rattle.session.proofs.Steps.{plain-kept, register-kept, pop-kept}
 
@@ -95,6 +99,7 @@ pub record Good (s : Session) (c : Command) (p : Performed) (h : History) : Type
   pub sat : c ≡ Line.Check true → p .answer ≡ Checked Rules.Sat → (After Ring p (c ∷ h) → ⊥) × After Determined p (c ∷ h)
   pub unknown : p .answer ≡ Checked Rules.Unknown → After Undetermined p (c ∷ h)
   pub ring : c ≡ Line.Check true → before-ring (s .state) .answer ≡ none → RingClause p (c ∷ h)
+  pub reading : (a : TCheck) → p .answer ≡ Checked a → Reading (p .session .state .terms)
   pub made : (f : ℕ) (ts : List ℕ) (n : ℕ) → c ≡ MkTerm f ts → p .answer ≡ TermIs n → term (p .session .state .terms) n ≡ record { op = Term.Uninterpreted f; args = ts }
   pub made-eq : (t u n : ℕ) → c ≡ MkEq t u → p .answer ≡ TermIs n → term (p .session .state .terms) n ≡ record { op = Eq; args = t ∷ u ∷ [] }
 
@@ -110,9 +115,19 @@ good-ok s c p h a n I = record {
   sat = λ e. absurd (n (ap line-kind e));
   unknown = λ e. let w : _≡_ {A = ℕ} 0 2 = ap answer-kind (sym a ∙ e) in absurd (omega arith);
   ring = λ e. absurd (n (ap line-kind e));
+  reading = λ k e. let w : _≡_ {A = ℕ} 0 2 = ap answer-kind (sym a ∙ e) in absurd (omega arith);
   made = λ f ts k e q. let w : _≡_ {A = ℕ} 0 1 = ap answer-kind (sym a ∙ q) in absurd (omega arith);
   made-eq = λ t u k e q. let w : _≡_ {A = ℕ} 0 1 = ap answer-kind (sym a ∙ q) in absurd (omega arith);
 }
+
+-- where no question is answered no, the first is answered yes
+pub no-refusal : (q : Asked) (qs : List Asked) → first-no (q ∷ qs) ≡ none → T (q .yes) × (first-no qs ≡ none)
+unfolding first-no
+no-refusal q qs e = go (q .yes) refl e
+  where
+    go : (b : Bool) → q .yes ≡ b → cond b (first-no qs) (some (q .refusal)) ≡ none → T b × (first-no qs ≡ none)
+    go true w z = (tt, z)
+    go false w z = absurd (some-none (q .refusal) z)
 
 T-open : (b : Bool) → T b → b ≡ false → ⊥
 T-open b t e = subst T e t
@@ -304,6 +319,7 @@ number-good s h d o as′ I c k l z n B A f g = record {
   sat = λ e. absurd (n (ap line-kind e));
   unknown = λ e. let w : _≡_ {A = ℕ} 1 2 = ap answer-kind e in absurd (omega arith);
   ring = λ e. absurd (n (ap line-kind e));
+  reading = λ a e. let w : _≡_ {A = ℕ} 1 2 = ap answer-kind e in absurd (omega arith);
   made = λ x ts i e q. subst (λ (j : ℕ). term (m .context) j ≡ app (Term.Uninterpreted x) ts) (number-is i q) (M .made ∙ f x ts e);
   made-eq = λ t u i e q. subst (λ (j : ℕ). term (m .context) j ≡ app Eq (t ∷ u ∷ [])) (number-is i q) (M .made ∙ g t u e);
 }
@@ -360,6 +376,7 @@ full-good s h I c = record {
   sat = λ w e. let S = holds Rules.Sat e in (λ r. S .no-ring (ring-there out (Line.Check true ∷ h) J r), determined out (Line.Check true ∷ h) J (S .determined));
   unknown = λ e. undetermined out (Line.Check true ∷ h) J (holds Rules.Unknown e .undetermined);
   ring = λ e q. decided (full-check-decides (s .state) q);
+  reading = λ a e. has-reading (k .state .terms) (J .grounded c);
   made = λ f ts n e q. let w : _≡_ {A = ℕ} 2 1 = ap answer-kind q in absurd (omega arith);
   made-eq = λ t u n e q. let w : _≡_ {A = ℕ} 2 1 = ap answer-kind q in absurd (omega arith);
 }
@@ -389,6 +406,20 @@ full-good s h I c = record {
     decided (inl (r, (ls, e))) = inl (there-ring out (Line.Check true ∷ h) J r, (ls, ap Checked e))
     decided (inr (n, e)) = inr (λ r. n (ring-there out (Line.Check true ∷ h) J r), ap Checked e)
 
+-- a rule that answers is the answer
+pub check-rule : (s : Session) (a : TCheck) → before-ring (s .state) .answer ≡ some a → perform s (Line.Check true) .answer ≡ Checked a
+unfolding perform done Check.check Check.full-check Check.or-ring
+check-rule s a e = ap (λ (o : Option TCheck). Checked (Check.or-ring o (before-ring (s .state) .state) .answer)) e
+
+-- a full check leaves the state that the rules before the ring leave
+pub check-state : (s : Session) → perform s (Line.Check true) .session .state ≡ before-ring (s .state) .state
+unfolding perform done Check.check Check.full-check
+check-state s = go (before-ring (s .state) .answer)
+  where
+    go : (o : Option TCheck) → Check.or-ring o (before-ring (s .state) .state) .state ≡ before-ring (s .state) .state
+    go none = unfold Check.or-ring in refl
+    go (some a) = unfold Check.or-ring in refl
+
 -- Not full: sat, nothing done.
 pub idle-good : (s : Session) (h : History) → Inv s h → T (s .closed) → Good s (Line.Check false) (perform s (Line.Check false)) h
 unfolding perform done Check.check kind level level-after signature declared answer-kind check-kind
@@ -401,6 +432,7 @@ idle-good s h I c = record {
   sat = λ e. absurd (not-full e);
   unknown = λ e. let w : _≡_ {A = ℕ} 1 4 = ap check-kind e in absurd (omega arith);
   ring = λ e. absurd (not-full e);
+  reading = λ a e. has-reading (s .state .terms) (I .grounded c);
   made = λ f ts n e q. let w : _≡_ {A = ℕ} 2 1 = ap answer-kind q in absurd (omega arith);
   made-eq = λ t u n e q. let w : _≡_ {A = ℕ} 2 1 = ap answer-kind q in absurd (omega arith);
 }
@@ -486,7 +518,8 @@ record AssertWell (s : Session) (h : History) (l t : ℕ) (o : Records.Outcome) 
   entries : Entries (o .state .dt .level-record) (o .state .level) (Assert l ∷ h)
   refutes : (ls : List EqLeaf) → o .conflict ≡ some ls → T (Ids.is-positive l) × Refuted (s .state) (λ k u. (k ≡ l) × (u ≡ t)) ls
 
-module _ (s : Session) (h : History) (l : ℕ) (I : Inv s h) (v : T (Atom.is-registered (s .state .atoms) (Ids.var l))) where
+module _ (s : Session) (h : History) (l : ℕ) (I : Inv s h) (closed : T (s .closed))
+    (v : T (Atom.is-registered (s .state .atoms) (Ids.var l))) where
   atom-t : ℕ
   atom-t = Atom.atom (s .state .atoms) (Ids.var l)
 
@@ -563,6 +596,8 @@ module _ (s : Session) (h : History) (l : ℕ) (I : Inv s h) (v : T (Atom.is-reg
     sat = λ e. let w : _≡_ {A = ℕ} 10 13 = ap line-kind e in absurd (omega arith);
     unknown = λ e. absurd (never-unknown (o .conflict) e);
     ring = λ e. let w : _≡_ {A = ℕ} 10 13 = ap line-kind e in absurd (omega arith);
+    reading = λ a e. has-reading (o .state .terms) (subst⁻¹ (λ (z : Context). T (all-grounded z)) (W .noted .terms)
+        (I .grounded closed));
     made = λ f ts n e q. absurd (never-number (o .conflict) n q);
     made-eq = λ t u n e q. absurd (never-number (o .conflict) n q);
   }
@@ -586,3 +621,45 @@ module _ (s : Session) (h : History) (l : ℕ) (I : Inv s h) (v : T (Atom.is-reg
   pub assert-good : Good s (Assert l) (perform s (Assert l)) h
   unfolding perform
   assert-good = outcome-good (Records.assert (s .state) l) assert-well
+
+  -- ---- an assertion against its class
+
+  tester-says : (x : TesterApp) (d : CtorApp) → ctor-of-class (s .state) (x .arg) ≡ some d → (d .ctor ≡ x .ctor → ⊥) →
+      SaysConflict (conflict-or-ok (Records.tester-conflict (s .state) l x))
+  unfolding Records.tester-conflict Records.disagrees
+  tester-says x d e n =
+      subst⁻¹ (λ (o : Option CtorApp). SaysConflict (conflict-or-ok (Records.disagrees (s .state) l x o))) e
+      (go (eqb (d .ctor) (x .ctor)) refl)
+    where
+      go : (b : Bool) → eqb (d .ctor) (x .ctor) ≡ b →
+          SaysConflict (conflict-or-ok (cond b none (some (Records.tester-leaves (s .state) l (x .arg) d))))
+      go true w = absurd (n (eqb-true (d .ctor) (x .ctor) w))
+      go false w = unfold conflict-or-ok in (Records.tester-leaves (s .state) l (x .arg) d, refl)
+
+  -- it is said
+  pub assert-says : Before Against s h l → SaysConflict (perform s (Assert l) .answer)
+  unfolding perform done Records.assert atom-t
+  assert-says (a, c, x, p, at′, q, low, n) = go (Ids.is-positive l) refl
+    where
+      is-tester : tester-app (s .state .terms) atom-t ≡ some x
+      is-tester = ap (tester-app (s .state .terms)) (atom-one (s .state .terms) (s .state .atoms) h (I .named) l atom-t a at at′) ∙ q
+
+      apart : (d : CtorApp) → ctor-of-class (s .state) (x .arg) ≡ some d → d .app ≡ c → d .ctor ≡ x .ctor → ⊥
+      apart d e w z =
+          let C = ctor-app-is (s .state .terms) (d .app) d (class-ctor (s .state) (x .arg) d e .1) in
+          n (ap (λ (t : ℕ). term (s .state .terms) t .op) (sym w) ∙ C .op ∙ ap Term.Uninterpreted z)
+
+      tester : (o : Option TesterApp) → tester-app (s .state .terms) atom-t ≡ o →
+          SaysConflict (conflict-or-ok (Records.assert-tester (s .state) l o .conflict))
+      tester none e = absurd (none-some x (sym e ∙ is-tester))
+      tester (some y) e =
+          unfold Records.assert-tester in
+          let (d, f, w) = lowest-stands s h I (x .arg) c low in
+          subst⁻¹ (λ (z : TesterApp). SaysConflict (conflict-or-ok (Records.tester-conflict (s .state) l z)))
+          (some-is y x (sym e ∙ is-tester)) (tester-says x d f (apart d f w))
+
+      go : (b : Bool) → Ids.is-positive l ≡ b →
+          SaysConflict (conflict-or-ok (cond b (Records.assert-tester (s .state) l (tester-app (s .state .terms) atom-t))
+          (record { conflict = none; state = s .state }) .conflict))
+      go true e = tester (tester-app (s .state .terms) atom-t) refl
+      go false e = absurd (false-T (Ids.is-positive l) e p)

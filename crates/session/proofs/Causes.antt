@@ -1,6 +1,6 @@
 -- Why the solver answers so, in the claim's words: what a conflict comes from, which watched classes have an application.
 use Prim.Native.Nat.{ℕ}
-use mathlib.Core.Path.{_≡_, refl, sym, subst, subst⁻¹, _∙_}
+use mathlib.Core.Path.{_≡_, refl, sym, subst, subst⁻¹, ap, _∙_}
 use mathlib.Core.Logic.{inl, inr}
 use mathlib.Core.Bool.{Bool, false, not}
 use mathlib.Core.Option.{Option, none, some}
@@ -8,7 +8,7 @@ use lib.Dec.{T, eqb}
 use borrow.Author.Tests.{eqb-false}
 use Rattle.core.specs.Lists.{any}
 use Rattle.core.specs.Term as Term
-use Rattle.core.specs.Context.{CtorApp, ctor-app}
+use Rattle.core.specs.Context.{CtorApp, term, ctor-app, tester-app}
 use Rattle.core.proofs.Lists.{In, T-and, any-in}
 use Rattle.theory.proofs.Members.{in-any}
 use Rattle.solver.specs.State.{ctor-apps, ctor-of-class, watched-dt-terms, equal}
@@ -20,10 +20,12 @@ use Rattle.solver.proofs.Walk.{class-ctor, Stands}
 use Rattle.solver.proofs.Clash.{Against, Caused, ctor-in}
 use Rattle.session.specs.Session.{Session}
 use Rattle.session.specs.History.{History}
-use Rattle.session.specs.Claim.{MarkedCtor, Lowest, ConstructorClash, TesterClash, Cause, Determined, Undetermined}
+use Rattle.session.specs.Claim.{MarkedCtor, Lowest, ConstructorClash, TesterClash, Clash, Cause, Determined, Undetermined}
 use Rattle.session.proofs.Invariant.{Inv}
 use Rattle.session.proofs.Truth.{SaidNow}
-use Rattle.session.proofs.Rings.{there-some, in-marked, now, stands-lowest, lowest-stands, watched-in, in-watched, there-ring}
+use Rattle.solver.proofs.Clear.{Clear}
+use Rattle.session.proofs.Asserted.{Asserted}
+use Rattle.session.proofs.Rings.{there-some, in-marked, marked-ctor-in, now, stands-lowest, lowest-stands, watched-in, in-watched, there-ring}
 
 module _ (s : Session) (h : History) (I : Inv s h) where
   -- ---- watched classes
@@ -74,10 +76,44 @@ module _ (s : Session) (h : History) (I : Inv s h) where
   tester : (Said : ℕ → ℕ → Type 0) → SaidNow s h I Said → (k t : ℕ) → Said k t → Against (s .state) t → TesterClash (s .state .terms) (s .state .dt .marks) h
   tester Said S k t w (x, c, y, q, n) =
       let (force, at, positive) = S k t w in
-      let C = ctor-app-is (s .state .terms) (c .app) c (class-ctor (s .state) (x .arg) c q .1) in
-      (k, t, c .app, x, force, positive, at, y, stands-lowest s h I (x .arg) (c .app) (c, q, refl), λ o. n (op-is (c .ctor) (x .ctor) (sym (C .op) ∙ o)))
+      let C = ctor-app-is (s .state .terms) (c .app) c (class-ctor (s .state) (x .arg) c q .1) in (
+        k,
+        force,
+        (
+          t,
+          c .app,
+          x,
+          positive,
+          at,
+          y,
+          stands-lowest s h I (x .arg) (c .app) (c, q, refl),
+          λ o. n
+              (op-is (c .ctor) (x .ctor) (sym (C .op) ∙ o)),
+        ),
+      )
 
   pub cause-now : (Said : ℕ → ℕ → Type 0) → SaidNow s h I Said → Caused (s .state) Said → Cause (s .state .terms) (s .state .dt .marks) h
-  cause-now Said S (inl (p, q, i, j, t)) = inl (constructors p q i j t)
-  cause-now Said S (inr (inl (k, t, w, a))) = inr (inl (tester Said S k t w a))
-  cause-now Said S (inr (inr r)) = inr (inr (there-ring s h I r))
+  cause-now Said S (inl (p, q, i, j, t)) = inl (inl (constructors p q i j t))
+  cause-now Said S (inr (inl (k, t, w, a))) = inl (inr (tester Said S k t w a))
+  cause-now Said S (inr (inr r)) = inr (there-ring s h I r)
+
+  -- ---- no clash
+
+  app-op : (c : ℕ) (p : CtorApp) → p .app ≡ c → In p (ctor-apps (s .state)) → term (s .state .terms) c .op ≡
+      Term.Uninterpreted (p .ctor)
+  app-op c p e i = subst (λ (z : ℕ). term (s .state .terms) z .op ≡ Term.Uninterpreted (p .ctor)) e (ctor-in (s .state) p i .op)
+
+  -- where the definition finds no clash and every asserted tester is recorded, there is none
+  pub clear-now : Asserted (s .state .terms) (s .state .atoms) (s .state .dt .level-record) h → Clear (s .state) →
+      Clash (s .state .terms) (s .state .dt .marks) h → ⊥
+  clear-now A C (inl (c, d, m, n, e, o)) =
+      let (p, x, i) = marked-ctor-in s h I c m in
+      let (q, y, j) = marked-ctor-in s h I d n in
+      let t = subst⁻¹ (λ (z : ℕ). T (equal (s .state) z (q .app))) x (subst⁻¹ (λ (z : ℕ). T (equal (s .state) c z)) y
+      (now s h I c d .1 e)) in
+      o (app-op c p x i ∙ ap Term.Uninterpreted (C .constructors p q i j t) ∙ sym (app-op d q y j))
+  clear-now A C (inr (l, (v, i), (a, c, x, positive, at, q, (m, e, low), o))) =
+      let (p, y, j) = marked-ctor-in s h I c m in
+      let (w, k, n, u) = A .entry v l a x i positive at q in
+      let t = subst⁻¹ (λ (z : ℕ). T (equal (s .state) (x .arg) z)) y (now s h I (x .arg) c .1 e) in
+      o (app-op c p y j ∙ ap Term.Uninterpreted (C .testers w x p k (ap (tester-app (s .state .terms)) n ∙ q) j t))

@@ -16,30 +16,26 @@ use Rattle.core.specs.Context.{term, sort-of, symbol, is-datatype-sort}
 use Rattle.core.specs.Reading.{Reading}
 use Rattle.core.proofs.Lists.{In, T-and}
 use Rattle.core.proofs.Readings.{has-reading}
-use Rattle.solver.specs.State.{equal}
+use Rattle.solver.specs.State.{State, equal}
+use Rattle.solver.specs.Rules.{Sat}
 use Rattle.solver.specs.Check.{before-ring}
 use Rattle.solver.proofs.Basics.{some-is, some-none, mem-in, in-mem}
+use Rattle.solver.proofs.Clash.{Ready}
 use Rattle.session.specs.Line as Line
 use Rattle.session.specs.Line.{Command, DeclareSort, DeclareCtor, DeclareFun, Close, MkTerm, MkEq, Register, Equate, Cong, Iface, Assert, Push, Pop, read-line}
 use Rattle.session.specs.Answer.{Refusal, Unreadable, NoRoom, Answer, Ok, TermIs, Checked, Refused}
-use Rattle.session.specs.Session.{Session, empty-session, Performed, Asked, sort-exists, symbol-exists, term-exists, var-exists, atom-of, one-sort, argument-pairs, before-close, after-close, exist, agree, unregistered, equation, congruent, inhabited, questions, first-no, perform, fits, refused, if-fits, asked, answer-read, step}
-use Rattle.session.specs.History.{History, Makes, Accepted, EqualNow, extended, history-after}
-use Rattle.session.specs.Claim.{Collected, After, AtLine, Tied, ClaimFrom, Claim}
+use Rattle.session.specs.Session.{Session, empty-session, Performed, sort-exists, symbol-exists, term-exists, var-exists, atom-of, one-sort, argument-pairs, before-close, after-close, exist, agree, unregistered, equation, congruent, inhabited, questions, first-no, perform, fits, refused, if-fits, asked, answer-read, step}
+use Rattle.session.specs.History.{History, Makes, Accepted, EqualNow, extended, history-after, replay}
+use Rattle.session.specs.Claim.{Collected, Ring, Clash, Cause, After, SaysConflict, AtLine, Tied, ClaimFrom, Claim}
+use Rattle.session.specs.Memory.Sessions.{after, Reached}
 use Rattle.session.proofs.Invariant.{classes-agree, Inv}
 use Rattle.session.proofs.Steps.{empty-inv}
-use Rattle.session.proofs.Accepting.{answer-kind, Good, sort-good, ctor-good, fun-good, close-good, push-good, pop-good, register-good, term-good, eq-good, full-good, idle-good, assert-good}
-use Rattle.session.proofs.Tables.{perform-table, perform-marks, marks-back, check-marks, closed-by}
+use Rattle.session.proofs.Accepting.{answer-kind, Good, sort-good, ctor-good, fun-good, close-good, push-good, pop-good, register-good, term-good, eq-good, full-good, idle-good, assert-good, check-rule, check-state, no-refusal}
+use Rattle.session.proofs.Tables.{perform-table, perform-marks, marks-back, closed-by}
+use Rattle.session.proofs.Complete.{Complete, empty-complete, perform-complete, clash-said, assert-said, sat-clear, leaf-atom}
 use Rattle.session.proofs.Joins.{equate-good, cong-good, iface-good}
 
 -- ---- the questions answered yes
-
-no-refusal : (q : Asked) (qs : List Asked) → first-no (q ∷ qs) ≡ none → T (q .yes) × (first-no qs ≡ none)
-unfolding first-no
-no-refusal q qs e = go (q .yes) refl e
-  where
-    go : (b : Bool) → q .yes ≡ b → cond b (first-no qs) (some (q .refusal)) ≡ none → T b × (first-no qs ≡ none)
-    go true w z = (tt, z)
-    go false w z = absurd (some-none (q .refusal) z)
 
 -- an accepted line
 accept : (s : Session) (h : History) → Inv s h → (c : Command) → first-no (questions s c) ≡ none → Good s c (perform s c) h
@@ -81,7 +77,7 @@ accept s h I (Cong t u) e =
 accept s h I (Iface t u i g) e = iface-good s h t u i g I
 accept s h I (Assert l) e =
     let (a, e₁) = no-refusal (after-close s) (exist (var-exists s l) ∷ []) e in
-    assert-good s h l I (unfold var-exists in no-refusal (exist (var-exists s l)) [] e₁ .0)
+    assert-good s h l I a (unfold var-exists in no-refusal (exist (var-exists s l)) [] e₁ .0)
 accept s h I Push e = push-good s h I
 accept s h I (Pop k) e = pop-good s h k I
 accept s h I (Line.Check true) e = full-good s h I (no-refusal (after-close s) [] e .0)
@@ -93,73 +89,129 @@ session-classes : (s : Session) (h : History) → Inv s h → (x y : ℕ) → T 
 unfolding equal
 session-classes s h I x y = classes-agree (s .state .terms) (s .state .atoms) (s .state .eq) (s .state .level) h (I .named) (I .merged) x y
 
--- beside the invariant: an accepted `close` closes
-abbrev Closes : Session → History → Type 0
-Closes s h = Accepted h Close → T (s .closed)
+session-atom : (s : Session) (h : History) → Inv s h → (v t u : ℕ) → Accepted h (Register v t) → Accepted h (Register v u) → t ≡ u
+session-atom s h I v t u p q =
+    I .named .one (record { var = v; atom = t }) (record { var = v; atom = u }) (I .named .have v t p) (I .named .have v u q) refl
 
-session-reading : (s : Session) (h : History) → Inv s h → Closes s h → Accepted h Close → Reading (s .state .terms)
-session-reading s h I W a = has-reading (s .state .terms) (I .grounded (W a))
+-- what is kept from line to line
+record Kept (s : Session) (h : History) : Type 0 where
+  inv : Inv s h
+  complete : Complete s h
+  -- an accepted `close` closes
+  closes : Accepted h Close → T (s .closed)
+  -- the session is the one that the accepted lines leave
+  replayed : s ≡ replay h
+
+accepted-kept : (s : Session) (h : History) (c : Command) → Kept s h → first-no (questions s c) ≡ none → Inv (perform s c .session)
+    (c ∷ h) → Kept (perform s c .session) (c ∷ h)
+unfolding replay
+accepted-kept s h c K q J = record {
+  inv = J;
+  complete = perform-complete s h (K .inv) (K .complete) c q;
+  closes = closed-by s h c (K .closes);
+  replayed = ap (λ (x : Session). perform x c .session) (K .replayed);
+}
+
+session-reading : (s : Session) (h : History) → Kept s h → Accepted h Close → Reading (s .state .terms)
+session-reading s h K a = has-reading (s .state .terms) (K .inv .grounded (K .closes a))
 
 -- the claim of one line, and what it leaves
-pub record LineHolds (s : Session) (line : List ℕ) (p : Performed) (h′ : History) : Type 1 where
-  pub at : AtLine s line p h′
-  pub tied : Tied s line p h′
-  pub inv : Inv (p .session) h′
-  pub closes : Closes (p .session) h′
+record LineHolds (s : Session) (h : History) (line : List ℕ) (p : Performed) (h′ : History) : Type 1 where
+  at : AtLine s h line p h′
+  tied : Tied s h line p h′
+  kept : Kept (p .session) h′
 
-line-refused : (s : Session) (h : History) (line : List ℕ) (q : Refusal) → Inv s h → Closes s h → LineHolds s line (refused s q) h
+line-refused : (s : Session) (h : History) (line : List ℕ) (q : Refusal) → (read-line line ≡ none → q ≡ Unreadable) → Kept s h →
+    LineHolds s h line (refused s q) h
 unfolding refused answer-kind
-line-refused s h line q I W = record {
+line-refused s h line q u K = record {
   at = record {
     conflict = λ ls e. let w : _≡_ {A = ℕ} 3 2 = ap answer-kind e in absurd (omega arith);
     cause = λ ls e. let w : _≡_ {A = ℕ} 3 2 = ap answer-kind e in absurd (omega arith);
+    clash = λ e n k. absurd (n q refl);
+    assert-clash = λ l e n k. absurd (n q refl);
     lemma = λ as′ gs ps e. let w : _≡_ {A = ℕ} 3 2 = ap answer-kind e in absurd (omega arith);
     sat = λ e w. let z : _≡_ {A = ℕ} 3 2 = ap answer-kind w in absurd (omega arith);
     unknown = λ e. let w : _≡_ {A = ℕ} 3 2 = ap answer-kind e in absurd (omega arith);
     ring = λ e n b. absurd (n q refl);
+    rule = λ a e n b. absurd (n q refl);
+    reading = λ a e. let w : _≡_ {A = ℕ} 3 2 = ap answer-kind e in absurd (omega arith);
     refused = λ r e. refl;
+    unreadable = λ e. ap Refused (u e);
   };
   tied = record {
+    before = K .replayed;
+    after = K .replayed;
     table = λ c e n. absurd (n q refl);
-    formed = I .ready .formed;
+    formed = K .inv .ready .formed;
     marks-stay = λ t m. m;
     marks-from = λ t m. inl m;
     marks-made = λ e n. absurd (n q refl);
     made = λ f ts n e w. let z : _≡_ {A = ℕ} 3 1 = ap answer-kind w in absurd (omega arith);
     made-eq = λ t u n e w. let z : _≡_ {A = ℕ} 3 1 = ap answer-kind w in absurd (omega arith);
-    classes = session-classes s h I;
-    reading = session-reading s h I W;
+    one-atom = session-atom s h (K .inv);
+    leaf-atom = leaf-atom s h (K .inv) (K .complete);
+    classes = session-classes s h (K .inv);
+    reading = session-reading s h K;
   };
-  inv = I;
-  closes = W;
+  kept = K;
 }
 
-line-accepted : (s : Session) (h : History) (line : List ℕ) (c : Command) → Inv s h → Closes s h → read-line line ≡ some c → Good s c (perform s c) h → LineHolds s line (perform s c) (c ∷ h)
-line-accepted s h line c I W e G = record {
+line-accepted : (s : Session) (h : History) (line : List ℕ) (c : Command) → Kept s h → read-line line ≡ some c →
+    first-no (questions s c) ≡ none → Good s c (perform s c) h → LineHolds s h line (perform s c) (c ∷ h)
+line-accepted s h line c K e q G = record {
   at = record {
     conflict = G .conflict;
     cause = G .cause;
+    clash = λ w n k. subst⁻¹ (λ (x : Command). SaysConflict (perform s x .answer)) (is (Line.Check true) w)
+        (clash-said s h (K .inv) (K .complete) k);
+    assert-clash = λ l w n k. subst⁻¹ (λ (x : Command). first-no (questions s x) ≡ none → SaysConflict (perform s x .answer))
+        (is (Assert l) w)
+        (λ r. assert-said s h (K .inv) (K .complete) l r k) q;
     lemma = G .lemma;
-    sat = λ w q. G .sat (is (Line.Check true) w) q;
+    sat = λ w a. let (r, d) = G .sat (is (Line.Check true) w) a in (no-cause (is (Line.Check true) w) a r, d);
     unknown = G .unknown;
     ring = λ w n b. G .ring (is (Line.Check true) w) b;
-    refused = λ q w. absurd (G .spoken q w);
+    rule = λ a w n b. subst⁻¹ (λ (x : Command). perform s x .answer ≡ Checked a) (is (Line.Check true) w) (check-rule s a b);
+    reading = G .reading;
+    refused = λ r w. absurd (G .spoken r w);
+    unreadable = λ w. absurd (some-none c (sym e ∙ w));
   };
   tied = record {
-    table = λ d w n. subst (λ (x : Command). Makes x (s .state .terms) (perform s c .session .state .terms)) (is d w) (perform-table s c (I .ready));
+    before = K .replayed;
+    after = L .replayed;
+    table = λ d w n. subst (λ (x : Command). Makes x (s .state .terms) (perform s c .session .state .terms)) (is d w)
+        (perform-table s c (K .inv .ready));
     formed = G .inv .ready .formed;
-    marks-stay = λ t m. in-mem t (perform s c .session .state .dt .marks) (perform-marks s c (I .ready) t (mem-in t (s .state .dt .marks) m));
+    marks-stay = λ t m. in-mem t (perform s c .session .state .dt .marks) (perform-marks s c (K .inv .ready) t
+        (mem-in t (s .state .dt .marks) m));
     marks-from = λ t m. from t (marks-back s h c t (mem-in t (perform s c .session .state .dt .marks) m));
-    marks-made = λ w n. subst⁻¹ (λ (x : Command). perform s x .session .state .dt .marks ≡ before-ring (s .state) .state .dt .marks) (is (Line.Check true) w) (check-marks s);
-    made = λ f ts n w q. G .made f ts n (is (MkTerm f ts) w) q;
-    made-eq = λ t u n w q. G .made-eq t u n (is (MkEq t u) w) q;
+    marks-made = λ w n. subst⁻¹ (λ (x : Command). perform s x .session .state .dt .marks ≡ before-ring (s .state) .state .dt .marks)
+        (is (Line.Check true) w) (ap (λ (st : State). st .dt .marks) (check-state s));
+    made = λ f ts n w a. G .made f ts n (is (MkTerm f ts) w) a;
+    made-eq = λ t u n w a. G .made-eq t u n (is (MkEq t u) w) a;
+    one-atom = session-atom (perform s c .session) (c ∷ h) (G .inv);
+    leaf-atom = leaf-atom (perform s c .session) (c ∷ h) (G .inv) (L .complete);
     classes = session-classes (perform s c .session) (c ∷ h) (G .inv);
-    reading = session-reading (perform s c .session) (c ∷ h) (G .inv) (closed-by s h c W);
+    reading = session-reading (perform s c .session) (c ∷ h) L;
   };
-  inv = G .inv;
-  closes = closed-by s h c W;
+  kept = L;
 }
   where
+    L : Kept (perform s c .session) (c ∷ h)
+    L = accepted-kept s h c K q (G .inv)
+
+    no-clash : c ≡ Line.Check true → perform s c .answer ≡ Checked Sat → After Clash (perform s c) (c ∷ h) → ⊥
+    no-clash w =
+        subst⁻¹ (λ (x : Command). Inv (perform s x .session) (x ∷ h) → perform s x .answer ≡ Checked Sat →
+        After Clash (perform s x) (x ∷ h) → ⊥) w
+        (sat-clear s h (K .inv) (K .complete)) (G .inv)
+
+    no-cause : c ≡ Line.Check true → perform s c .answer ≡ Checked Sat → (After Ring (perform s c) (c ∷ h) → ⊥) →
+        After Cause (perform s c) (c ∷ h) → ⊥
+    no-cause w a r (inl k) = no-clash w a k
+    no-cause w a r (inr k) = r k
+
     is : (d : Command) → read-line line ≡ some d → c ≡ d
     is d w = some-is c d (sym e ∙ w)
 
@@ -178,33 +230,52 @@ remembered h c (Refused q) n = absurd (n q refl)
 
 -- ---- one line
 
-module _ (s : Session) (h : History) (I : Inv s h) (W : Closes s h) (line : List ℕ) where
-  line-fits : (c : Command) → read-line line ≡ some c → Good s c (perform s c) h → (b : Bool) → LineHolds s line (cond b (perform s c) (refused s NoRoom)) (extended h (some c) (cond b (perform s c) (refused s NoRoom) .answer))
+module _ (s : Session) (h : History) (K : Kept s h) (line : List ℕ) where
+  line-fits : (c : Command) → read-line line ≡ some c → first-no (questions s c) ≡ none → Good s c (perform s c) h → (b : Bool) →
+      LineHolds s h line (cond b (perform s c) (refused s NoRoom))
+      (extended h (some c) (cond b (perform s c) (refused s NoRoom) .answer))
   unfolding extended refused
-  line-fits c e G true = subst⁻¹ (LineHolds s line (perform s c)) (remembered h c (perform s c .answer) (G .spoken)) (line-accepted s h line c I W e G)
-  line-fits c e G false = line-refused s h line NoRoom I W
+  line-fits c e q G true = subst⁻¹ (LineHolds s h line (perform s c)) (remembered h c (perform s c .answer) (G .spoken))
+      (line-accepted s h line c K e q G)
+  line-fits c e q G false = line-refused s h line NoRoom (λ n. absurd (some-none c (sym e ∙ n))) K
 
-  line-asked : (c : Command) → read-line line ≡ some c → (f : Option Refusal) → first-no (questions s c) ≡ f → LineHolds s line (asked s c f) (extended h (some c) (asked s c f .answer))
+  line-asked : (c : Command) → read-line line ≡ some c → (f : Option Refusal) → first-no (questions s c) ≡ f → LineHolds s h line
+      (asked s c f) (extended h (some c) (asked s c f .answer))
   unfolding asked if-fits extended refused
-  line-asked c e none q = line-fits c e (accept s h I c q) (fits (perform s c .session .state))
-  line-asked c e (some r) q = line-refused s h line r I W
+  line-asked c e none q = line-fits c e q (accept s h (K .inv) c q) (fits (perform s c .session .state))
+  line-asked c e (some r) q = line-refused s h line r (λ n. absurd (some-none c (sym e ∙ n))) K
 
-  line-read : (o : Option Command) → read-line line ≡ o → LineHolds s line (answer-read s o) (extended h o (answer-read s o .answer))
+  line-read : (o : Option Command) → read-line line ≡ o → LineHolds s h line (answer-read s o) (extended h o (answer-read s o .answer))
   unfolding answer-read extended refused
-  line-read none e = line-refused s h line Unreadable I W
+  line-read none e = line-refused s h line Unreadable (λ n. refl) K
   line-read (some c) e = line-asked c e (first-no (questions s c)) refl
 
-  pub line-holds : LineHolds s line (step s line) (history-after h line (step s line .answer))
+  line-holds : LineHolds s h line (step s line) (history-after h line (step s line .answer))
   unfolding step history-after
   line-holds = line-read (read-line line) refl
 
 -- ---- all lines
 
-claim-from : (lines : List (List ℕ)) (s : Session) (h : History) → Inv s h → Closes s h → ClaimFrom s h lines
-claim-from [] s h I W = tt
-claim-from (line ∷ rest) s h I W =
-    let L = line-holds s h I W line in
-    (L .at, L .tied, claim-from rest (step s line .session) (history-after h line (step s line .answer)) (L .inv) (L .closes))
+empty-kept : Kept empty-session []
+unfolding replay
+empty-kept = record { inv = empty-inv; complete = empty-complete; closes = λ a. absurd a; replayed = refl }
+
+claim-from : (lines : List (List ℕ)) (s : Session) (h : History) → Kept s h → ClaimFrom s h lines
+claim-from [] s h K = tt
+claim-from (line ∷ rest) s h K =
+    let L = line-holds s h K line in
+    (L .at, L .tied, claim-from rest (step s line .session) (history-after h line (step s line .answer)) (L .kept))
 
 pub claim : (lines : List (List ℕ)) → Claim lines
-claim lines = claim-from lines empty-session [] empty-inv (λ a. absurd a)
+claim lines = claim-from lines empty-session [] empty-kept
+
+-- ---- sessions that lines lead to
+
+kept-after : (lines : List (List ℕ)) (s : Session) (h : History) → Kept s h → (h′ : History) × Kept (after s lines) h′
+unfolding after
+kept-after [] s h K = (h, K)
+kept-after (line ∷ rest) s h K =
+    kept-after rest (step s line .session) (history-after h line (step s line .answer)) (line-holds s h K line .kept)
+
+pub reached-ready : (s : Session) → Reached s → Ready (s .state)
+reached-ready s (lines, e) = subst (λ (x : Session). Ready (x .state)) e (kept-after lines empty-session [] empty-kept .1 .inv .ready)

@@ -1,8 +1,10 @@
--- Laws of sessions. Forces: lines in force; Invariant: what ties a session to its accepted lines; Truth: merges in a reading;
--- Rings: the claim's ring is the walk's; Causes: why the solver answers so; Steps: the invariant kept; Accepting and Joins: what each kind of accepted line owes the
--- claim; Tables: what each line makes of the table of terms and of the marks; Claim: demand 3.
+-- Laws of sessions. Forces: lines in force; Invariant: what ties a session to its accepted lines; Asserted: asserted testers and the
+-- level record; Truth: merges in a reading; Rings: the claim's ring is the walk's; Causes: why the solver answers so; Steps: the invariant
+-- kept; Accepting and Joins: what each kind of accepted line owes the claim; Tables: what each line makes of the table of terms and of the
+-- marks; Complete: the level record and the marks kept; Claim: demand 3; RunClaim: demand 3 about the run.
 pub mod Forces
 pub mod Invariant
+pub mod Asserted
 pub mod Truth
 pub mod Rings
 pub mod Causes
@@ -10,4 +12,8 @@ pub mod Steps
 pub mod Accepting
 pub mod Joins
 pub mod Tables
+pub mod Complete
 pub mod Claim
+pub mod RunClaim
+-- Memory: lemmas about the lent tables.
+pub mod Memory

@@ -68,7 +68,7 @@ module _ (s : Session) (h : History) (I : Inv s h) where
   unfolding equal
   now x y = classes-agree (s .state .terms) (s .state .atoms) (s .state .eq) (s .state .level) h (I .named) (I .merged) x y
 
-  marked-ctor-in : (c : ℕ) → MarkedCtor (s .state .terms) (s .state .dt .marks) h c → (d : CtorApp) × (d .app ≡ c) × In d (ctor-apps (s .state))
+  pub marked-ctor-in : (c : ℕ) → MarkedCtor (s .state .terms) (s .state .dt .marks) h c → (d : CtorApp) × (d .app ≡ c) × In d (ctor-apps (s .state))
   unfolding ctor-apps
   marked-ctor-in c (m, t) =
       let (d, e) = some-there (ctor-app (s .state .terms) c) t in

@@ -16,7 +16,6 @@ use Rattle.theory.specs.Atom as Atom
 use Rattle.theory.specs.EqEngine.{pop-merges}
 use Rattle.solver.specs.State.{State, with-terms, with-eq, with-atoms, with-level, with-level-record, with-lasting, with-marks, with-dt}
 use Rattle.solver.specs.Records as Records
-use Rattle.solver.specs.Rules.{TCheck}
 use Rattle.solver.specs.Check as Check
 use Rattle.solver.proofs.Collection.{Beneath, new-var-marks}
 use Rattle.solver.proofs.Clash.{Ready}
@@ -138,15 +137,6 @@ marks-back s h Push t i = inl i
 marks-back s h (Pop k) t i = inl (same-marks-back (s .state) (pop-to (s .state) k) (pop-same (s .state) k) t i)
 marks-back s h (Line.Check true) t i = inr (inr refl)
 marks-back s h (Line.Check false) t i = inl i
-
--- a full check leaves the marks that the rules before the ring leave
-pub check-marks : (s : Session) → perform s (Line.Check true) .session .state .dt .marks ≡ Check.before-ring (s .state) .state .dt .marks
-unfolding perform done Check.check Check.full-check
-check-marks s = go (Check.before-ring (s .state) .answer)
-  where
-    go : (o : Option TCheck) → Check.or-ring o (Check.before-ring (s .state) .state) .state .dt .marks ≡ Check.before-ring (s .state) .state .dt .marks
-    go none = unfold Check.or-ring in refl
-    go (some a) = unfold Check.or-ring in refl
 
 -- ---- closed
 

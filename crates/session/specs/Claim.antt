@@ -1,6 +1,7 @@
 -- Demand 3: the claim over whole scripts, stated. For every list of lines from an empty session, unreadable and refused ones
 -- included, at each answer: each cited leaf is in force; a conflict's leaves are true together in no reading by finite trees;
--- each lemma is true in all readings; a conflict has a cause; when a full check says sat or unknown; the ring clause.
+-- each lemma is true in all readings; a conflict has a cause, and a clash is said; when a full check says sat or unknown; the ring
+-- clause. The session is at each line the one that the accepted lines leave.
 use Prim.Native.Nat.{ℕ, zero, suc, _≤_}
 use mathlib.Core.Path.{_≡_}
 use mathlib.Core.Logic.{_≢_, _⊎_, _↔_}
@@ -14,17 +15,17 @@ use Rattle.core.specs.Term.{Eq, Uninterpreted}
 use Rattle.core.specs.Context.{Context, TesterApp, term, ctor-app, tester-app, is-datatype-sort, sort-of, children}
 use Rattle.core.specs.Formed.{Formed, Beneath}
 use Rattle.core.specs.Reading.{Reading}
-use Rattle.theory.specs.Types.{EqLeaf}
+use Rattle.theory.specs.Types.{EqLeaf, AssertedLeaf}
 use Rattle.solver.specs.State.{equal}
 use Rattle.solver.specs.Records.{is-some, relevant}
 use Rattle.solver.specs.Rules as Rules
-use Rattle.solver.specs.Rules.{Phase, Conflict, Split}
+use Rattle.solver.specs.Rules.{Phase, TCheck, Conflict, Split}
 use Rattle.solver.specs.Check.{before-ring}
 use Rattle.session.specs.Line as Line
 use Rattle.session.specs.Line.{Command, read-line}
-use Rattle.session.specs.Answer.{Refusal, Answer, TermIs, Checked, Refused}
+use Rattle.session.specs.Answer.{Refusal, Unreadable, Answer, TermIs, Checked, Refused}
 use Rattle.session.specs.Session.{Session, empty-session, Performed, step}
-use Rattle.session.specs.History.{History, Makes, Accepted, HoldsNow, LeafInForce, IsAtom, EqualNow, AllTrue, LemmaTrue, history-after}
+use Rattle.session.specs.History.{History, Makes, Accepted, HoldsNow, LeafInForce, IsAtom, EqualNow, AllTrue, LemmaTrue, history-after, replay}
 
 -- ---- conflicts and lemmas
 
@@ -83,15 +84,22 @@ module _ (cx : Context) (marks : List ℕ) (h : History) where
   abbrev pub ConstructorClash : Type 0
   ConstructorClash = (c d : ℕ) × MarkedCtor c × MarkedCtor d × EqualNow cx h c d × (term cx c .op ≢ term cx d .op)
 
+  -- a positive tester literal whose term's class has a lowest marked application of another constructor
+  abbrev pub Against : ℕ → Type 0
+  Against l =
+      (a c : ℕ) × (x : TesterApp) × T (is-positive l) × IsAtom h l a × (tester-app cx a ≡ some x)
+      × Lowest (x .arg) c × (term cx c .op ≢ Uninterpreted (x .ctor))
+
   -- 01: an asserted tester whose term's class has a lowest marked application of another constructor
   abbrev pub TesterClash : Type 0
-  TesterClash =
-      (l a c : ℕ) × (x : TesterApp) × HoldsNow h (Line.Assert l) × T (is-positive l) × IsAtom h l a × (tester-app cx a ≡ some x)
-      × Lowest (x .arg) c × (term cx c .op ≢ Uninterpreted (x .ctor))
+  TesterClash = (l : ℕ) × HoldsNow h (Line.Assert l) × Against l
+
+  abbrev pub Clash : Type 0
+  Clash = ConstructorClash ⊎ TesterClash
 
   -- what a conflict comes from
   abbrev pub Cause : Type 0
-  Cause = ConstructorClash ⊎ (TesterClash ⊎ Ring)
+  Cause = Clash ⊎ Ring
 
   -- each watched class has a marked constructor application, or one has none
   abbrev pub Determined : Type 0
@@ -100,7 +108,10 @@ module _ (cx : Context) (marks : List ℕ) (h : History) where
   abbrev pub Undetermined : Type 0
   Undetermined = (t : ℕ) × Watched t × ((c : ℕ) → Lowest t c → ⊥)
 
--- such a notion of the table and the marks that a line leaves
+-- such a notion of the table and the marks that a line finds, and of those that it leaves
+abbrev pub Before : {A : Type 1} → (Context → List ℕ → History → A) → Session → History → A
+Before N s h = N (s .state .terms) (s .state .dt .marks) h
+
 abbrev pub After : {A : Type 1} → (Context → List ℕ → History → A) → Performed → History → A
 After N p h = N (p .session .state .terms) (p .session .state .dt .marks) h
 
@@ -112,36 +123,59 @@ SaysConflict a = (ls : List EqLeaf) × (a ≡ Checked (Conflict ls))
 
 -- ---- the claim
 
--- what is claimed of one line: s is the session before it, p what it does, h′ the history after it
-pub record AtLine (s : Session) (line : List ℕ) (p : Performed) (h′ : History) : Type 1 where
+-- what is claimed of one line: s and h are the session and the history before it, p what it does, h′ the history after it
+pub record AtLine (s : Session) (h : History) (line : List ℕ) (p : Performed) (h′ : History) : Type 1 where
   -- each cited leaf is in force, a conflict's leaves are true together in no reading, and a conflict is not empty
-  pub conflict : (ls : List EqLeaf) → p .answer ≡ Checked (Conflict ls) → AllInForce h′ ls × Impossible (p .session .state .terms) h′ ls × (ls ≢ [])
+  pub conflict : (ls : List EqLeaf) → p .answer ≡ Checked (Conflict ls) →
+      AllInForce h′ ls × Impossible (p .session .state .terms) h′ ls × (ls ≢ [])
   -- a conflict has a cause: a constructor clash, a tester clash or a ring
   pub cause : (ls : List EqLeaf) → p .answer ≡ Checked (Conflict ls) → After Cause p h′
+  -- an accepted full check that finds a constructor clash or a tester clash says conflict, and so does an `assert` of such a tester
+  pub clash : read-line line ≡ some (Line.Check true) → NotRefused (p .answer) → Before Clash s h → SaysConflict (p .answer)
+  pub assert-clash : (l : ℕ) → read-line line ≡ some (Line.Assert l) → NotRefused (p .answer) → Before Against s h l →
+      SaysConflict (p .answer)
   -- each lemma is true in all readings
-  pub lemma : (atoms guards : List ℕ) (phases : List Phase) → p .answer ≡ Checked (Split atoms guards phases) → Valid (p .session .state .terms) h′ atoms guards
-  -- a full check says sat only if there is no ring and each watched class has a marked constructor application
-  pub sat : read-line line ≡ some (Line.Check true) → p .answer ≡ Checked Rules.Sat → (After Ring p h′ → ⊥) × After Determined p h′
+  pub lemma : (atoms guards : List ℕ) (phases : List Phase) → p .answer ≡ Checked (Split atoms guards phases) →
+      Valid (p .session .state .terms) h′ atoms guards
+  -- a full check says sat only if there is no clash and no ring, and each watched class has a marked constructor application
+  pub sat : read-line line ≡ some (Line.Check true) → p .answer ≡ Checked Rules.Sat → (After Cause p h′ → ⊥) × After Determined p h′
   -- unknown is said only if a watched class has none
   pub unknown : p .answer ≡ Checked Rules.Unknown → After Undetermined p h′
   -- an accepted full check in which no rule before the ring answers says conflict exactly when there is a ring, else sat
-  pub ring : read-line line ≡ some (Line.Check true) → NotRefused (p .answer) → before-ring (s .state) .answer ≡ none → (After Ring p h′ × SaysConflict (p .answer)) ⊎ ((After Ring p h′ → ⊥) × (p .answer ≡ Checked Rules.Sat))
-  -- a refused line leaves the session as it was
+  pub ring : read-line line ≡ some (Line.Check true) → NotRefused (p .answer) → before-ring (s .state) .answer ≡ none →
+      (After Ring p h′ × SaysConflict (p .answer)) ⊎ ((After Ring p h′ → ⊥) × (p .answer ≡ Checked Rules.Sat))
+  -- where a rule before the ring answers, an accepted full check says just that
+  pub rule : (a : TCheck) → read-line line ≡ some (Line.Check true) → NotRefused (p .answer) → before-ring (s .state) .answer ≡ some a →
+      p .answer ≡ Checked a
+  -- a conflict, a lemma, sat or unknown is said only where there is a reading
+  pub reading : (a : TCheck) → p .answer ≡ Checked a → Reading (p .session .state .terms)
+  -- a refused line leaves the session as it was, and an unreadable line is refused
   pub refused : (q : Refusal) → p .answer ≡ Refused q → p .session ≡ s
+  pub unreadable : read-line line ≡ none → p .answer ≡ Refused Unreadable
 
 -- what ties the words of the claim to the lines
-pub record Tied (s : Session) (line : List ℕ) (p : Performed) (h′ : History) : Type 1 where
+pub record Tied (s : Session) (h : History) (line : List ℕ) (p : Performed) (h′ : History) : Type 1 where
+  -- 01: the lines alone decide all this: each session is the one that its accepted lines leave
+  pub before : s ≡ replay h
+  pub after : p .session ≡ replay h′
   -- what the line makes of the table, in which each term is well formed
   pub table : (c : Command) → read-line line ≡ some c → NotRefused (p .answer) → Makes c (s .state .terms) (p .session .state .terms)
   pub formed : Formed (p .session .state .terms)
   -- marks are never taken back; a mark is an older one, one of Collection, or one of a full check; and after a full check they are
   -- those that the rules before the ring leave
   pub marks-stay : (t : ℕ) → T (mem t (s .state .dt .marks)) → T (mem t (p .session .state .dt .marks))
-  pub marks-from : (t : ℕ) → T (mem t (p .session .state .dt .marks)) → T (mem t (s .state .dt .marks)) ⊎ (After Collected p h′ t ⊎ (read-line line ≡ some (Line.Check true)))
-  pub marks-made : read-line line ≡ some (Line.Check true) → NotRefused (p .answer) → p .session .state .dt .marks ≡ before-ring (s .state) .state .dt .marks
+  pub marks-from : (t : ℕ) → T (mem t (p .session .state .dt .marks)) →
+      T (mem t (s .state .dt .marks)) ⊎ (After Collected p h′ t ⊎ (read-line line ≡ some (Line.Check true)))
+  pub marks-made : read-line line ≡ some (Line.Check true) → NotRefused (p .answer) →
+      p .session .state .dt .marks ≡ before-ring (s .state) .state .dt .marks
   -- the number that a `term` or `eq` line is answered is that of the term it names
-  pub made : (f : ℕ) (ts : List ℕ) (n : ℕ) → read-line line ≡ some (Line.MkTerm f ts) → p .answer ≡ TermIs n → term (p .session .state .terms) n ≡ record { op = Uninterpreted f; args = ts }
-  pub made-eq : (t u n : ℕ) → read-line line ≡ some (Line.MkEq t u) → p .answer ≡ TermIs n → term (p .session .state .terms) n ≡ record { op = Eq; args = t ∷ u ∷ [] }
+  pub made : (f : ℕ) (ts : List ℕ) (n : ℕ) → read-line line ≡ some (Line.MkTerm f ts) → p .answer ≡ TermIs n →
+      term (p .session .state .terms) n ≡ record { op = Uninterpreted f; args = ts }
+  pub made-eq : (t u n : ℕ) → read-line line ≡ some (Line.MkEq t u) → p .answer ≡ TermIs n →
+      term (p .session .state .terms) n ≡ record { op = Eq; args = t ∷ u ∷ [] }
+  -- a variable is registered for one atom, and the literal of a leaf in force has an atom
+  pub one-atom : (v t u : ℕ) → Accepted h′ (Line.Register v t) → Accepted h′ (Line.Register v u) → t ≡ u
+  pub leaf-atom : (l : ℕ) → LeafInForce h′ (AssertedLeaf l) → (t : ℕ) × IsAtom h′ l t
   -- the session's classes are exactly equal now, by the lines in force
   pub classes : (x y : ℕ) → T (equal (p .session .state) x y) ↔ EqualNow (p .session .state .terms) h′ x y
   -- once a `close` is accepted there is a reading, so that nothing is claimed of an empty class of readings
@@ -150,8 +184,8 @@ pub record Tied (s : Session) (line : List ℕ) (p : Performed) (h′ : History)
 abbrev pub ClaimFrom : Session → History → List (List ℕ) → Type 1
 ClaimFrom s h [] = Unit {1}
 ClaimFrom s h (line ∷ rest) =
-    AtLine s line (step s line) (history-after h line (step s line .answer))
-    × Tied s line (step s line) (history-after h line (step s line .answer))
+    AtLine s h line (step s line) (history-after h line (step s line .answer))
+    × Tied s h line (step s line) (history-after h line (step s line .answer))
     × ClaimFrom (step s line .session) (history-after h line (step s line .answer)) rest
 
 -- for every list of lines, each working on the session that the line before left

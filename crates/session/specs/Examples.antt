@@ -145,3 +145,17 @@ refusals = record {
 pub first-no-decides : T (holds refusals)
 unfolding definitions gives holds refusals
 first-no-decides = tt
+
+-- an idle `pop` is accepted: at or above the level count it changes nothing
+pub idle-pops : Example
+idle-pops = record {
+  script = "sort=d\nctor=1\nclose=1\npop=0\npush=1\npop=1\npop=7\n";
+  answers = "ok=1\nok=1\nok=1\nok=1\nok=1\nok=1\nok=1\n";
+  result = 0;
+  lines = 7;
+  bytes-written = 35;
+}
+
+pub idle-pops-accepted : T (holds idle-pops)
+unfolding definitions gives holds idle-pops
+idle-pops-accepted = tt

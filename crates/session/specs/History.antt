@@ -14,6 +14,7 @@ use Rattle.core.specs.Reading.{Reading, truth, value}
 use Rattle.theory.specs.Types.{EqLeaf, AssertedLeaf, InterfaceLeaf}
 use Rattle.session.specs.Line.{Command, DeclareSort, DeclareCtor, DeclareFun, Close, MkTerm, MkEq, Register, Equate, Cong, Iface, Assert, Push, Pop, Check, read-line}
 use Rattle.session.specs.Answer.{Answer, Ok, TermIs, Checked, Refused}
+use Rattle.session.specs.Session.{Session, empty-session, perform}
 
 abbrev pub History : Type 0
 History = List Command
@@ -145,3 +146,10 @@ extended h (some c) (Refused q) = h
 
 unfoldable pub history-after : History → List ℕ → Answer → History
 history-after h line a = extended h (read-line line) a
+
+-- ---- the session that a history leaves
+
+-- the accepted lines performed one after another, from an empty session
+unfoldable pub replay : History → Session
+replay [] = empty-session
+replay (c ∷ h) = perform (replay h) c .session

@@ -33,8 +33,9 @@ pub record Ran : Type 0 where
   pub answered : ℕ
   pub written : List ℕ
 
-unfoldable pub unstarted : Ending → Ran
-unstarted e = record { ending = e; answered = 0; written = [] }
+-- a run that answers no line, or no further one
+unfoldable pub answers-none : Ending → Ran
+answers-none e = record { ending = e; answered = 0; written = [] }
 
 unfoldable pub one-more : List ℕ → Ran → Ran
 one-more text r = record { ending = r .ending; answered = suc (r .answered); written = text ++ r .written }
@@ -49,7 +50,7 @@ run-lines room s (l ∷ ls) =
     let p = step s l in
     let text = answer-line p in
     let rest = one-more text (run-lines (room - length text) (p .session) ls) in
-    cond (leb (length text) room) rest (unstarted Full)
+    cond (leb (length text) room) rest (answers-none Full)
 
 -- 1. Are the three work tables 16,384 words of 32 bits each, or more?
 unfoldable pub tables-suffice : Sizes → Bool
@@ -59,7 +60,7 @@ tables-suffice z = leb table-words (z .core) && leb table-words (z .theory) && l
 unfoldable pub run : Sizes → List ℕ → Ran
 run z script =
     let started = run-lines (z .output) empty-session (lines script) in
-    cond (tables-suffice z) (cond (leb (length script) max-script) started (unstarted LongScript)) (unstarted ShortTable)
+    cond (tables-suffice z) (cond (leb (length script) max-script) started (answers-none LongScript)) (answers-none ShortTable)
 
 -- ---- what lent memory holds afterwards
 
@@ -88,5 +89,5 @@ unfoldable pub output : List ℕ → List ℕ
 output script = run program-sizes script .written
 
 unfoldable pub run-definitions : Unit {0}
-unfolding result-number unstarted one-more answer-line run-lines tables-suffice run output-after zeros table-after program-sizes output
+unfolding result-number answers-none one-more answer-line run-lines tables-suffice run output-after zeros table-after program-sizes output
 run-definitions = tt

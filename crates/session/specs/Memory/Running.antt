@@ -1,0 +1,82 @@
+-- What the functions of the run promise one another.
+use Prim.Native.Nat.{ℕ, _≤_}
+use mathlib.Core.Path.{_≡_}
+use mathlib.Core.Bool.{false}
+use mathlib.Core.List.{List, []}
+use lib.ListN.{length, take}
+use Rattle.core.specs.Limits.{table-words, max-script}
+use Rattle.core.specs.Context.{empty-context}
+use Rattle.core.specs.Memory.Table.{context, ContextSound}
+use Rattle.theory.specs.Memory.Table.{Engine}
+use Rattle.solver.specs.Memory.Recording.{SolverCleared}
+use Rattle.session.specs.Text.{lines}
+use Rattle.session.specs.Session.{Performed, empty-session, step}
+use Rattle.session.specs.Run.{answer-line, run-lines, zeros}
+use Rattle.session.specs.Promise.{Gives}
+use Rattle.session.specs.Memory.Sessions.{session, Reached, SessionSound}
+use Rattle.session.specs.declared.session.Session.{Session}
+use Rattle.session.specs.declared.run.Answered.{Answered}
+use Rattle.session.specs.declared.run.Ran.{Ran}
+
+-- ---- an empty session
+
+-- question 1 was answered yes
+pub record TablesLong (c e s : List ℕ) : Type 0 where
+  pub core : table-words ≤ length c
+  pub theory : table-words ≤ length e
+  pub solver : table-words ≤ length s
+
+-- the tables of an empty session
+pub record EmptyTables (c e s : List ℕ) : Type 0 where
+  pub core : ContextSound c
+  pub no-terms : context c ≡ empty-context
+  pub engine : Engine e [] 0
+  pub solver : SolverCleared s
+
+-- what an empty session keeps beside them
+pub record EmptySession (m : Session) : Type 0 where
+  pub levels : m .marks .levels ≡ 0
+  pub closed : m .closed ≡ false
+
+-- ---- the lines
+
+-- a session that lines lead to, in tables that fit together: the next line may be answered
+pub record Answerable (c e s : List ℕ) (m : Session) : Type 0 where
+  pub sound : SessionSound c e s m
+  pub reached : Reached (session c e s m)
+
+-- It was: r, the tables and the text show what the definition's step p gives, the session after the line and its answer line.
+pub record AnsweredBy (p : Performed) (r : Answered) (c e s text : List ℕ) : Type 0 where
+  pub answerable : Answerable c e s (r .session)
+  pub after : p .session ≡ session c e s (r .session)
+  pub line : take (r .length) text ≡ answer-line p
+  pub long : r .length ≤ length text
+
+abbrev pub AnswersLine : List ℕ → List ℕ → List ℕ → List ℕ → Session → Answered → List ℕ → List ℕ → List ℕ → List ℕ → Type 0
+AnswersLine line c e s m r c′ e′ s′ text = AnsweredBy (step (session c e s m) line) r c′ e′ s′ text
+
+-- the lines of a script may be answered, from the first on
+pub record MayRun (script c e s : List ℕ) : Type 0 where
+  pub short : length script ≤ max-script
+  pub tables : EmptyTables c e s
+
+-- they were, until one's answer line did not fit the output left
+abbrev pub RunsLines : List ℕ → List ℕ → Ran → List ℕ → Type 0
+RunsLines script o r o′ = Gives (run-lines (length o) empty-session (lines script)) r o o′
+
+-- ---- the run
+
+-- questions 1 and 2 were answered yes
+pub record MayStart (script c e s : List ℕ) : Type 0 where
+  pub short : length script ≤ max-script
+  pub tables : TablesLong c e s
+
+-- every word of the three tables is 0 at exit
+pub record Zeroed (c e s c′ e′ s′ : List ℕ) : Type 0 where
+  pub core : c′ ≡ zeros c
+  pub theory : e′ ≡ zeros e
+  pub solver : s′ ≡ zeros s
+
+pub record RunsStarted (script c e s o : List ℕ) (r : Ran) (c′ e′ s′ o′ : List ℕ) : Type 0 where
+  pub result : RunsLines script o r o′
+  pub zeroed : Zeroed c e s c′ e′ s′

@@ -1,0 +1,216 @@
+// The run: questions 1, 2 and 12, the counts, and what lent memory holds at the end (specs/Run.antt, specs/Promise.antt).
+use crate::answer::write_answer;
+use crate::reader::line_end;
+use crate::session::Session;
+use crate::session::step;
+use crate::text::write_text;
+use core::context as context;
+use solver::levels::TesterMarks;
+use solver::records as records;
+use theory::eq_engine as engine;
+ghost use mathlib.Core.Path.{_≡_};
+ghost use Rattle.session.specs.Run.{result-number, zeros};
+ghost use Rattle.session.specs.Promise.{ending-meaning, Runs};
+ghost use Rattle.session.specs.Memory.Running.{TablesLong, EmptyTables, EmptySession, Answerable, AnswersLine, MayRun, RunsLines, MayStart, Zeroed, RunsStarted};
+
+// How a run ends.
+pub enum Ending {
+    Complete,
+    ShortTable,
+    LongScript,
+    Full,
+}
+
+// How a run ended, how many lines it answered, and how many bytes it wrote.
+pub struct Ran {
+    pub ending: Ending,
+    pub answered: usize,
+    pub written: usize,
+}
+
+// The session after a line, and how many bytes its answer line has.
+struct Answered {
+    session: Session,
+    length: usize,
+}
+
+// Words of a work table, or more.
+const TABLE_WORDS: usize = 16384;
+
+const MAX_SCRIPT: usize = 65536;
+
+const MAX_NUMBERS: usize = 17;
+
+// Words of an answer table.
+const ANSWER_SIZE: usize = 2049;
+
+// No answer line is longer.
+const MAX_LINE: usize = 18441;
+
+impl Ending {
+    // The number of the question that was answered no, or 0.
+    pub fn number(self) -> u32
+        ensures { λ n. ⌜ n ≡ result-number (ending-meaning self) ⌝ }
+    {
+        match self {
+            Ending::Complete => 0,
+            Ending::ShortTable => 1,
+            Ending::LongScript => 2,
+            Ending::Full => 12,
+        }
+    }
+}
+
+// ---- the lines
+
+fn empty_session() -> Session
+    ensures { λ m. ⌜ EmptySession m ⌝ }
+{
+    Session {
+        marks: TesterMarks {
+            levels: 0,
+            counts: [0u32; 64],
+        },
+        closed: false,
+    }
+}
+
+// Answers a line; its answer line, with the LF, stands at the start of `text`.
+fn answer_line(
+    c: &mut [u32],
+    e: &mut [u32],
+    s: &mut [u32],
+    m: Session,
+    line: &[u8],
+    numbers: &mut [u32; MAX_NUMBERS],
+    answer: &mut [u32; ANSWER_SIZE],
+    text: &mut [u8; MAX_LINE],
+) -> Answered
+    requires { ⌜ Answerable (now c) (now e) (now s) m ⌝ }
+    ensures { λ r. ⌜ AnswersLine (now (line .entry)) (now (c .entry)) (now (e .entry)) (now (s .entry)) m r (now (c .exit))
+        (now (e .exit)) (now (s .exit)) (now (text .exit)) ⌝ }
+{
+    let r = step(c, e, s, m, line, numbers, answer);
+    let a = r.answer;
+    let length = write_answer(a, answer, text);
+    let session = r.session;
+    Answered { session, length }
+}
+
+// An answer line goes to `text` first: the output gets it only if it fits whole.
+fn run_lines(script: &[u8], c: &mut [u32], e: &mut [u32], s: &mut [u32], output: &mut [u8]) -> Ran
+    requires { ⌜ MayRun (now script) (now c) (now e) (now s) ⌝ }
+    ensures { λ r. ⌜ RunsLines (now (script .entry)) (now (output .entry)) r (now (output .exit)) ⌝ }
+{
+    let mut numbers = [0u32; MAX_NUMBERS];
+    let mut answer = [0u32; ANSWER_SIZE];
+    let mut text = [0u8; MAX_LINE];
+    let mut m = empty_session();
+    let mut at = 0;
+    let mut answered = 0;
+    let mut written = 0;
+    while at < script.len() {
+        let end = line_end(script, at);
+        let r = answer_line(
+            c,
+            e,
+            s,
+            m,
+            &script[at..end],
+            &mut numbers,
+            &mut answer,
+            &mut text,
+        );
+        let n = r.length;
+        if n > output.len() - written {
+            return Ran {
+                ending: Ending::Full,
+                answered,
+                written,
+            };
+        }
+        written = write_text(output, written, &text[..n]);
+        answered += 1;
+        let next = r.session;
+        m = next;
+        at = end + 1;
+    }
+    Ran {
+        ending: Ending::Complete,
+        answered,
+        written,
+    }
+}
+
+// ---- lent memory
+
+// Whatever the tables held, they are now those of an empty session.
+fn clear_all(c: &mut [u32], e: &mut [u32], s: &mut [u32])
+    requires { ⌜ TablesLong (now c) (now e) (now s) ⌝ }
+    ensures { λ _. ⌜ EmptyTables (now (c .exit)) (now (e .exit)) (now (s .exit)) ⌝ }
+{
+    context::clear(c);
+    engine::clear(e);
+    records::clear(s);
+}
+
+fn zero(t: &mut [u32])
+    ensures { λ _. ⌜ now (t .exit) ≡ zeros (now (t .entry)) ⌝ }
+{
+    let mut i = 0;
+    while i < t.len() {
+        t[i] = 0;
+        i += 1;
+    }
+}
+
+// The work tables are all zero at the end, also the words that no session uses.
+fn zero_all(c: &mut [u32], e: &mut [u32], s: &mut [u32])
+    ensures { λ _. ⌜ Zeroed (now (c .entry)) (now (e .entry)) (now (s .entry)) (now (c .exit)) (now (e .exit)) (now (s .exit)) ⌝ }
+{
+    zero(c);
+    zero(e);
+    zero(s);
+}
+
+// ---- the run
+
+// Once 1 and 2 are answered yes.
+fn run_started(script: &[u8], c: &mut [u32], e: &mut [u32], s: &mut [u32], output: &mut [u8]) -> Ran
+    requires { ⌜ MayStart (now script) (now c) (now e) (now s) ⌝ }
+    ensures { λ r. ⌜ RunsStarted (now (script .entry)) (now (c .entry)) (now (e .entry)) (now (s .entry)) (now (output .entry)) r
+        (now (c .exit)) (now (e .exit)) (now (s .exit)) (now (output .exit)) ⌝ }
+{
+    clear_all(c, e, s);
+    let r = run_lines(script, c, e, s, output);
+    zero_all(c, e, s);
+    r
+}
+
+// A no to 1 or 2 touches nothing.
+pub fn run(
+    script: &[u8],
+    core: &mut [u32],
+    theory: &mut [u32],
+    solver: &mut [u32],
+    output: &mut [u8],
+) -> Ran
+    ensures { λ r. ⌜ Runs (now (script .entry)) (now (core .entry)) (now (theory .entry)) (now (solver .entry)) (now (output .entry))
+        r (now (core .exit)) (now (theory .exit)) (now (solver .exit)) (now (output .exit)) ⌝ }
+{
+    if core.len() < TABLE_WORDS || theory.len() < TABLE_WORDS || solver.len() < TABLE_WORDS {
+        return Ran {
+            ending: Ending::ShortTable,
+            answered: 0,
+            written: 0,
+        };
+    }
+    if script.len() > MAX_SCRIPT {
+        return Ran {
+            ending: Ending::LongScript,
+            answered: 0,
+            written: 0,
+        };
+    }
+    run_started(script, core, theory, solver, output)
+}

@@ -1,0 +1,18 @@
+-- Each turn leaves less of the table.
+use borrow.Author.Needs.{needs}
+use Prim.Native.Nat.{_-_}
+use lib.ListN.{length}
+use Rattle.session_main.proofs.other_word.Statement.{statement}
+use Rattle.session_main.proofs.other_word.Tie as tie
+
+abbrev Inv-loop : tie.InvT-loop
+Inv-loop t w i₀ i = Unit {0}
+
+abbrev μ-loop : tie.MeasureT-loop
+μ-loop t w i₀ i = length t - i
+
+pub other-word-spec : {M : Type 1} → statement M
+other-word-spec =
+    tie.close
+    (tie.spec Inv-loop μ-loop (λ c. search needs) (λ c. search needs) (λ c. search needs) (λ c. search needs) (λ c. search needs)
+    (λ c. search needs) (λ c. search needs) (λ c. search needs))
