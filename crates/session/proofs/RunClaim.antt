@@ -29,7 +29,7 @@ run-writes room s (l ∷ ls) =
     (run-writes (room - length text) (step s l .session) ls)
 
 -- a run from s on with so much room answers all lines, or the answer line of the next one does not fit
-abbrev Stops : ℕ → Session → List (List ℕ) → Ran → Type 0
+abbrev pub Stops : ℕ → Session → List (List ℕ) → Ran → Type 0
 Stops room s ls d =
     ((d .ending ≡ Complete) × (d .answered ≡ length ls))
     ⊎ ((d .ending ≡ Full) × (d .answered < length ls) × (room < length (answer-lines (answers s (take (suc (d .answered)) ls)))))
@@ -54,7 +54,7 @@ line-stops room s l ls d false e w =
     let t = answers-first s l ls 0 in
     inr (refl, omega arith, omega arith)
 
-run-stops : (room : ℕ) (s : Session) (ls : List (List ℕ)) → Stops room s ls (run-lines room s ls)
+pub run-stops : (room : ℕ) (s : Session) (ls : List (List ℕ)) → Stops room s ls (run-lines room s ls)
 unfolding run-lines
 run-stops room s [] = inl (refl, refl)
 run-stops room s (l ∷ ls) =

@@ -1,4 +1,5 @@
-// The questions 5 to 9 of a line (specs/Session.antt); 4, 7 and 10 are asked where they stand, 11 by what makes.
+// The questions 5, 6, 8 and 9 of a line (specs/Session.antt), and 11 of a congruence; 4, 7 and 10 are asked where they stand, 11 else by
+// what makes.
 use core::context::arity;
 use core::context::children;
 use core::context::op;

@@ -1,25 +1,24 @@
 -- The lines before `close`. As long as none was accepted there are no terms, so a signature that stays well formed is all that the
 -- tables need.
-use Rattle.core.proofs.Kit.{ℕ, zero, suc, _≤_, _<_, _≡_, refl, sym, ap, ap₂, _∙_, subst, subst⁻¹, Bool, true, false, cond, not, _&&_, true≢false, false≢true, List, [], _∷_, Option, none, some, inl, inr, arith, length, ltb, ltb-true, not-false}
+use Rattle.core.proofs.Kit.{ℕ, _≤_, _<_, _≡_, refl, sym, ap, _∙_, subst, subst⁻¹, Bool, true, false, not, true≢false, List, [], none, inl, arith, length, ltb, ltb-true, not-false}
 use borrow.Author.Tests.{not-true}
-use Rattle.core.specs.Limits.{max-terms, max-params}
-use Rattle.core.specs.Lists.{In, every}
+use Rattle.core.specs.Limits.{max-params}
+use Rattle.core.specs.Lists.{In}
 use Rattle.core.specs.Sort.{SortNode}
 use Rattle.core.specs.Context.{Context, declare-sort, dt-add-constructor, declare-fun, with-symbols, is-datatype-sort, declarations-fit}
 use Rattle.core.specs.Formed.{Formed, Signed}
 use Rattle.core.specs.declared.context.Declared as Declared
 use Rattle.core.specs.Memory.Words.{at}
 use Rattle.core.specs.Memory.Codes.{Declares}
-use Rattle.core.specs.Memory.Table.{context, ContextSound, AllBelow, MayDeclare}
-use Rattle.core.proofs.Lists.{not-true-false, true-T, T-true}
+use Rattle.core.specs.Memory.Table.{context, ContextSound, MayDeclare}
+use Rattle.core.proofs.Lists.{true-T}
 use Rattle.theory.specs.Atom.{Registered}
 use Rattle.theory.specs.Memory.Table.{EngineSound}
 use Rattle.solver.specs.State.{with-terms}
-use Rattle.solver.specs.Memory.Table.{MARK, COLLECTED, LASTING, is-set, flagged, state-with, StateSound}
-use Rattle.solver.specs.Memory.Recording.{SolverCleared}
+use Rattle.solver.specs.Memory.Table.{MARK, COLLECTED, LASTING, state-with, StateSound}
 use Rattle.solver.proofs.Basics.{by-test}
 use Rattle.solver.proofs.Signature.{sort-signed, fun-signed, ctor-signed}
-use Rattle.solver.proofs.Memory.Flags.{has, in-flagged}
+use Rattle.solver.proofs.Memory.Registering.{unflagged, not-set}
 use Rattle.session.specs.Line.{Command, DeclareSort, DeclareCtor, DeclareFun}
 use Rattle.session.specs.Answer as Answer
 use Rattle.session.specs.Session.{before-close, exist, agree, sort-exists, questions, perform, first-no, done, Performed}
@@ -33,14 +32,6 @@ use Rattle.session.proofs.Memory.Questions.{and-left, and-right, below-
 use Rattle.session.proofs.Memory.Answering.{Refused, no-here, yes-here, yes-last, unfit-declarations, refuses, no-room, accepts}
 
 -- ---- tables without terms
-
-unflagged : (t : List ℕ) (b x : ℕ) → flagged t b ≡ [] → x < max-terms → has t b x ≡ false
-unflagged t b x e h = not-true-false (has t b x) (λ q. subst (In x) e (in-flagged t b 0 x (omega arith) h q))
-
-not-set : (k : ℕ) → is-set k ≡ false → k ≡ 0
-unfolding is-set
-not-set zero e = refl
-not-set (suc k) e = absurd (true≢false e)
 
 no-terms-formed : (cx : Context) → cx .terms ≡ [] → Formed cx
 no-terms-formed cx n =

@@ -1,20 +1,20 @@
 -- The lines that change what the session keeps beside the tables.
-use Rattle.core.proofs.Kit.{ℕ, suc, _≤_, _<_, _≡_, refl, sym, ap, ap₂, _∙_, subst, subst⁻¹, Bool, true, false, cond, not, true≢false, List, [], _∷_, none, arith, length, leb, lt-leb, le-leb, ltb, ltb-true, ltb-false, not-false}
+use Rattle.core.proofs.Kit.{ℕ, suc, _≤_, _<_, _≡_, refl, sym, ap, ap₂, _∙_, subst⁻¹, Bool, true, false, not, true≢false, List, arith, lt-leb, ltb, ltb-true, ltb-false, not-false}
 use borrow.Author.Tests.{not-true, lt-ltb, le-ltb}
 use Rattle.core.specs.Limits.{max-levels}
 use Rattle.core.specs.Context.{all-grounded}
-use Rattle.core.specs.Memory.Table.{context, ContextSound}
+use Rattle.core.specs.Memory.Table.{context}
 use Rattle.theory.specs.EqEngine.{Merge, pop-merges}
-use Rattle.theory.specs.Memory.Table.{merges, level, EngineSound, Engine, Pops}
+use Rattle.theory.specs.Memory.Table.{merges, level, Engine, Pops}
 use Rattle.solver.specs.State.{State, with-eq, with-level, with-level-record, with-dt}
 use Rattle.solver.specs.Records.{pop-testers}
 use Rattle.solver.specs.declared.levels.TesterMarks.{TesterMarks}
-use Rattle.solver.specs.Memory.Table.{level-record, dt-with, state-with, state, StateSound}
-use Rattle.solver.specs.Memory.Levels.{entry-level, MarksSound, Opened, Popped}
+use Rattle.solver.specs.Memory.Table.{level-record, dt-with, state-with, state}
+use Rattle.solver.specs.Memory.Levels.{entry-level, Opened, Popped}
 use Rattle.solver.proofs.Basics.{by-test}
 use Rattle.session.specs.Line.{Command, Close, Push, Pop}
 use Rattle.session.specs.Answer as Answer
-use Rattle.session.specs.Session.{before-close, after-close, inhabited, pop-to, questions, first-no, perform, done}
+use Rattle.session.specs.Session.{before-close, after-close, inhabited, pop-to, questions, perform, done}
 use Rattle.session.specs.declared.session.Session.{Session}
 use Rattle.session.specs.declared.session.Stepped.{Stepped}
 use Rattle.session.specs.declared.answer.Refusal as GivenRefusal

@@ -1,10 +1,9 @@
 -- The lines that make terms.
-use Rattle.core.proofs.Kit.{ℕ, zero, suc, _≤_, _<_, _≡_, refl, sym, ap, _∙_, subst, subst⁻¹, Bool, true, false, cond, not, _&&_, true≢false, List, [], _∷_, map, none, inl, inr, arith, length, getD, eqb, eqb-true, ltb, ltb-true, not-false}
+use Rattle.core.proofs.Kit.{ℕ, zero, suc, _<_, _≡_, refl, sym, ap, _∙_, subst⁻¹, Bool, true, false, not, true≢false, List, [], _∷_, map, none, inl, inr, arith, length, eqb, eqb-true, ltb, ltb-true, not-false}
 use borrow.Author.Tests.{not-true}
-use Rattle.core.specs.Lists.{In, same-list}
 use Rattle.core.specs.Term.{Op, Eq, Uninterpreted}
 use Rattle.core.specs.Context as Context
-use Rattle.core.specs.Context.{Context, symbol, sort-of, mk-app, mk-eq, terms-fit}
+use Rattle.core.specs.Context.{symbol, sort-of, mk-app, mk-eq, terms-fit}
 use Rattle.core.specs.Formed.{Formed, Agrees, Extends}
 use Rattle.core.specs.declared.context.Made as Made
 use Rattle.core.specs.declared.ids.TermId.{TermId}
@@ -12,7 +11,7 @@ use Rattle.core.specs.Memory.Codes.{made-answer, made-context, MkApp}
 use Rattle.core.specs.Memory.Table.{context, ContextSound, AllBelow, MayApply, MayEquate}
 use Rattle.core.proofs.Lists.{same-list-eq, true-T}
 use Rattle.solver.specs.State.{with-terms}
-use Rattle.solver.specs.Memory.Table.{state-with, StateSound}
+use Rattle.solver.specs.Memory.Table.{state-with}
 use Rattle.solver.proofs.Basics.{by-test}
 use Rattle.solver.proofs.Terms.{Below, mk-app-makes, mk-app-formed}
 use Rattle.solver.proofs.Memory.Growing.{state-grows}

@@ -1,20 +1,20 @@
 -- The lines that merge: of the tables only the engine's changes, and only its merges.
-use Rattle.core.proofs.Kit.{ℕ, zero, suc, _≤_, _<_, _≡_, refl, sym, ap, ap₂, _∙_, subst, subst⁻¹, Bool, true, false, cond, not, _&&_, true≢false, List, [], _∷_, none, some, inl, inr, arith, length, getD, eqb, leb, leb→le, ltb, ltb-true, not-false, T}
+use Rattle.core.proofs.Kit.{ℕ, zero, suc, _≤_, _<_, _≡_, refl, sym, ap, ap₂, _∙_, subst, subst⁻¹, Bool, true, false, not, true≢false, List, [], _∷_, none, inl, inr, arith, length, getD, leb→le, not-false, T}
 use borrow.Author.Tests.{not-true}
 use Rattle.core.specs.Limits.{max-terms, max-pairs}
 use Rattle.core.specs.Ids as Ids
 use Rattle.core.specs.Lists.{In, every, zip}
 use Rattle.core.specs.Term.{Op, Eq, Uninterpreted, same-op}
-use Rattle.core.specs.Context.{Context, term, children, sort-of}
-use Rattle.core.specs.Formed.{Formed, Agrees}
-use Rattle.core.specs.Memory.Table.{context, ContextSound, AllBelow}
+use Rattle.core.specs.Context.{term, children}
+use Rattle.core.specs.Formed.{Agrees}
+use Rattle.core.specs.Memory.Table.{context, AllBelow}
 use Rattle.core.proofs.Lists.{every-in, true-T}
 use Rattle.theory.specs.Types.{EqJust, Asserted, Congruence, Interface}
-use Rattle.theory.specs.EqEngine.{Merge, are-equal, merge, pairs-in-force}
-use Rattle.theory.specs.Atom.{Registered, is-registered, atom}
+use Rattle.theory.specs.EqEngine.{are-equal}
+use Rattle.theory.specs.Atom.{is-registered, atom}
 use Rattle.theory.specs.Memory.Registry.{atoms}
 use Rattle.theory.specs.Memory.Replay.{EqualPairs, IsNode}
-use Rattle.theory.specs.Memory.Table.{merges, level, EngineSound, TwoNodes, Merges, Congruent, just-meaning}
+use Rattle.theory.specs.Memory.Table.{merges, EngineSound, TwoNodes, Merges, Congruent, just-meaning}
 use Rattle.theory.specs.declared.types.EqJust as GivenJust
 use Rattle.theory.specs.declared.types.TheoryJust.{TheoryJust}
 use Rattle.core.specs.declared.ids.Lit.{Lit}
@@ -23,7 +23,7 @@ use Rattle.solver.specs.Memory.Table.{registry, state-with, StateSound}
 use Rattle.session.specs.Line.{Command, Equate, Cong, Iface}
 use Rattle.session.specs.Answer as Answer
 use Rattle.session.specs.Session as Session
-use Rattle.session.specs.Session.{after-close, exist, agree, term-exists, atom-of, argument-pairs, questions, first-no, perform, done, merged, merge-sides, Performed}
+use Rattle.session.specs.Session.{after-close, exist, agree, term-exists, atom-of, argument-pairs, questions, first-no, perform, done, merged, merge-sides}
 use Rattle.session.specs.declared.session.Session.{Session}
 use Rattle.session.specs.declared.answer.Refusal as GivenRefusal
 use Rattle.session.specs.declared.answer.Answer as Given

@@ -1,10 +1,10 @@
 -- Any line: what was promised of each kind, put together by the command that was read.
-use Rattle.core.proofs.Kit.{ℕ, suc, _+_, _-_, _≤_, _≡_, refl, sym, ap, _∙_, subst, subst⁻¹, Bool, List, [], _∷_, _++_, Option, none, some, arith, length, take, drop, length-take-le, length-drop}
+use Rattle.core.proofs.Kit.{ℕ, suc, _+_, _-_, _≤_, _≡_, refl, sym, ap, _∙_, subst, subst⁻¹, Bool, List, [], _∷_, _++_, none, some, arith, length, take, drop, length-take-le, length-drop}
 use Rattle.core.specs.Limits.{max-params}
 use Rattle.core.specs.declared.ids.SortId.{SortId}
 use Rattle.core.specs.declared.ids.SymbolId.{SymbolId}
 use Rattle.solver.proofs.Memory.Entries.{records-sound}
-use Rattle.session.specs.Line.{Command, DeclareCtor, DeclareFun, Close, MkTerm, Check, read-line}
+use Rattle.session.specs.Line.{Command, DeclareCtor, DeclareFun, Close, MkTerm, Check}
 use Rattle.session.specs.Answer as Answer
 use Rattle.session.specs.Session as Session
 use Rattle.session.specs.Session.{Performed, answer-read, refused, empty-session, step}
@@ -14,8 +14,8 @@ use Rattle.session.specs.declared.line.Command as GivenCommand
 use Rattle.session.specs.declared.answer.Refusal as GivenRefusal
 use Rattle.session.specs.declared.answer.Answer as Given
 use Rattle.session.specs.Memory.Commands.{max-numbers, others, command-meaning, ListFits, ReadsLine}
-use Rattle.session.specs.Memory.Answers.{refusal-meaning, answer-meaning, Printable}
-use Rattle.session.specs.Memory.Sessions.{session, after, Reached, SessionSound, Answers, AnswersWith, AnswersCore, AnswersEngine, AnswersSolver, AnswersEquate, AnswersClose, AnswersLevels, AnswersCheck, LevelsSound, Performable, Performs, Steppable, Steps}
+use Rattle.session.specs.Memory.Answers.{refusal-meaning, answer-meaning}
+use Rattle.session.specs.Memory.Sessions.{session, after, SessionSound, Answers, AnswersWith, AnswersCore, AnswersEngine, AnswersSolver, AnswersEquate, AnswersClose, AnswersLevels, AnswersCheck, LevelsSound, Performable, Performs, Steppable, Steps}
 use Rattle.session.proofs.Memory.Levels.{answered}
 
 -- ---- the numbers behind the first

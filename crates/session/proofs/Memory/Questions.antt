@@ -1,23 +1,25 @@
 -- What the loops and tests of the questions say: lists by their places, operations, the pairs of a congruence.
-use Rattle.core.proofs.Kit.{ℕ, zero, suc, _+_, _-_, _≤_, _<_, _≡_, refl, sym, ap, ap₂, _∙_, subst, subst⁻¹, Bool, true, false, cond, not, _&&_, false≢true, true≢false, List, [], _∷_, map, arith, length, getD, length-map, eqb, ltb, leb, le-ltb, ne-eqb, eq-eqb, lt-leb, le-leb, ltb-true, eqb-true, eqb→eq, below-more, T, decLe, not-false, some, inl, inr}
+use Rattle.core.proofs.Kit.{ℕ, zero, suc, _+_, _-_, _≤_, _<_, _≡_, refl, sym, ap, ap₂, _∙_, subst⁻¹, Bool, true, false, cond, not, _&&_, false≢true, true≢false, List, [], _∷_, map, arith, length, getD, length-map, eqb, ltb, leb, le-ltb, ne-eqb, eq-eqb, lt-leb, le-leb, ltb-true, eqb-true, below-more, decLe, not-false, inl, inr}
 use borrow.Author.Tests.{lt-ltb, not-true}
 use Rattle.core.specs.Limits.{max-terms, max-pairs}
 use Rattle.core.specs.Ids as Ids
-use Rattle.core.specs.Lists.{In, any, every, first, total, zip, same-list}
-use Rattle.core.specs.Term.{Op, Eq, Uninterpreted, Term, same-op}
+use Rattle.core.specs.Lists.{In, every, first, total, zip, same-list}
+use Rattle.core.specs.Term.{Op, Eq, Uninterpreted, same-op}
 use Rattle.core.specs.Context.{Context, symbol, term, children, sort-of}
 use Rattle.core.specs.Formed.{Formed, Agrees}
 use Rattle.core.specs.declared.term.Op as Op
 use Rattle.core.specs.declared.ids.SymbolId.{SymbolId}
 use Rattle.core.specs.Memory.Codes.{op-meaning, OpAt}
 use Rattle.core.specs.Memory.Table.{context, ContextSound, AllBelow, HasParam}
-use Rattle.core.proofs.Lists.{same-list-eq, same-list-not, same-list-same, true-T, not-true-false}
-use Rattle.theory.specs.Types.{EqJust, Congruence}
+use Rattle.core.proofs.Lists.{same-list-not, same-list-same}
+use Rattle.theory.specs.Types.{Congruence}
 use Rattle.theory.specs.EqEngine.{Merge, are-equal, merge, pairs-of, pairs-in-force}
-use Rattle.theory.specs.Atom.{Registered, is-registered, atom, atom-of}
+use Rattle.theory.specs.Atom.{Registered, is-registered, atom}
 use Rattle.theory.specs.Memory.Registry.{atoms}
 use Rattle.theory.specs.Memory.Table.{TwoNodes}
+use Rattle.theory.proofs.Memory.Joining.{zip-length}
 use Rattle.solver.specs.Memory.Table.{registry}
+use Rattle.solver.proofs.Memory.Asserting.{atom-within}
 use Rattle.session.specs.Memory.Questions.{all-below, NamesApp, NamesLit, NodePairs, PairsNamed}
 
 -- ---- lists by their places
@@ -70,12 +72,12 @@ below-all n xs e j l = ltb-true (getD xs j 0) n (every-at (λ x. ltb x n) 0 xs e
 -- ---- two tests in a row
 
 -- the first says no
-pub and-no : (r a b : Bool) → r ≡ a → not r ≡ true → false ≡ a && b
-and-no r a b e n = rw (sym e ∙ not-true r n)
+pub either-no : (r a b : Bool) → r ≡ a → not r ≡ true → false ≡ a && b
+either-no r a b e n = rw (sym e ∙ not-true r n)
 
 -- the first says yes, so the second decides
-pub and-yes : (r q a b : Bool) → r ≡ a → not r ≡ false → q ≡ b → q ≡ a && b
-and-yes r q a b e n h = rw (sym e ∙ not-false r n) h
+pub both-yes : (r q a b : Bool) → r ≡ a → not r ≡ false → q ≡ b → q ≡ a && b
+both-yes r q a b e n h = rw (sym e ∙ not-false r n) h
 
 pub and-left : (a b : Bool) → (a && b) ≡ true → a ≡ true
 and-left true b e = refl
@@ -250,28 +252,12 @@ pair-nodes {e} {xs} {ys} {i} N l = let h = N .same-count in record {
 pub var-named : (rs : List Registered) (l v : ℕ) (r : Bool) → v ≡ Ids.var l → r ≡ is-registered rs v → r ≡ is-registered rs (Ids.var l)
 var-named rs l v r e h = h ∙ ap (is-registered rs) e
 
--- an atom of a registered variable is registered
-registered-in : (rs : List Registered) (v : ℕ) → is-registered rs v ≡ true → (r : Registered) × In r rs × (r .atom ≡ atom rs v)
-unfolding is-registered atom atom-of any first
-registered-in [] v e = absurd (true≢false (sym e))
-registered-in (r ∷ rs) v e = go (eqb (r .var) v) (registered-in rs v) e
-  where
-    test : Registered → Bool
-    test q = eqb (q .var) v
-
-    Found : List Registered → ℕ → Type 0
-    Found qs x = (q : Registered) × In q qs × (q .atom ≡ x)
-
-    go : (b : Bool) → (any test rs ≡ true → Found rs (atom-of (first test rs))) → cond b true (any test rs) ≡ true →
-        Found (r ∷ rs) (atom-of (cond b (some r) (first test rs)))
-    go true f h = (r, inl refl, refl)
-    go false f h = let (q, i, p) = f h in (q, inr i, p)
-
 pub named-atom : {c s : List ℕ} {l v x : ℕ} → NamesLit c s l → v ≡ Ids.var l → x ≡ atom (atoms (registry s)) v →
     x < length (context c .terms)
 named-atom {c} {s} {l} {v} {x} N p a =
-    let (r, i, q) = registered-in (atoms (registry s)) v (ap (is-registered (atoms (registry s))) p ∙ N .registered) in
-    let h = N .atoms-are r i in
+    let h = atom-within (atoms (registry s)) v (length (context c .terms)) (N .atoms-are)
+        (ap (is-registered (atoms (registry s))) p ∙ N .registered)
+    in
     omega arith
 
 pub named-var : {c s : List ℕ} {l v : ℕ} → NamesLit c s l → v ≡ Ids.var l → is-registered (atoms (registry s)) v ≡ true
@@ -281,7 +267,7 @@ pub equation-is : (c s : List ℕ) (l v x : ℕ) (p r : Bool) → p ≡ Ids.is-p
     x ≡ atom (atoms (registry s)) v → r ≡ same-op (term (context c) x .op) Eq →
     r ≡ Ids.is-positive l && same-op (term (context c) (atom (atoms (registry s)) (Ids.var l)) .op) Eq
 equation-is c s l v x p r e n f a h =
-    and-yes p r (Ids.is-positive l) _ e n
+    both-yes p r (Ids.is-positive l) _ e n
     (h ∙ ap (λ (y : ℕ). same-op (term (context c) y .op) Eq) (a ∙ ap (atom (atoms (registry s))) f))
 
 -- ---- 11: the pairs of a congruence
@@ -291,17 +277,11 @@ pub fit-joined : (ms : List Merge) (lv t u n : ℕ) (xs ys : List ℕ) (b : Bool
 unfolding merge
 fit-joined ms lv t u n xs ys b p h e f = rw (sym e ∙ f) (sym (le-leb (pairs-in-force ms) max-pairs (omega arith)))
 
-length-zip : (xs ys : List ℕ) → length xs ≡ length ys → length (zip xs ys) ≡ length xs
-unfolding zip
-length-zip [] ys l = refl
-length-zip (x ∷ xs) [] l = absurd (omega arith)
-length-zip (x ∷ xs) (y ∷ ys) l = ap suc (length-zip xs ys (omega arith))
-
 pub fit-apart : (ms : List Merge) (lv t u n : ℕ) (xs ys : List ℕ) (b : Bool) → length (t ∷ xs) ≡ length (u ∷ ys) →
     n ≡ pairs-in-force ms → n ≤ max-pairs → b ≡ are-equal ms t u → b ≡ false →
     leb (length xs) (max-pairs - n) ≡ leb (pairs-in-force (merge ms lv t u (Congruence (zip xs ys)))) max-pairs
 unfolding merge pairs-in-force pairs-of total
-fit-apart ms lv t u n xs ys b l p f e g = rw (sym e ∙ g, length-zip xs ys (omega arith), sym p) (same (decLe (length xs) (max-pairs - n)))
+fit-apart ms lv t u n xs ys b l p f e g = rw (sym e ∙ g, zip-length xs ys (omega arith), sym p) (same (decLe (length xs) (max-pairs - n)))
   where
     same : Dec (length xs ≤ max-pairs - n) → leb (length xs) (max-pairs - n) ≡ leb (length xs + n) max-pairs
     same (yes h) = le-leb (length xs) (max-pairs - n) h ∙ sym (le-leb (length xs + n) max-pairs (omega arith))
@@ -353,4 +333,4 @@ module _ {c e : List ℕ} {t u : ℕ} {xs ys : List ℕ} {p : Bool} (N : PairsNa
 
   pub congruent-is : (q : ℕ × ℕ → Bool) (b : Bool) → b ≡ every q (zip xs ys) →
       b ≡ same-op (term (context c) t .op) (term (context c) u .op) && every q (zip (children (context c) t) (children (context c) u))
-  congruent-is q b h = and-yes p b _ _ o n (h ∙ ap₂ (λ (vs ws : List ℕ). every q (zip vs ws)) l r)
+  congruent-is q b h = both-yes p b _ _ o n (h ∙ ap₂ (λ (vs ws : List ℕ). every q (zip vs ws)) l r)

@@ -1,6 +1,6 @@
 -- The run: words set to 0, an empty session, and the lines one by one: what the definition makes of all lines from the start is what it
 -- makes of the rest from the present session on, with the lines answered and the bytes written so far in front.
-use Rattle.core.proofs.Kit.{ℕ, suc, _+_, _-_, _≤_, _<_, _≡_, refl, sym, ap, _∙_, _⊎_, inl, inr, ⊎-map, ⊎-elim, Bool, true, false, cond, _&&_, leb, List, [], _∷_, _++_, append-assoc, append-nil, zero-add, below-more, arith, le-leb, lt-leb, length, getD, take, drop, set, length-set, length-map, ext-getD, getD-set-same, getD-set-other, length-take-le}
+use Rattle.core.proofs.Kit.{ℕ, suc, _+_, _-_, _≤_, _<_, _≡_, refl, sym, ap, _∙_, _⊎_, inl, inr, ⊎-elim, true, false, _&&_, leb, List, [], _∷_, _++_, append-assoc, append-nil, zero-add, below-more, arith, le-leb, lt-leb, length, getD, take, drop, set, length-set, length-map, ext-getD, getD-set-same, getD-set-other, length-take-le}
 use lib.ListN.{List·getD-map}
 use lib.Seq.{sets-eq, take-at}
 use Rattle.core.proofs.Lists.{and-no}
@@ -24,6 +24,7 @@ use Rattle.session.specs.declared.run.Answered.{Answered}
 use Rattle.session.specs.declared.session.Stepped.{Stepped}
 use Rattle.session.specs.declared.run.Ending as Given
 use Rattle.session.specs.declared.run.Ran as GivenRan
+use Rattle.session.proofs.RunClaim.{Stops, run-stops}
 use Rattle.session.proofs.Memory.Splitting.{lines-from, lines-end}
 use Rattle.session.proofs.Memory.Printing.{written-nothing, written-length, written-as, written-more}
 
@@ -121,24 +122,6 @@ module _ (room : ℕ) (s : Session.Session) (l : List ℕ) (ls : List (List ℕ)
   line-full : room < length (answer-line (step s l)) → run-lines room s (l ∷ ls) ≡ answers-none Full
   unfolding run-lines
   line-full h = rw (lt-leb (length (answer-line (step s l))) room h)
-
--- a run that was started answers all lines or stops at one
-abbrev pub AllOrFull : List (List ℕ) → Ran → Type 0
-AllOrFull ls d = ((d .ending ≡ Complete) × (d .answered ≡ length ls)) ⊎ ((d .ending ≡ Full) × (d .answered < length ls))
-
-line-ends : (b : Bool) (text l : List ℕ) (ls : List (List ℕ)) (d : Ran) → AllOrFull ls d →
-    AllOrFull (l ∷ ls) (cond b (one-more text d) (answers-none Full))
-unfolding one-more answers-none
-line-ends true text l ls d w = ⊎-map (λ p. (p .0, ap suc (p .1))) (λ p. (p .0, let h = p .1 in omega arith)) w
-line-ends false text l ls d w = inr (refl, omega arith)
-
-pub run-ends : (room : ℕ) (s : Session.Session) (ls : List (List ℕ)) → AllOrFull ls (run-lines room s ls)
-unfolding run-lines
-run-ends room s [] = inl (refl, refl)
-run-ends room s (l ∷ ls) =
-    let text = answer-line (step s l) in
-    line-ends (leb (length text) room) text l ls (run-lines (room - length text) (step s l .session) ls)
-    (run-ends (room - length text) (step s l .session) ls)
 
 -- ---- the lines so far
 
@@ -254,9 +237,10 @@ zeroed-all {c₁} {e₁} {s₁} c e s p q r z = record {
 }
 
 -- a started run leaves zeros, however it ends
-started-zeros : (ls : List (List ℕ)) (d : Ran) → AllOrFull ls d → (t : List ℕ) → table-after (d .ending) t ≡ zeros t
+started-zeros : (room : ℕ) (s : Session.Session) (ls : List (List ℕ)) (d : Ran) → Stops room s ls d → (t : List ℕ) →
+    table-after (d .ending) t ≡ zeros t
 unfolding table-after
-started-zeros ls d w t = ⊎-elim (λ p. rw (p .0)) (λ p. rw (p .0)) w
+started-zeros room s ls d w t = ⊎-elim (λ p. rw (p .0)) (λ p. rw (p .0)) w
 
 module _ (script c e s o : List ℕ) where
   -- questions 1 and 2
@@ -300,8 +284,9 @@ module _ (script c e s o : List ℕ) where
   run-started m z =
       let d : run (lent c e s o) script ≡ run-lines (length o) empty-session (lines script) =
       rw (tables-long (m .tables), le-leb (length script) max-script (m .short)) in
-      let ends = run-ends (length o) empty-session (lines script) in
-      let after = started-zeros (lines script) (run-lines (length o) empty-session (lines script)) ends in
+      let ls = lines script in
+      let stops = run-stops (length o) empty-session ls in
+      let after = started-zeros (length o) empty-session ls (run-lines (length o) empty-session ls) stops in
       record {
         result = rw d (z .result);
         core = rw d (z .zeroed .core ∙ sym (after c));

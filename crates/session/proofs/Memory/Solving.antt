@@ -1,17 +1,16 @@
 -- The lines of the solver. The mark counts stay sound since the level record loses no entry.
-use Rattle.core.proofs.Kit.{ℕ, zero, suc, _≤_, _<_, _≡_, refl, sym, ap, _∙_, subst, subst⁻¹, Bool, true, false, cond, not, _&&_, true≢false, List, [], _∷_, Option, none, some, arith, length, eqb, eq-eqb, ne-eqb, ltb, ltb-true, not-false}
+use Rattle.core.proofs.Kit.{ℕ, _≤_, _<_, _≡_, refl, sym, ap, _∙_, subst⁻¹, Bool, true, false, cond, not, _&&_, true≢false, List, Option, none, some, arith, length, eq-eqb, ne-eqb, ltb, ltb-true, not-false}
 use borrow.Author.Tests.{not-true, lt-ltb, le-ltb}
-use Rattle.core.specs.Limits.{max-vars, max-terms}
+use Rattle.core.specs.Limits.{max-vars}
 use Rattle.core.specs.Ids as Ids
 use Rattle.core.specs.Context.{sort-of, terms-fit}
-use Rattle.core.specs.Memory.Table.{context, ContextSound}
+use Rattle.core.specs.Memory.Table.{context}
 use Rattle.core.proofs.Memory.Counted.{counted-length}
 use Rattle.theory.specs.Types.{EqLeaf}
 use Rattle.theory.specs.Atom.{is-registered, register}
 use Rattle.theory.specs.Memory.Answer.{answer-size}
 use Rattle.theory.specs.Memory.Registry.{atoms}
-use Rattle.theory.specs.Memory.Table.{level}
-use Rattle.solver.specs.State.{State, AssertedTester, with-atoms, with-marks, with-dt}
+use Rattle.solver.specs.State.{State, with-atoms, with-marks, with-dt}
 use Rattle.solver.specs.Records as Records
 use Rattle.solver.specs.Rules as Rules
 use Rattle.solver.specs.Check as Check
@@ -29,11 +28,11 @@ use Rattle.solver.proofs.Clash.{Ready}
 use Rattle.solver.proofs.Answers.{full-check-well}
 use Rattle.solver.proofs.Memory.Levels.{newest-level, marks-more}
 use Rattle.solver.proofs.Memory.Collecting.{collecting}
-use Rattle.session.specs.Line.{Command, Register, Assert}
+use Rattle.session.specs.Line.{Register, Assert}
 use Rattle.session.specs.Line as Line
 use Rattle.session.specs.Answer as Answer
 use Rattle.session.specs.Session as Session
-use Rattle.session.specs.Session.{after-close, exist, agree, unregistered, term-exists, questions, first-no, perform, done, conflict-or-ok, refused, asked, if-fits, fits, Performed}
+use Rattle.session.specs.Session.{after-close, exist, agree, unregistered, term-exists, questions, first-no, perform, done, conflict-or-ok}
 use Rattle.session.specs.declared.session.Session.{Session}
 use Rattle.session.specs.declared.answer.Refusal as GivenRefusal
 use Rattle.session.specs.declared.answer.Answer as Given

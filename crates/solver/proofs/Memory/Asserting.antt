@@ -52,7 +52,7 @@ asserted {c} {e} {s} {w} {s′} {o} {o′} {l} {x} {r} z b t m = record {
 -- ---- a literal
 
 -- the atom of a registered variable is a term
-atom-within : (rs : List Registered) (v n : ℕ) → ((r : Registered) → In r rs → r .atom < n) → is-registered rs v ≡ true → atom rs v < n
+pub atom-within : (rs : List Registered) (v n : ℕ) → ((r : Registered) → In r rs → r .atom < n) → is-registered rs v ≡ true → atom rs v < n
 unfolding is-registered atom atom-of any first
 atom-within [] v n h e = absurd (true≢false (sym e))
 atom-within (r ∷ rs) v n h e = go (eqb (r .var) v) (atom-within rs v n (λ q i. h q (inr i))) e

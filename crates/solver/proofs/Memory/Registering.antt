@@ -250,10 +250,10 @@ empty-formed = record {
   distinct = λ t u h. absurd (omega arith);
 }
 
-unflagged : (t : List ℕ) (b x : ℕ) → flagged t b ≡ [] → x < max-terms → has t b x ≡ false
+pub unflagged : (t : List ℕ) (b x : ℕ) → flagged t b ≡ [] → x < max-terms → has t b x ≡ false
 unflagged t b x e h = not-true-false (has t b x) (λ q. subst (In x) e (in-flagged t b 0 x (omega arith) h q))
 
-not-set : (k : ℕ) → is-set k ≡ false → k ≡ 0
+pub not-set : (k : ℕ) → is-set k ≡ false → k ≡ 0
 unfolding is-set
 not-set zero e = refl
 not-set (suc k) e = absurd (true≢false e)

@@ -134,7 +134,7 @@ copying-done c h = record { kept = c .kept; older = c .older; new = λ j k. c .n
 
 -- ---- a label of pairs
 
-zip-length : (xs ys : List ℕ) → length xs ≡ length ys → length (zip xs ys) ≡ length xs
+pub zip-length : (xs ys : List ℕ) → length xs ≡ length ys → length (zip xs ys) ≡ length xs
 unfolding zip
 zip-length [] ys e = refl
 zip-length (x ∷ xs) [] e = absurd (omega arith)

@@ -1,6 +1,6 @@
 -- Straight.
 use Rattle.core.proofs.Kit.{needs}
-use Rattle.session.proofs.Memory.Questions.{and-no, arguments-are, congruent-is}
+use Rattle.session.proofs.Memory.Questions.{either-no, arguments-are, congruent-is}
 use Rattle.session.proofs.questions.congruent.Statement.{statement}
 use Rattle.session.proofs.questions.congruent.Tie as tie
 
@@ -23,5 +23,5 @@ returns-2 c =
 
 pub congruent-spec : {M : Type 1} → statement M
 congruent-spec =
-    tie.close (tie.spec (λ c κs. search needs) (λ c. search and-no) (λ c κs. search needs) (λ c κs. search needs) pairs-equal-requires
+    tie.close (tie.spec (λ c κs. search needs) (λ c. search either-no) (λ c κs. search needs) (λ c κs. search needs) pairs-equal-requires
     returns-2)
