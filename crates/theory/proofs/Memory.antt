@@ -12,6 +12,7 @@ pub mod Joining
 pub mod Undoing
 -- Explanations. Leaves: the answer table; Marks: pairs expanded; Explaining: the steps of an explanation.
 pub mod Leaves
+pub mod PairIndex
 pub mod Marks
 pub mod Explaining
 -- The registry's table. RegistryWords: what its words say of the registrations; RegistryStores: an empty registry, one more registration.

@@ -12,7 +12,7 @@ use core::table::get_at;
 use core::table::put_at;
 ghost use Prim.Native.Nat.{suc, _+_, _<_, _≤_};
 ghost use mathlib.Core.Path.{_≡_};
-ghost use mathlib.Core.Bool.{true, false, cond, _&&_};
+ghost use mathlib.Core.Bool.{true, _&&_};
 ghost use mathlib.Core.List.{[], _∷_};
 ghost use lib.Dec.{eqb};
 ghost use lib.ListN.{length};
@@ -22,9 +22,9 @@ ghost use Rattle.theory.specs.EqEngine.{child, root, find, are-equal, me
 ghost use Rattle.core.specs.Limits.{max-terms, max-pairs, max-levels};
 ghost use Rattle.core.specs.Memory.Words.{put};
 ghost use Rattle.theory.specs.Memory.Replay.{IsNode, end};
-ghost use Rattle.theory.specs.Memory.Table.{engine-size, PARENT, SIZE, FPARENT, merges#, size-word, parent-word, pair-at, label, just-at, merges, just-meaning, level, EngineSound, Engine, TwoNodes, Merges, Congruent, Pops};
-ghost use Rattle.theory.specs.Memory.Steps.{Upward, Rerooted, Spliced, TwoClasses, united, Entry, logged, Joinable, HoldsLabel, PairRoom, Copied, Separable, separated, Undoes, newest-above, Drops};
-ghost use Rattle.theory.specs.Memory.Explaining.{MARKS, NewPair, Way, Label, Pairs, up-to, pairs-from, is-pair, Explaining, Goes, EqualNodes, EqualPair, PairsEqual, MarksPair, Markable, Explainable, Explains};
+ghost use Rattle.theory.specs.Memory.Table.{engine-size, PARENT, SIZE, FPARENT, merges#, size-word, parent-word, left-word, right-word, pair-at, is-pair, indexed#, label, just-at, merges, just-meaning, level, EngineSound, Engine, TwoNodes, Merges, Congruent, Pops};
+ghost use Rattle.theory.specs.Memory.Steps.{Upward, Rerooted, Spliced, TwoClasses, united, Entry, logged, Joinable, HoldsLabel, NoPairs, PairAsked, FindsPair, FirstOf, PairLinkable, pair-linked, Addable, PairAdded, LastPair, PairsCut, Cuttable, PairsAddable, PairRoom, Copied, Separable, separated, Undoes, newest-above, Drops};
+ghost use Rattle.theory.specs.Memory.Explaining.{NewPair, Way, Label, Pairs, up-to, pairs-from, Explaining, Goes, EqualNodes, EqualPair, PairsEqual, mark-of, MarksPair, Explainable, Explains};
 
 // ---- the layout of the table (specs/Memory/Table.antt)
 
@@ -60,10 +60,19 @@ const FROOT: usize = 9280;
 
 const AFTER: usize = 10304;
 
-// For each argument pair: its two nodes.
+// For each argument pair: its first node with the number of the first pair of the same nodes; its second node with one more than the newest
+// pair before it in its bucket, or 0.
 const LEFT: usize = 11328;
 
 const RIGHT: usize = 13376;
+
+// The index of pairs: for each bucket one more than the newest pair in it, or 0; how many pairs it has: those in force, and maybe some behind
+// them that were given back.
+const HEAD: usize = 15424;
+
+const INDEXED: usize = 16377;
+
+const BUCKETS: usize = 953;
 
 // A label's word holds the level of its merge, its kind and its theory.
 const KIND_UNIT: usize = 65536;
@@ -116,11 +125,25 @@ fn alone(t: &mut [u32], n: usize)
     put_at(t, FPARENT, n, n);
 }
 
+// No pair is in the index.
+fn clear_pairs(t: &mut [u32])
+    requires { ⌜ engine-size ≤ length (now t) ⌝ }
+    ensures { λ _. ⌜ NoPairs (now (t .exit)) ⌝ }
+{
+    put_at(t, INDEXED, 0, 0);
+    let mut h = 0;
+    while h < BUCKETS {
+        put_at(t, HEAD, h, 0);
+        h += 1;
+    }
+}
+
 // Whatever the table held, no merge is in force now, at level 0.
 pub fn clear(t: &mut [u32])
     requires { ⌜ engine-size ≤ length (now t) ⌝ }
     ensures { λ _. ⌜ Engine (now (t .exit)) [] 0 ⌝ }
 {
+    clear_pairs(t);
     put_at(t, COUNTS, MERGES, 0);
     put_at(t, COUNTS, LEVEL, 0);
     let mut n = 0;
@@ -310,17 +333,141 @@ pub fn merge(t: &mut [u32], a: TermId, b: TermId, j: EqJust)
     join(t, x, y, kind, theory, value, n);
 }
 
+// ---- argument pairs
+
+fn left(t: &[u32], j: usize) -> usize
+    requires { ⌜ (engine-size ≤ length (now t)) × (j < max-pairs) ⌝ }
+    ensures { λ r. ⌜ (r ≡ left-word (now (t .entry)) j) × IsNode r ⌝ }
+{
+    get_at(t, LEFT, j) % MAX_TERMS
+}
+
+fn right(t: &[u32], j: usize) -> usize
+    requires { ⌜ (engine-size ≤ length (now t)) × (j < max-pairs) ⌝ }
+    ensures { λ r. ⌜ (r ≡ right-word (now (t .entry)) j) × IsNode r ⌝ }
+{
+    get_at(t, RIGHT, j) % MAX_TERMS
+}
+
+// Are x and y a and b, in this order?
+fn both(x: usize, y: usize, a: usize, b: usize) -> bool
+    ensures { λ r. ⌜ r ≡ (eqb x a && eqb y b) ⌝ }
+{
+    if x == a {
+        return y == b;
+    }
+    false
+}
+
+// In either order?
+fn same_pair(x: usize, y: usize, a: usize, b: usize) -> bool
+    ensures { λ r. ⌜ r ≡ same-pair x y (a, b) ⌝ }
+{
+    if both(x, y, a, b) {
+        return true;
+    }
+    both(x, y, b, a)
+}
+
+fn is_pair(t: &[u32], j: usize, a: usize, b: usize) -> bool
+    requires { ⌜ (engine-size ≤ length (now t)) × (j < max-pairs) ⌝ }
+    ensures { λ r. ⌜ r ≡ is-pair (now (t .entry)) j (a, b) ⌝ }
+{
+    same_pair(left(t, j), right(t, j), a, b)
+}
+
+// An indexed pair of two nodes, or the number of indexed pairs if there is none: the pairs of one bucket are asked, the newest first.
+fn find_pair(t: &[u32], x: usize, y: usize) -> usize
+    requires { ⌜ PairAsked (now t) x y ⌝ }
+    ensures { λ r. ⌜ FindsPair (now (t .entry)) x y r ⌝ }
+{
+    let h = (x + y) % BUCKETS;
+    let mut k = get_at(t, HEAD, h);
+    while k != 0 {
+        if is_pair(t, k - 1, x, y) {
+            return k - 1;
+        }
+        k = get_at(t, RIGHT, k - 1) / MAX_TERMS;
+    }
+    get_at(t, INDEXED, 0)
+}
+
+// The first pair of two nodes, once they are one more pair.
+fn first_of(t: &[u32], x: usize, y: usize) -> usize
+    requires { ⌜ PairAsked (now t) x y ⌝ }
+    ensures { λ r. ⌜ FirstOf (now (t .entry)) x y r ⌝ }
+{
+    let n = get_at(t, INDEXED, 0);
+    let k = find_pair(t, x, y);
+    if k == n {
+        return n;
+    }
+    get_at(t, LEFT, k) / MAX_TERMS
+}
+
+// One more pair, at the head of its bucket.
+fn link_pair(t: &mut [u32], n: usize, x: usize, y: usize, first: usize)
+    requires { ⌜ PairLinkable (now t) n x y first ⌝ }
+    ensures { λ _. ⌜ now (t .exit) ≡ pair-linked (now (t .entry)) n x y first ⌝ }
+{
+    let h = (x + y) % BUCKETS;
+    let older = get_at(t, HEAD, h);
+    put_at(t, LEFT, n, MAX_TERMS * first + x);
+    put_at(t, RIGHT, n, MAX_TERMS * older + y);
+    put_at(t, HEAD, h, n + 1);
+    put_at(t, INDEXED, 0, n + 1);
+}
+
+fn add_pair(t: &mut [u32], x: usize, y: usize)
+    requires { ⌜ Addable (now t) x y ⌝ }
+    ensures { λ _. ⌜ PairAdded (now (t .entry)) (now (t .exit)) x y ⌝ }
+{
+    let first = first_of(t, x, y);
+    let n = get_at(t, INDEXED, 0);
+    link_pair(t, n, x, y, first);
+}
+
+// The newest pair leaves the index.
+fn drop_pair(t: &mut [u32], j: usize)
+    requires { ⌜ LastPair (now t) j ⌝ }
+    ensures { λ _. ⌜ PairsCut (now (t .entry)) (now (t .exit)) j ⌝ }
+{
+    let h = (left(t, j) + right(t, j)) % BUCKETS;
+    let older = get_at(t, RIGHT, j) / MAX_TERMS;
+    put_at(t, HEAD, h, older);
+    put_at(t, INDEXED, 0, j);
+}
+
+// Pairs that are no longer in force leave the index, the newest first.
+fn cut_pairs(t: &mut [u32], n: usize)
+    requires { ⌜ Cuttable (now t) n ⌝ }
+    ensures { λ _. ⌜ PairsCut (now (t .entry)) (now (t .exit)) n ⌝ }
+{
+    let mut j = get_at(t, INDEXED, 0);
+    while j > n {
+        j -= 1;
+        drop_pair(t, j);
+    }
+}
+
+fn add_pairs(t: &mut [u32], xs: &[u32], ys: &[u32])
+    requires { ⌜ PairsAddable (now t) (now xs) (now ys) ⌝ }
+    ensures { λ _. ⌜ Copied (now (t .entry)) (now (t .exit)) (indexed# (now (t .entry))) (now (xs .entry)) (now (ys .entry)) ⌝ }
+{
+    let mut i = 0;
+    while i < xs.len() {
+        add_pair(t, get_at(xs, 0, i), get_at(ys, 0, i));
+        i += 1;
+    }
+}
+
 // The numbers of two lists become argument pairs from start on.
 fn copy_pairs(t: &mut [u32], start: usize, xs: &[u32], ys: &[u32])
     requires { ⌜ PairRoom (now t) start (now xs) (now ys) ⌝ }
     ensures { λ _. ⌜ Copied (now (t .entry)) (now (t .exit)) start (now (xs .entry)) (now (ys .entry)) ⌝ }
 {
-    let mut i = 0;
-    while i < xs.len() {
-        put_at(t, LEFT, start + i, get_at(xs, 0, i));
-        put_at(t, RIGHT, start + i, get_at(ys, 0, i));
-        i += 1;
-    }
+    cut_pairs(t, start);
+    add_pairs(t, xs, ys);
 }
 
 // Like `merge`, but the label is all argument pairs of the two applications, in order. Within one class no pairs are taken.
@@ -438,49 +585,26 @@ fn forest_nca(t: &[u32], a: usize, b: usize) -> usize
     x
 }
 
-// Are x and y a and b, in this order?
-fn both(x: usize, y: usize, a: usize, b: usize) -> bool
-    ensures { λ r. ⌜ r ≡ (eqb x a && eqb y b) ⌝ }
-{
-    if x == a {
-        return y == b;
-    }
-    false
-}
-
-// In either order?
-fn same_pair(x: usize, y: usize, a: usize, b: usize) -> bool
-    ensures { λ r. ⌜ r ≡ same-pair x y (a, b) ⌝ }
-{
-    if both(x, y, a, b) {
-        return true;
-    }
-    both(x, y, b, a)
-}
-
-// Marks argument pair j where it is the pair of a and b.
-fn mark_pair(t: &[u32], a: usize, b: usize, j: usize, marks: &mut [u32])
-    requires { ⌜ Markable (now t) (now marks) j ⌝ }
-    ensures { λ _. ⌜ now (marks .exit) ≡ cond (is-pair (now (t .entry)) j (a, b)) (put (now (marks .entry)) MARKS j 1) (now (marks .entry)) ⌝ }
-{
-    let x = get_at(t, LEFT, j);
-    let y = get_at(t, RIGHT, j);
-    if same_pair(x, y, a, b) {
-        put_at(marks, MARKS, j, 1);
-    }
-}
-
-// Marks each argument pair in force that is the pair of a and b.
+// Marks the argument pairs in force that are the pair of a and b: all of them have one first pair.
 fn mark_pairs(t: &[u32], a: usize, b: usize, marks: &mut [u32])
-    requires { ⌜ EngineSound (now t) × (max-pairs ≤ length (now marks)) ⌝ }
+    requires { ⌜ EngineSound (now t) × IsNode a × IsNode b × (max-pairs ≤ length (now marks)) ⌝ }
     ensures { λ _. ⌜ MarksPair (now (t .entry)) a b (now (marks .entry)) (now (marks .exit)) ⌝ }
 {
-    let n = pairs_in_force(t);
-    let mut j = 0;
-    while j < n {
-        mark_pair(t, a, b, j, marks);
-        j += 1;
+    let k = find_pair(t, a, b);
+    if k == get_at(t, INDEXED, 0) {
+        return;
     }
+    let first = get_at(t, LEFT, k) / MAX_TERMS;
+    put_at(marks, MARKS, first, 1);
+}
+
+// Has argument pair j been expanded? Its first pair has the mark.
+fn is_expanded(t: &[u32], j: usize, marks: &[u32]) -> bool
+    requires { ⌜ EngineSound (now t) × (j < pairs-in-force (merges (now t))) × (max-pairs ≤ length (now marks)) ⌝ }
+    ensures { λ r. ⌜ r ≡ mark-of (now (t .entry)) (now (marks .entry)) j ⌝ }
+{
+    let first = get_at(t, LEFT, j) / MAX_TERMS;
+    get_at(marks, MARKS, first) != 0
 }
 
 // Explains two equal nodes whose pair has not been expanded yet: the first up to the nearest common ancestor, then the second.
@@ -554,8 +678,8 @@ fn expand_pair(t: &[u32], j: usize, marks: &mut [u32], out: &mut [u32])
     ensures { λ _. ⌜ Goes (now (t .entry)) (now (marks .entry)) (now (out .entry)) (now (marks .exit)) (now (out .exit))
         (Pairs (pair-at (now (t .entry)) j ∷ [])) ⌝ }
 {
-    if get_at(marks, MARKS, j) == 0 {
-        explain_rec(t, get_at(t, LEFT, j), get_at(t, RIGHT, j), marks, out);
+    if !is_expanded(t, j, marks) {
+        explain_rec(t, left(t, j), right(t, j), marks, out);
     }
 }
 

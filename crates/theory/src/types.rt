@@ -5,9 +5,9 @@ use core::table::put_at;
 ghost use mathlib.Core.Path.{_≡_};
 ghost use Prim.Native.Nat.{_<_, _≤_};
 ghost use lib.ListN.{length, getD};
-ghost use Rattle.core.specs.Limits.{max-terms};
+ghost use Rattle.core.specs.Limits.{max-terms, max-theories};
 ghost use Rattle.theory.specs.Types.{AssertedLeaf, same-leaf};
-ghost use Rattle.theory.specs.Memory.Answer.{answer-size, leaf-of, leaf-at, leaves, leaf-meaning, has-leaf, LeavesSound, HasRoom, Pushable, Pushed, Cleared};
+ghost use Rattle.theory.specs.Memory.Answer.{answer-size, buckets, bucket, leaf-of, leaf-at, leaves, leaf-meaning, has-leaf, LeavesSound, HasRoom, Linkable, linked, Pushable, Pushed, NoLeaves, Cleared};
 
 // The leaf of another theory: which one, and a tag of its own.
 pub struct TheoryJust {
@@ -29,7 +29,8 @@ pub enum EqLeaf {
 
 // ---- the answer table
 
-// Its regions: how many leaves; for each leaf 0, or one more than its theory; its literal or its tag.
+// Its regions: how many leaves; for each leaf 0, or one more than its theory; its literal or its tag; the index: for each bucket one more
+// than the newest leaf in it, or 0, and for each leaf the same of the leaves before it in its bucket.
 const COUNTS: usize = 0;
 
 const LEAVES: usize = 0;
@@ -38,11 +39,29 @@ const LEAF_KIND: usize = 1;
 
 const LEAF_VALUE: usize = 1025;
 
+const BUCKET: usize = 2049;
+
+const LINK: usize = 2300;
+
+const BUCKETS: usize = 251;
+
+fn clear_buckets(out: &mut [u32])
+    requires { ⌜ answer-size ≤ length (now out) ⌝ }
+    ensures { λ _. ⌜ NoLeaves (now (out .exit)) ⌝ }
+{
+    let mut h = 0;
+    while h < BUCKETS {
+        put_at(out, BUCKET, h, 0);
+        h += 1;
+    }
+}
+
 // No leaf yet.
 pub fn clear_leaves(out: &mut [u32])
     requires { ⌜ answer-size ≤ length (now out) ⌝ }
     ensures { λ _. ⌜ Cleared (now (out .exit)) ⌝ }
 {
+    clear_buckets(out);
     put_at(out, COUNTS, LEAVES, 0);
 }
 
@@ -82,20 +101,38 @@ fn leaf_is(out: &[u32], i: usize, kind: usize, value: usize) -> bool
     false
 }
 
-// Does the leaf stand there?
+fn bucket(kind: usize, value: usize) -> usize
+    requires { ⌜ (kind ≤ max-theories) × (value < 4294967296) ⌝ }
+    ensures { λ r. ⌜ (r ≡ bucket kind value) × (r < buckets) ⌝ }
+{
+    (kind + value) % BUCKETS
+}
+
+// Does the leaf stand there? The leaves of one bucket are asked, the newest first.
 fn has_leaf(out: &[u32], kind: usize, value: usize) -> bool
-    requires { ⌜ LeavesSound (now out) ⌝ }
+    requires { ⌜ LeavesSound (now out) × (kind ≤ max-theories) × (value < 4294967296) ⌝ }
     ensures { λ r. ⌜ r ≡ has-leaf (leaf-of kind value) (leaves (now (out .entry))) ⌝ }
 {
-    let n = get_at(out, COUNTS, LEAVES);
-    let mut i = 0;
-    while i < n {
-        if leaf_is(out, i, kind, value) {
+    let h = bucket(kind, value);
+    let mut k = get_at(out, BUCKET, h);
+    while k != 0 {
+        if leaf_is(out, k - 1, kind, value) {
             return true;
         }
-        i += 1;
+        k = get_at(out, LINK, k - 1);
     }
     false
+}
+
+// Leaf n goes to the head of its bucket.
+fn link_leaf(out: &mut [u32], n: usize, kind: usize, value: usize)
+    requires { ⌜ Linkable (now out) n kind value ⌝ }
+    ensures { λ _. ⌜ now (out .exit) ≡ linked (now (out .entry)) n (bucket kind value) ⌝ }
+{
+    let h = bucket(kind, value);
+    let older = get_at(out, BUCKET, h);
+    put_at(out, LINK, n, older);
+    put_at(out, BUCKET, h, n + 1);
 }
 
 fn push_words(out: &mut [u32], kind: usize, value: usize)
@@ -106,6 +143,7 @@ fn push_words(out: &mut [u32], kind: usize, value: usize)
         return;
     }
     let n = get_at(out, COUNTS, LEAVES);
+    link_leaf(out, n, kind, value);
     put_at(out, LEAF_KIND, n, kind);
     put_at(out, LEAF_VALUE, n, value);
     put_at(out, COUNTS, LEAVES, n + 1);

@@ -252,7 +252,7 @@ fn step(t: &mut [u32], i: u32, sum: u32, out: &mut [u32]) -> u32
 
 fn main() {
     let mut t = [7u32; 16384];
-    let mut out = [7u32; 2049];
+    let mut out = [7u32; 3324];
     let mut atoms = [7u32; 3073];
     eq::clear(&mut t);
     at::clear(&mut atoms);

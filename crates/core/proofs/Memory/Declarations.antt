@@ -1,12 +1,12 @@
 -- Declarations: an empty table, terms given back, one more sort, one more symbol, a function, a constructor.
-use Rattle.core.proofs.Kit.{ℕ, zero, suc, _+_, _-_, _*_, _/_, _%_, _≤_, _<_, _≡_, refl, sym, ap, _∙_, true, false, true≢false, List, [], _∷_, _++_, append-assoc, append-nil, ℕ-discrete, add-one, arith, below-more, le-leb, lt-leb, leb, length, getD, take, drop, length-append, drop-of-length-le, drop-cons, take-all, take-take, length-take-le}
+use Rattle.core.proofs.Kit.{ℕ, zero, suc, _+_, _-_, _*_, _/_, _%_, _≤_, _<_, _≡_, refl, sym, subst, ap, _∙_, true, false, true≢false, List, [], _∷_, _++_, append-assoc, append-nil, add-one, arith, below-more, le-leb, lt-leb, leb, length, getD, take, drop, length-append, drop-of-length-le, drop-cons, take-all, take-take, length-take-le}
 use Rattle.core.specs.Limits.{max-sorts, max-symbols, table-words}
 use Rattle.core.specs.Lists.{range}
 use Rattle.core.specs.Sort.{SortNode, BoolSort}
 use Rattle.core.specs.Term.{Function, Symbol}
 use Rattle.core.specs.Context.{Context, empty-context, with-symbols, declare-sort, declare-fun, selectors-from, constructor-symbols, dt-add-constructor, cut-terms, declarations-fit}
 use Rattle.core.specs.Memory.Words.{at, put, put-all, Kept, counted}
-use Rattle.core.specs.Memory.Table.{COUNTS, SORTS, SYMBOLS, TERMS, SORT, OWNER, RESULT, ARITY, PARAMS, OP, OFFSET, BUCKET, LINK, core-room, sorts#, symbols#, terms#, digit, packed, packed-words, node-of, role-of, sort-at, param-at, symbol-at, term-at, context, buckets, bucket-of, newest, AllBelow, SymbolSound, ContextSound, MayDeclare, SymbolRoom, SymbolAdded, SelectorRoom, SymbolsAdded, NoTerms}
+use Rattle.core.specs.Memory.Table.{COUNTS, SORTS, SYMBOLS, TERMS, SORT, OWNER, RESULT, ARITY, PARAMS, OP, OFFSET, BUCKET, LINK, core-room, sorts#, symbols#, terms#, digit, packed, packed-words, node-of, role-of, sort-at, param-at, symbol-at, term-at, context, buckets, bucket-of, newest, Indexed, AllBelow, SymbolSound, ContextSound, MayDeclare, SymbolRoom, SymbolAdded, SelectorRoom, SymbolsAdded, NoTerms}
 use Rattle.core.specs.Memory.Codes.{Declares}
 use Rattle.core.specs.declared.context.Declared as Declared
 use Rattle.core.proofs.Lists.{and-no}
@@ -14,7 +14,7 @@ use Rattle.core.proofs.Symbols.{constructor-count}
 use Rattle.core.proofs.Memory.Counted.{counted-same, counted-cut, counted-grown, counted-list}
 use Rattle.core.proofs.Memory.Stores.{other-place, length-put}
 use Rattle.core.proofs.Memory.Regions.{stores}
-use Rattle.core.proofs.Memory.Index.{newest-not}
+use Rattle.core.proofs.Memory.Index.{indexed-less, found}
 use Rattle.core.proofs.Memory.Codes.{digit-packed, ctor-role, tester-role, selector-role}
 use Rattle.core.proofs.Memory.Views.{sorts-length, symbols-length, terms-length, offset-mono}
 use Rattle.core.proofs.Memory.Keeping.{SymbolsKept, continued, continued-old, symbol-kept, term-kept, sorts-view, symbols-view, terms-view, symbols-apart, terms-apart, index-kept, index-apart}
@@ -45,7 +45,11 @@ cleared-sound u c = record {
   start = c .start;
   terms = λ i h. absurd (omega arith);
   places-fit = rw (c .terms) (omega arith);
-  index = rw (c .terms) (record { heads = c .heads; links = λ i h. absurd (omega arith); once = λ i j h l e. absurd (omega arith) });
+  index = rw (c .terms) (record {
+    heads = c .heads;
+    links = λ i h. absurd (omega arith);
+    once = λ i j h l e. absurd (omega arith);
+  });
 }
 
 cleared-view : (u : List ℕ) → Cleared u → context u ≡ empty-context
@@ -115,7 +119,10 @@ dropped i {t} {h} {o} {t₁} {u} z n b d q e₁ e₂ =
     let top = offset-mono t z i (terms# t) m (omega arith) in
     let end = ts .offset i (omega arith) in
     let index =
-    index-kept t u z i m ts (λ x g. older x g head (heads x (omega arith)) (ℕ-discrete x h)) (λ j g. k .rest LINK j tt (omega arith)) in
+    index-kept t u z i m ts
+    (indexed-less (subst (Indexed (bucket-of t) (at t BUCKET) (at t LINK) buckets) (n ∙ add-one i) (found (z .index))) (rw (← b) d)
+    (ap (at u BUCKET) (sym b) ∙ head ∙ q) (λ x g p. heads x (omega arith) (λ r. p (r ∙ b))))
+    (λ j g. k .rest LINK j tt (omega arith)) in
     let sorts = sorts-view t u z written k tt s in
     let symbols = symbols-view t u z y ys in
     let terms : counted (term-at u) (terms# u) ≡ take i (counted (term-at t) (terms# t)) =
@@ -123,16 +130,6 @@ dropped i {t} {h} {o} {t₁} {u} z n b d q e₁ e₂ =
     ∙ counted-same (term-at u) (term-at t) i (λ j g. term-kept t u z i j m ts g)
     ∙ sym (counted-cut (term-at t) (terms# t) i m) in
     (continued-old t u z i i (omega arith) ys ts y refl index, λ j. record { sorts = sorts j; symbols = symbols j; terms = terms j })
-  where
-    older : (x : ℕ) → x < buckets → at u BUCKET h ≡ o → ((x ≡ h → ⊥) → at u BUCKET x ≡ at t BUCKET x) → Dec (x ≡ h) →
-        at u BUCKET x ≡ newest (bucket-of t) x i
-    older x g head heads (yes p) =
-        ap (at u BUCKET) p ∙ head ∙ q ∙ z .index .links i (omega arith) ∙ ap (λ (y : ℕ). newest (bucket-of t) y i) (sym (p ∙ b))
-    older x g head heads (no p) =
-        heads p
-        ∙ z .index .heads x g
-        ∙ ap (newest (bucket-of t) x) (n ∙ add-one i)
-        ∙ newest-not (bucket-of t) x i (λ r. p (sym r ∙ sym b))
 
 -- the terms from i on are taken back
 pub record Dropping (t₀ : List ℕ) (n : ℕ) (t : List ℕ) (i : ℕ) : Type 0 where

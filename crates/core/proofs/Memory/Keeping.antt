@@ -1,11 +1,11 @@
 -- A table after some stores: what they leave of its sorts, symbols and terms, and when it is sound again.
-use Rattle.core.proofs.Kit.{ℕ, _+_, _-_, _*_, _/_, _%_, _≤_, _<_, _≡_, ap, ap₂, _∙_, sym, List, decLe, arith, T, length}
+use Rattle.core.proofs.Kit.{ℕ, _+_, _-_, _*_, _/_, _%_, _≤_, _<_, _≡_, refl, ap, ap₂, _∙_, sym, List, decLe, arith, T, length}
 use Rattle.core.specs.Limits.{max-sorts, max-symbols, max-terms, max-places, max-params, table-words}
 use Rattle.core.specs.Term.{Term}
 use Rattle.core.specs.Memory.Words.{at, counted, stretch, clear-of, Kept}
-use Rattle.core.specs.Memory.Table.{SORT, OWNER, RESULT, ARITY, PARAMS, OP, OFFSET, POOL, BUCKET, LINK, core-room, sorts#, symbols#, terms#, digit, node-of, role-of, op-of, sort-at, param-at, symbol-at, args-at, term-at, context, buckets, bucket, bucket-of, newest, SymbolSound, TermSound, IndexSound, ContextSound}
+use Rattle.core.specs.Memory.Table.{SORT, OWNER, RESULT, ARITY, PARAMS, OP, OFFSET, POOL, BUCKET, LINK, core-room, sorts#, symbols#, terms#, digit, node-of, role-of, op-of, sort-at, param-at, symbol-at, args-at, term-at, context, buckets, bucket, bucket-of, Indexed, SymbolSound, TermSound, IndexSound, ContextSound}
 use Rattle.core.proofs.Memory.Counted.{counted-same, stretch-same}
-use Rattle.core.proofs.Memory.Index.{newest-same}
+use Rattle.core.proofs.Memory.Index.{indexed-same, found}
 use Rattle.core.proofs.Memory.Views.{sorts-length, symbols-length, terms-length, offset-mono}
 
 -- the words of the first n symbols, terms are in u what they are in t
@@ -95,23 +95,15 @@ module _ (t u : List ℕ) (z : ContextSound t) where
     unfolding bucket-of term-at
     bucket-kept i h = ap₂ bucket (k .op i h) (ap (λ (x : Term). x .args) (term-kept n i m k h))
 
-    pub newest-kept : (h i : ℕ) → i ≤ n → newest (bucket-of u) h i ≡ newest (bucket-of t) h i
-    newest-kept h i l = newest-same (bucket-of t) h (bucket-of u) i (λ j g. bucket-kept j (omega arith))
-
-    pub links-kept : ((i : ℕ) → i < n → at u LINK i ≡ at t LINK i) → (i : ℕ) → i < n → at u LINK i ≡ newest (bucket-of u) (bucket-of u i) i
-    links-kept same i h =
-        same i h
-        ∙ z .index .links i (omega arith)
-        ∙ sym (ap (λ (x : ℕ). newest (bucket-of u) x i) (bucket-kept i h) ∙ newest-kept (bucket-of t i) i (omega arith))
-
     pub once-kept : (i j : ℕ) → i < n → j < n → term-at u i ≡ term-at u j → i ≡ j
     once-kept i j h l e = z .index .once i j (omega arith) (omega arith) (sym (term-kept n i m k h) ∙ e ∙ term-kept n j m k l)
 
     -- it is sound by its heads, if the links are as they were
-    pub index-kept : ((h : ℕ) → h < buckets → at u BUCKET h ≡ newest (bucket-of t) h n) → ((i : ℕ) → i < n → at u LINK i ≡ at t LINK i) →
+    pub index-kept : Indexed (bucket-of t) (at u BUCKET) (at t LINK) buckets n → ((i : ℕ) → i < n → at u LINK i ≡ at t LINK i) →
         IndexSound u n
-    index-kept heads links =
-        record { heads = λ h l. heads h l ∙ sym (newest-kept h n (omega arith)); links = links-kept links; once = once-kept }
+    index-kept found links =
+        let i = indexed-same found bucket-kept (λ h l. refl) links in
+        record { heads = i .heads; links = i .links; once = once-kept }
 
   -- ---- the table and its view
 
@@ -195,5 +187,6 @@ module _ (t u : List ℕ) (z : ContextSound t) where
     pub index-apart : TermsKept t u (terms# t) → T (clear-of core-room BUCKET ws) → T (clear-of core-room LINK ws) → IndexSound u (terms# t)
     index-apart ts a b =
         let f = z .terms-fit in
-        index-kept (terms# t) (omega arith) ts (λ h l. k .rest BUCKET h a (omega arith) ∙ z .index .heads h l)
+        index-kept (terms# t) (omega arith) ts
+        (indexed-same (found (z .index)) (λ i h. refl) (λ h l. k .rest BUCKET h a (omega arith)) (λ i h. refl))
         (λ i h. k .rest LINK i b (omega arith))

@@ -1,22 +1,22 @@
 -- Terms: an application looked up among them, one more at their end, and making one.
-use Rattle.core.proofs.Kit.{ℕ, zero, suc, _+_, _-_, _≤_, _<_, _≡_, refl, sym, ap, ap₂, _∙_, subst, Bool, true, false, not, _&&_, true≢false, List, [], _∷_, _++_, map, map-append, none, zero-add, add-assoc, add-one, decLe, ℕ-discrete, arith, eq-eqb, ne-eqb, eqb-true, not-false, le-leb, lt-leb, T, eqb, leb, eqb→eq, eqb·suc-suc, length, getD, length-append}
+use Rattle.core.proofs.Kit.{ℕ, zero, suc, _+_, _-_, _≤_, _<_, _≡_, refl, sym, ap, ap₂, _∙_, subst, Bool, true, false, not, _&&_, true≢false, List, [], _∷_, _++_, map, map-append, none, zero-add, add-assoc, add-one, ℕ-discrete, arith, eq-eqb, ne-eqb, eqb-true, not-false, le-leb, lt-leb, T, eqb, leb, eqb→eq, eqb·suc-suc, length, getD, length-append}
 use Rattle.core.specs.Limits.{max-terms, max-places, table-words}
 use Rattle.core.specs.Lists.{same-list, range, total}
 use Rattle.core.specs.Term.{Op, Eq, Uninterpreted, Term, same-op, same-term}
 use Rattle.core.specs.Context as Context
 use Rattle.core.specs.Context.{Context, intern, mk-app, places, terms-fit}
 use Rattle.core.specs.Memory.Words.{at, put, put-all, Kept, counted, stretch}
-use Rattle.core.specs.Memory.Table.{COUNTS, TERMS, OP, OFFSET, POOL, BUCKET, LINK, core-room, sorts#, symbols#, terms#, op-of, args-at, term-at, context, buckets, bucket, bucket-of, newest, AllBelow, TermSound, IndexSound, ContextSound, FindsApp, MayIntern, MayApply, MayEquate, Appendable, Appended}
+use Rattle.core.specs.Memory.Table.{COUNTS, TERMS, OP, OFFSET, POOL, BUCKET, LINK, core-room, sorts#, symbols#, terms#, op-of, args-at, term-at, context, buckets, bucket, bucket-of, Indexed, AllBelow, TermSound, IndexSound, ContextSound, FindsApp, MayIntern, MayApply, MayEquate, Appendable, Appended}
 use Rattle.core.specs.Memory.Codes.{made-answer, made-context, MkApp}
 use Rattle.core.specs.declared.context.Made as Made
 use Rattle.core.proofs.Lists.{T-and, true-T, and-no, not-true-false, same-list-eq, same-list-same, same-list-not}
 use Rattle.core.proofs.Memory.Counted.{counted-more, counted-grown, counted-list, stretch-length, stretch-at}
-use Rattle.core.proofs.Memory.Searching.{NoneFrom, Searched, none-yet, search-next, first-found, first-missing}
+use Rattle.core.proofs.Memory.Searching.{NoneFrom, Searched, search-next, first-found, first-missing}
 use Rattle.core.proofs.Memory.Stores.{other-place}
 use Rattle.core.proofs.Memory.Regions.{stores}
-use Rattle.core.proofs.Memory.Index.{newest-is, newest-not, newest-found, newest-in}
+use Rattle.core.proofs.Memory.Index.{indexed-more, Asking, ask-first, ask-next, ask-less, found}
 use Rattle.core.proofs.Memory.Views.{terms-length}
-use Rattle.core.proofs.Memory.Keeping.{TermsKept, continued, term-kept, newest-kept, links-kept, once-kept, sorts-view, symbols-view, symbols-apart}
+use Rattle.core.proofs.Memory.Keeping.{TermsKept, continued, term-kept, bucket-kept, once-kept, sorts-view, symbols-view, symbols-apart}
 
 -- ---- one term
 
@@ -98,10 +98,9 @@ module _ (t : List ℕ) (code : ℕ) (args : List ℕ) where
       ∙ ap₂ (λ (a b : Bool). a && b) (same-op-codes code code ∙ eq-eqb code code refl) (same-list-same args)
 
   -- and stands in the bucket of the application
-  other-bucket : (i : ℕ) → (bucket-of t i ≡ bucket code args → ⊥) → Fits t code args i ≡ false
+  its-bucket : (i : ℕ) → Fits t code args i ≡ true → bucket-of t i ≡ bucket code args
   unfolding bucket-of
-  other-bucket i d =
-      not-true-false (Fits t code args i) (λ e. let (o, l) = fits-words i e in d (sym (ap₂ bucket o l)))
+  its-bucket i e = let (o, l) = fits-words i e in sym (ap₂ bucket o l)
 
 -- ---- among the terms of a bucket
 
@@ -109,55 +108,33 @@ module _ (t : List ℕ) (code : ℕ) (args : List ℕ) where
 pub record Walking (t : List ℕ) (code : ℕ) (args : List ℕ) (h k : ℕ) : Type 0 where
   pub sound : ContextSound t
   pub hash : h ≡ bucket code args
-  pub within : k ≤ terms# t
-  pub here : newest (bucket-of t) h k ≡ k
-  pub rest : NoneFrom (Fits t code args) k (terms# t)
+  pub asked : Asking (bucket-of t) (Fits t code args) h (terms# t) k
 
--- the walk goes on from the newest before term n
-module _ {t : List ℕ} {code : ℕ} {args : List ℕ} {h : ℕ} (z : ContextSound t) (e : h ≡ bucket code args) where
-  onwards : (n k : ℕ) → n ≤ terms# t → k ≡ newest (bucket-of t) h n → NoneFrom (Fits t code args) n (terms# t) → Walking t code args h k
-  onwards n k m q w =
-      let f = newest-found (bucket-of t) h n in
-      record { sound = z; hash = e; within = omega arith; here = rw q (f .here); rest = λ j l g. each j l g (decLe n j) }
-    where
-      each : (j : ℕ) → k ≤ j → j < terms# t → Dec (n ≤ j) → Fits t code args j ≡ false
-      each j l g (yes o) = w j o g
-      each j l g (no o) =
-          other-bucket t code args j (λ b. newest-found (bucket-of t) h n .after j (omega arith) (omega arith) (b ∙ sym e))
+module _ {t : List ℕ} (code : ℕ) (args : List ℕ) {h : ℕ} (z : ContextSound t) (e : h ≡ bucket code args) where
+  only : (i : ℕ) → i < terms# t → Fits t code args i ≡ true → bucket-of t i ≡ h
+  only i l q = its-bucket t code args i q ∙ sym e
 
   pub walk-first : {k : ℕ} → h < buckets → k ≡ at t BUCKET h → Walking t code args h k
-  walk-first {k} l q = onwards (terms# t) k (omega arith) (q ∙ z .index .heads h l) (none-yet (Fits t code args) (terms# t))
+  walk-first l q = record { sound = z; hash = e; asked = ask-first (found (z .index)) only l q }
 
 module _ {t : List ℕ} {code : ℕ} {args : List ℕ} {h k : ℕ} (w : Walking t code args h k) where
   module _ (n : k ≡ 0 → ⊥) where
-    in-bucket : bucket-of t (k - 1) ≡ h
-    in-bucket =
-        let p : k ≡ suc (k - 1) = omega arith in
-        newest-in (bucket-of t) h (k - 1) (subst (λ (x : ℕ). newest (bucket-of t) h x ≡ x) p (w .here))
-
-    stepped : {r : ℕ} {b : Bool} → r ≡ at t LINK (k - 1) → b ≡ Fits t code args (k - 1) → b ≡ false → Walking t code args h r × (r < k)
-    stepped {r} q f o =
-        let within = w .within in
-        let i : r ≡ newest (bucket-of t) h (k - 1) =
-        q ∙ w .sound .index .links (k - 1) (omega arith) ∙ ap (λ (x : ℕ). newest (bucket-of t) x (k - 1)) in-bucket in
-        let v = newest-found (bucket-of t) h (k - 1) .within in
-        (onwards (w .sound) (w .hash) (k - 1) r (omega arith) i (λ j l g. each j l g (decLe k j)), omega arith)
-      where
-        each : (j : ℕ) → k - 1 ≤ j → j < terms# t → Dec (k ≤ j) → Fits t code args j ≡ false
-        each j l g (yes m) = w .rest j m g
-        each j l g (no m) = let p : j ≡ k - 1 = omega arith in rw p (sym f ∙ o)
-
     pub walk-next : {r : ℕ} {b : Bool} → r ≡ at t LINK (k - 1) → b ≡ Fits t code args (k - 1) → b ≡ false → Walking t code args h r
-    walk-next q f o = stepped q f o .0
+    walk-next q f o =
+        record {
+          sound = w .sound;
+          hash = w .hash;
+          asked = ask-next (found (w .sound .index)) (only code args (w .sound) (w .hash)) (w .asked) n q (sym f ∙ o);
+        }
 
-    pub walk-less : {r : ℕ} {b : Bool} → r ≡ at t LINK (k - 1) → b ≡ Fits t code args (k - 1) → b ≡ false → r < k
-    walk-less q f o = stepped q f o .1
+    pub walk-less : {r : ℕ} → r ≡ at t LINK (k - 1) → r < k
+    walk-less = ask-less (found (w .sound .index)) (only code args (w .sound) (w .hash)) (w .asked) n
 
     -- no term stands twice, so none below it fits
     pub walk-found : {b : Bool} → b ≡ Fits t code args (k - 1) → b ≡ true → FindsApp t code args (k - 1)
     unfolding context
     walk-found f o =
-        let within = w .within in
+        let within = w .asked .within in
         let s = sym f ∙ o in
         record {
           within = omega arith;
@@ -169,7 +146,7 @@ module _ {t : List ℕ} {code : ℕ} {args : List ℕ} {h k : ℕ} (w : Walking 
         lower : (j : ℕ) → j < k - 1 → Fits t code args (k - 1) ≡ true → Fits t code args j ≡ false
         lower j l s =
             not-true-false (Fits t code args j) (λ q.
-            let within = w .within in
+            let within = w .asked .within in
             let same = fits-term t code args j q ∙ sym (fits-term t code args (k - 1) s) in
             let i = w .sound .index .once j (k - 1) (omega arith) (omega arith) same in
             omega arith)
@@ -177,7 +154,7 @@ module _ {t : List ℕ} {code : ℕ} {args : List ℕ} {h k : ℕ} (w : Walking 
   pub walk-missing : {n : ℕ} → k ≡ 0 → n ≡ terms# t → FindsApp t code args n
   unfolding context
   walk-missing q p =
-      let rest : NoneFrom (Fits t code args) 0 (terms# t) = λ j l g. w .rest j (omega arith) g in
+      let rest : NoneFrom (Fits t code args) 0 (terms# t) = λ j l g. w .asked .rest j (omega arith) g in
       record {
         within = omega arith;
         found = λ l. absurd (omega arith);
@@ -244,23 +221,6 @@ module _ {t : List ℕ} {n start code : ℕ} {args : List ℕ} {h : ℕ} {u : Li
     unfolding bucket-of
     new-bucket = ap₂ bucket (w .op) new-args ∙ sym e
 
-    old-newest : (x : ℕ) → x < buckets → at t BUCKET x ≡ newest (bucket-of u) x n
-    old-newest x l =
-        a .sound .index .heads x l
-        ∙ ap (newest (bucket-of t) x) (sym (a .next))
-        ∙ sym (newest-kept t u (a .sound) n (omega arith) (w .terms) x n (omega arith))
-
-    new-heads : (x : ℕ) → x < buckets → Dec (x ≡ h) → at u BUCKET x ≡ newest (bucket-of u) x (suc n)
-    new-heads x l (yes q) =
-        let i = w .head in
-        ap (at u BUCKET) q ∙ i ∙ add-one n ∙ sym (newest-is (bucket-of u) x n (new-bucket ∙ sym q))
-    new-heads x l (no d) =
-        w .heads x l d ∙ old-newest x l ∙ sym (newest-not (bucket-of u) x n (λ q. d (sym q ∙ new-bucket)))
-
-    new-links : h < buckets → (i : ℕ) → i < n + 1 → Dec (i ≡ n) → at u LINK i ≡ newest (bucket-of u) (bucket-of u i) i
-    new-links b i l (yes q) = rw (q, new-bucket) (w .link ∙ old-newest h b)
-    new-links b i l (no d) = links-kept t u (a .sound) n (omega arith) (w .terms) (w .links) i (omega arith)
-
     not-old : (i : ℕ) → i < n → term-at u i ≡ term-at u n → ⊥
     not-old i l q = true≢false (sym (term-fits t code args i (sym (old-term i l) ∙ q ∙ new-term)) ∙ a .new i l)
 
@@ -270,12 +230,21 @@ module _ {t : List ℕ} {n start code : ℕ} {args : List ℕ} {h : ℕ} {u : Li
     new-once i j l m (no d) (yes q) o = absurd (not-old i (omega arith) (o ∙ ap (term-at u) q))
     new-once i j l m (no d) (no c) o = once-kept t u (a .sound) n (omega arith) (w .terms) i j (omega arith) (omega arith) o
 
+    new-found : h < buckets → Indexed (bucket-of u) (at u BUCKET) (at u LINK) buckets (suc n)
+    new-found b =
+        indexed-more (subst (Indexed (bucket-of t) (at t BUCKET) (at t LINK) buckets) (sym (a .next)) (found (a .sound .index)))
+        (bucket-kept t u (a .sound) n (omega arith) (w .terms)) (rw new-bucket b)
+        (ap (at u BUCKET) new-bucket ∙ w .head ∙ add-one n) (λ x l d. w .heads x l (λ q. d (q ∙ sym new-bucket)))
+        (w .link ∙ ap (at t BUCKET) (sym new-bucket)) (w .links)
+
     new-index : h < buckets → IndexSound u (n + 1)
-    new-index b = record {
-      heads = λ x l. new-heads x l (ℕ-discrete x h) ∙ ap (newest (bucket-of u) x) (sym (add-one n));
-      links = λ i l. new-links b i l (ℕ-discrete i n);
-      once = λ i j l m. new-once i j l m (ℕ-discrete i n) (ℕ-discrete j n);
-    }
+    new-index b =
+        let i = subst (Indexed (bucket-of u) (at u BUCKET) (at u LINK) buckets) (sym (add-one n)) (new-found b) in
+        record {
+          heads = i .heads;
+          links = i .links;
+          once = λ i j l m. new-once i j l m (ℕ-discrete i n) (ℕ-discrete j n);
+        }
 
   appended : h ≡ bucket code args → h < buckets → Appended t code args u
   unfolding context intern

@@ -186,10 +186,16 @@ bucket h (x ∷ xs) = bucket ((31 * h + x) % buckets) xs
 unfoldable pub bucket-of : List ℕ → ℕ → ℕ
 bucket-of t i = bucket (at t OP i) (args-at t i)
 
--- one more than the newest of n terms in bucket h, or 0
+-- one more than the newest of n entries in bucket h, or 0
 unfoldable pub newest : (ℕ → ℕ) → ℕ → ℕ → ℕ
 newest hash h zero = 0
 newest hash h (suc n) = let r = newest hash h n in cond (eqb (hash n) h) (suc n) r
+
+-- An index of n entries in so many buckets: for each bucket one more than the newest entry in it, or 0; for each entry the same of the
+-- entries before it in its bucket.
+pub record Indexed (hash head link : ℕ → ℕ) (size n : ℕ) : Type 0 where
+  pub heads : (h : ℕ) → h < size → head h ≡ newest hash h n
+  pub links : (i : ℕ) → i < n → link i ≡ newest hash (hash i) i
 
 -- every number of a list is below n
 abbrev pub AllBelow : ℕ → List ℕ → Type 0

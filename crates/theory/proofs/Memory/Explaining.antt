@@ -6,12 +6,12 @@ use Rattle.core.specs.Memory.Words.{at}
 use Rattle.core.proofs.Lists.{In, T-true, true-T, in-range}
 use Rattle.theory.specs.Types.{EqJust, Asserted, Congruence, Interface, EqLeaf, AssertedLeaf, InterfaceLeaf}
 use Rattle.theory.specs.EqEngine.{Merge, Step, Explained, are-equal, pairs-of, common, way, same-pair, visit, cite, path, expand-edge, explain-rec, explain, firsts-after}
-use Rattle.theory.specs.Memory.Table.{left-word, right-word, pair-at, merges#, label-word, value-word, after-word, fparent-word, fedge-word, label, begins, kind-of, theory-of, just-at, merge-at, pairs-start, merges-below, merges, EngineSound}
+use Rattle.theory.specs.Memory.Table.{left-word, right-word, first-word, pair-at, is-pair, merges#, label-word, value-word, after-word, fparent-word, fedge-word, label, begins, kind-of, theory-of, just-at, merge-at, pairs-start, merges-below, merges, EngineSound}
 use Rattle.theory.specs.declared.types.EqLeaf as Given
 use Rattle.theory.specs.Memory.Replay.{IsNode, Justified}
 use Rattle.theory.specs.Memory.Steps.{Upward}
 use Rattle.theory.specs.Memory.Answer.{leaves, leaf-meaning, HasRoom, Pushed, Labels, Cites, AnswerSound}
-use Rattle.theory.specs.Memory.Explaining.{MARKS, age, pairs-age, Part, NewPair, Way, Label, Pairs, part-age, NotOlder, up-to, expand-way, expand-new, expand, pairs-from, marked, is-pair, Shows, Explaining, Goes, EqualNodes, EqualPair, PairsEqual, MarksPair, Explains}
+use Rattle.theory.specs.Memory.Explaining.{MARKS, age, pairs-age, Part, NewPair, Way, Label, Pairs, part-age, NotOlder, up-to, expand-way, expand-new, expand, pairs-from, marked, mark-of, Shows, Explaining, Goes, EqualNodes, EqualPair, PairsEqual, MarksPair, Explains}
 use Rattle.theory.proofs.Members.{in-left, in-right}
 use Rattle.theory.proofs.Classes.{Same, same-kept, same-equal, equal-same}
 use Rattle.theory.proofs.Forest.{Forest, Above, at-root, at-step, before-self, before-step, way-meets}
@@ -287,11 +287,6 @@ pair-done {t} {from} {to} {m₀} {o₀} {m} {o} {j} c h =
 
 -- ---- expand_pair
 
-marked-other : (w : ℕ) → (w ≡ 0 → ⊥) → marked w ≡ true
-unfolding marked
-marked-other zero h = absurd (h refl)
-marked-other (suc w) h = refl
-
 -- pairs in force have a mark
 pub pair-few : {t : List ℕ} {j : ℕ} → EngineSound t → EqualPair t j → j < max-pairs
 pair-few {t} z k = let n = in-force-few t z in let l = k .in-force in omega arith
@@ -312,14 +307,14 @@ pair-nodes {t} {j} {x} {y} k p q =
       as-old = pairs-age-in (merges t) (pair-at t j ∷ []) (x, y) (inl e);
     }
 
--- the mark w of argument pair j
-module _ {t m o : List ℕ} {j w : ℕ} (k : EqualPair t j) (r : w ≡ at m MARKS j) where
-  marked-as : {seen : List EqLeaf} {f : Explained} → Shows t m o seen f → marked w ≡ any (is-pair t j) (f .visited)
-  marked-as s = ap marked r ∙ s .marks-are j (k .in-force)
+-- whether argument pair j has been expanded
+module _ {t m o : List ℕ} {j : ℕ} {w : Bool} (k : EqualPair t j) (r : w ≡ mark-of t m j) where
+  marked-as : {seen : List EqLeaf} {f : Explained} → Shows t m o seen f → w ≡ any (is-pair t j) (f .visited)
+  marked-as s = r ∙ s .marks-are j (k .in-force)
 
-  pub pair-new : {m₁ o₁ : List ℕ} {x y : ℕ} → PairNodes t j x y → w ≡ 0 → Goes t m o m₁ o₁ (NewPair x y) →
+  pub pair-new : {m₁ o₁ : List ℕ} {x y : ℕ} → PairNodes t j x y → w ≡ false → Goes t m o m₁ o₁ (NewPair x y) →
       Goes t m o m₁ o₁ (Pairs (pair-at t j ∷ []))
-  unfolding expand marked
+  unfolding expand
   pair-new {m₁} {o₁} p q g =
       let a = p .as-old in
       record {
@@ -327,16 +322,16 @@ module _ {t m o : List ℕ} {j w : ℕ} (k : EqualPair t j) (r : w ≡ at m MARK
         shows = λ d seen f n s.
             subst (Shows t m₁ o₁ seen)
             (ap (λ (v : ℕ × ℕ). expand-new (merges t) (v .0) (v .1) d f) (p .is)
-            ∙ new-is (merges t) (pair-at t j .0) (pair-at t j .1) f d (sym (marked-as s) ∙ ap marked q))
+            ∙ new-is (merges t) (pair-at t j .0) (pair-at t j .1) f d (sym (marked-as s) ∙ q))
             (g .shows d seen f (omega arith) s);
       }
 
-  pub pair-known : Explaining t m o → (w ≡ 0 → ⊥) → Goes t m o m o (Pairs (pair-at t j ∷ []))
+  pub pair-known : Explaining t m o → w ≡ true → Goes t m o m o (Pairs (pair-at t j ∷ []))
   unfolding expand
   pair-known z q = record {
     answer = z .answer;
     shows = λ d seen f n s.
-        subst (Shows t m o seen) (skip-is (merges t) (pair-at t j .0) (pair-at t j .1) f d (sym (marked-as s) ∙ marked-other w q)) s;
+        subst (Shows t m o seen) (skip-is (merges t) (pair-at t j .0) (pair-at t j .1) f d (sym (marked-as s) ∙ q)) s;
   }
 
 -- ---- expand_edge
@@ -470,7 +465,7 @@ explained {t} {m} {o} {a = a} {b = b} n e g =
     let d = suc (length (merges t)) in
     let s = g .shows d (leaves o) none-yet (omega arith) (record {
       listed = sym (append-nil (leaves o));
-      marks-are = λ j l. ap marked (ap (λ (u : List ℕ). at u MARKS j) e ∙ no-marks n j);
+      marks-are = λ j l. ap marked (ap (λ (u : List ℕ). at u MARKS (first-word t j)) e ∙ no-marks n (first-word t j));
     }) in
     record {
       sound = g .answer;

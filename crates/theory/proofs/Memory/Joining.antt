@@ -1,17 +1,15 @@
 -- Two classes joined under a given label, or one class left as it is.
-use Rattle.core.proofs.Kit.{ℕ, suc, _+_, _-_, _≤_, _<_, _≡_, refl, sym, subst, ap, ap₂, _∙_, Bool, true, false, cond, true≢false, List, [], _∷_, map, arith, add-zero, zero-add, below-more, ne-eqb, eqb, lit<, length}
+use Rattle.core.proofs.Kit.{ℕ, suc, _+_, _-_, _≤_, _<_, _≡_, refl, sym, subst, ap, ap₂, _∙_, inl, inr, zero, Bool, true, false, cond, true≢false, List, [], _∷_, map, arith, add-zero, zero-add, lit<, length}
 use Rattle.core.specs.Limits.{max-terms, max-pairs}
 use Rattle.core.specs.Lists.{In, range, zip}
-use Rattle.core.specs.Memory.Words.{at, put, Kept}
-use Rattle.core.proofs.Memory.Stores.{kept-none, kept-put}
+use Rattle.core.specs.Memory.Words.{at}
 use Rattle.theory.specs.Types.{EqJust, Asserted, Congruence, Interface}
 use Rattle.theory.specs.declared.types.EqJust as Given
 use Rattle.theory.specs.declared.eq_engine.LabelWords as LabelWords
 use Rattle.theory.specs.EqEngine.{Merge, are-equal, merge, pairs-of, pairs-in-force, way}
 use Rattle.theory.specs.Memory.Replay.{EqualPairs}
-use Rattle.theory.specs.Memory.Table.{engine-size, COUNTS, MERGES, LEVEL, PARENT, SIZE, LEFT, RIGHT, engine-room, merges#, level-word, left-word, right-word, pair-at, label, begins, merges, just-meaning, EngineSound, Engine, TwoNodes, Merges, Congruent}
-use Rattle.theory.specs.Memory.Steps.{SamePairs, SameLog, Joinable, HoldsLabel, PairRoom, Copied}
-use Rattle.theory.proofs.Memory.EngineStores.{stores}
+use Rattle.theory.specs.Memory.Table.{COUNTS, MERGES, LEVEL, PARENT, SIZE, merges#, level-word, left-word, right-word, pair-at, label, begins, merges, just-meaning, EngineSound, Engine, TwoNodes, Merges, Congruent}
+use Rattle.theory.specs.Memory.Steps.{SameLog, Joinable, HoldsLabel, PairRoom, Copied}
 use Rattle.theory.proofs.Memory.Log.{pairs-more, after-within}
 use Rattle.theory.proofs.Memory.SoundTables.{edge-kept, Shortened, shorter-sound, shorter-merges}
 
@@ -70,6 +68,7 @@ module _ {t : List ℕ} {a b : ℕ} {r : Bool} (n : ℕ) (j : Given.EqJust) (w :
         start = start ∙ p;
         ordered = omega arith;
         fit = top;
+        indexed = let c = s .sound .covers in omega arith;
         pairs = λ x i. absurd (subst (λ (ps : List (ℕ × ℕ)). In x ps) (ap pairs-of (h .is t n) ∙ plain j) i);
       }
 
@@ -78,60 +77,6 @@ module _ {t : List ℕ} {a b : ℕ} {r : Bool} (n : ℕ) (j : Given.EqJust) (w :
       (level-word t) → Merges t u a b (just-meaning j)
   merged-label = merged-two (label t (w .kind) (w .theory) (w .value) n) (just-meaning j) (sym q ∙ two) (h .is t n)
 
--- ---- argument pairs written one after the other
-
--- the first i pairs are written
-pub record CopyingPairs (t₀ t : List ℕ) (start : ℕ) (xs ys : List ℕ) (i : ℕ) : Type 0 where
-  pub within : i ≤ length xs
-  pub room : PairRoom t₀ start xs ys
-  pub long : engine-size ≤ length t
-  pub kept : Kept engine-room (LEFT ∷ RIGHT ∷ []) t₀ t
-  pub older : SamePairs t₀ t start
-  pub new : (j : ℕ) → j < i → (left-word t (start + j) ≡ at xs 0 j) × (right-word t (start + j) ≡ at ys 0 j)
-
-pub copying-first : {t : List ℕ} {start : ℕ} {xs ys : List ℕ} → PairRoom t start xs ys → CopyingPairs t t start xs ys 0
-copying-first {t} r = record {
-  within = omega arith;
-  room = r;
-  long = r .long;
-  kept = kept-none engine-room (LEFT ∷ RIGHT ∷ []) t;
-  older = λ j h. (refl, refl);
-  new = λ j h. absurd (omega arith);
-}
-
-pub copying-next : {t₀ t u v : List ℕ} {start : ℕ} {xs ys : List ℕ} {i x y : ℕ} → CopyingPairs t₀ t start xs ys i → i < length xs →
-    x ≡ at xs 0 i → y ≡ at ys 0 i → u ≡ put t LEFT (start + i) x → v ≡ put u RIGHT (start + i) y → CopyingPairs t₀ v start xs ys (i + 1)
-copying-next {t₀} {t} {u} {v} {start} {xs} {ys} {i} {x} {y} c h p q e g =
-    let l = c .long in
-    let ws = LEFT ∷ RIGHT ∷ [] in
-    record {
-      within = omega arith;
-      room = c .room;
-      long = search (g, e, stores);
-      kept = rw (g, e)
-          (kept-put engine-room ws t₀ (put t LEFT (start + i) x) RIGHT (start + i) y tt here
-          (kept-put engine-room ws t₀ t LEFT (start + i) x tt here (c .kept)));
-      older = λ j b. let a = there j (omega arith) in let d = c .older j b in (a .0 ∙ d .0, a .1 ∙ d .1);
-      new = below-more (λ j. (left-word v (start + j) ≡ at xs 0 j) × (right-word v (start + j) ≡ at ys 0 j)) i
-          (λ j b. let a = there (start + j) (omega arith) in let d = c .new j b in (a .0 ∙ d .0, a .1 ∙ d .1))
-          (let k = here in search (g, e, p, q, stores));
-    }
-  where
-    here : start + i < max-pairs
-    here = let f = c .room .fit in omega arith
-
-    there : (j : ℕ) → j < start + i → (left-word v j ≡ left-word t j) × (right-word v j ≡ right-word t j)
-    there j b =
-        let k = here in
-        let l = c .long in
-        let w : j < max-pairs = omega arith in
-        let d : eqb j (start + i) ≡ false = ne-eqb j (start + i) (omega arith) in
-        search (g, e, d, stores)
-
-pub copying-done : {t₀ t : List ℕ} {start : ℕ} {xs ys : List ℕ} {i : ℕ} → CopyingPairs t₀ t start xs ys i → length xs ≤ i →
-    Copied t₀ t start xs ys
-copying-done c h = record { kept = c .kept; older = c .older; new = λ j k. c .new j (omega arith) }
-
 -- ---- a label of pairs
 
 pub zip-length : (xs ys : List ℕ) → length xs ≡ length ys → length (zip xs ys) ≡ length xs
@@ -139,6 +84,14 @@ unfolding zip
 zip-length [] ys e = refl
 zip-length (x ∷ xs) [] e = absurd (omega arith)
 zip-length (x ∷ xs) (y ∷ ys) e = ap suc (zip-length xs ys (omega arith))
+
+zip-in : (xs ys : List ℕ) (i : ℕ) → length xs ≡ length ys → i < length xs → In (at xs 0 i, at ys 0 i) (zip xs ys)
+unfolding zip at
+zip-in [] ys i e h = absurd (omega arith)
+zip-in (x ∷ xs) [] i e h = absurd (omega arith)
+zip-in (x ∷ xs) (y ∷ ys) zero e h = inl refl
+zip-in (x ∷ xs) (y ∷ ys) (suc i) e h =
+    inr (rw (zero-add (suc i)) (rw zero-add at (zip-in xs ys i (omega arith) (omega arith))))
 
 -- a merge whose pairs fit leaves room for them
 pub pairs-room : {t : List ℕ} {a b start : ℕ} {xs ys : List ℕ} {r : Bool} → Congruent t a b xs ys → r ≡ are-equal (merges t) a b →
@@ -150,7 +103,16 @@ pairs-room {t} {a} {b} {start} {xs} {ys} s q two p =
     let more = ap pairs-in-force (merge-two l j (sym q ∙ two)) ∙ pairs-more (record { a = a; b = b; just = j; level = l }) (merges t) in
     let n = zip-length xs ys (s .same-count) in
     let f = s .fit in
-    record { long = s .nodes .sound .long; same-count = s .same-count; fit = omega arith }
+    let z = s .nodes .sound in
+    let c = z .covers in
+    record {
+      long = z .long;
+      same-count = s .same-count;
+      fit = omega arith;
+      indexed = z .indexed;
+      covers = omega arith;
+      nodes = λ i h. let e = s .equal (at xs 0 i, at ys 0 i) (zip-in xs ys i (s .same-count) h) in (e .1, e .2);
+    }
 
 -- and pairs for which there is room fit
 pub room-pairs : (ms : List Merge) (l a b : ℕ) (xs ys : List ℕ) → length xs ≡ length ys → pairs-in-force ms + length xs ≤ max-pairs →
@@ -210,6 +172,8 @@ module _ {t u : List ℕ} {start : ℕ} {xs ys : List ℕ} {a b : ℕ} {r : Bool
         parents = λ x h. c .kept .rest PARENT x tt h ∙ z .parents x h;
         sizes = λ x h. c .kept .rest SIZE x tt h ∙ z .sizes x h;
         forest = λ x h. edge-kept (way (merges t) x) same-log (omega arith) (search (c .kept .rest, tt)) (z .forest x h);
+        indexed = c .indexed;
+        covers = let n = c .count in omega arith;
       }
 
   -- more pairs behind those in force change nothing
@@ -238,6 +202,7 @@ module _ {t u : List ℕ} {start : ℕ} {xs ys : List ℕ} {a b : ℕ} {r : Bool
         start = p ∙ ap pairs-in-force (sym copied-merges);
         ordered = omega arith;
         fit = omega arith;
+        indexed = let k = c .count in omega arith;
         pairs = subst (λ (j : EqJust). EqualPairs (merges u) (pairs-of j)) (sym (label-is n e))
             (subst (λ (ms : List Merge). EqualPairs ms (zip xs ys)) (sym copied-merges) (s .equal));
       }

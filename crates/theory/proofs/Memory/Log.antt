@@ -115,7 +115,7 @@ pub pairs-more : (m : Merge) (ms : List Merge) → pairs-in-force (m ∷ ms) ≡
 unfolding pairs-in-force total
 pairs-more m ms = refl
 
-label-length : (t : List ℕ) (k h v e : ℕ) → begins k v e ≤ e → length (pairs-of (label t k h v e)) + begins k v e ≡ e
+pub label-length : (t : List ℕ) (k h v e : ℕ) → begins k v e ≤ e → length (pairs-of (label t k h v e)) + begins k v e ≡ e
 unfolding label begins pairs-of
 label-length t zero h v e l = omega arith
 label-length t (suc zero) h v e l = omega (arith, length-map-range {A = ℕ × ℕ} (pair-at t) v (e - v))
@@ -150,7 +150,7 @@ pub pairs-none : (t : List ℕ) {n : ℕ} → n ≡ merges# t → n ≡ 0 → (0
 pairs-none t e f = (no-pairs t (sym e ∙ f), omega arith)
 
 -- pairs in force of some time before are no more
-pairs-fewer : (t : List ℕ) (i n : ℕ) → i ≤ n → pairs-in-force (merges-below t i) ≤ pairs-in-force (merges-below t n)
+pub pairs-fewer : (t : List ℕ) (i n : ℕ) → i ≤ n → pairs-in-force (merges-below t i) ≤ pairs-in-force (merges-below t n)
 unfolding merges-below
 pairs-fewer t i zero h = let e : i ≡ 0 = omega arith in let q = ap (λ (k : ℕ). pairs-in-force (merges-below t k)) e in omega arith
 pairs-fewer t i (suc n) h = go (decLe i n) (pairs-fewer t i n)

@@ -1,10 +1,13 @@
 -- The marks of the argument pairs that an explanation has expanded.
-use Rattle.core.proofs.Kit.{ℕ, _+_, _≤_, _<_, _≡_, refl, sym, ap, ap₂, _∙_, Bool, true, false, cond, _&&_, _||_, List, arith, below-more, eq-eqb, ne-eqb, eqb, length, getD-set-same}
+use Rattle.core.proofs.Kit.{ℕ, _+_, _/_, _≤_, _<_, _≡_, refl, sym, ap, ap₂, _∙_, Bool, true, false, cond, not, _&&_, _||_, zero, suc, true≢false, List, arith, eq-eqb, ne-eqb, eqb, length, getD-set-same}
+use Rattle.core.specs.Limits.{max-terms, max-pairs}
 use Rattle.core.specs.Memory.Words.{at, put}
-use Rattle.core.proofs.Memory.Stores.{length-put, other-place}
+use Rattle.core.proofs.Memory.Stores.{other-place}
 use Rattle.theory.specs.EqEngine.{pairs-in-force, same-pair}
-use Rattle.theory.specs.Memory.Table.{left-word, right-word, merges}
-use Rattle.theory.specs.Memory.Explaining.{MARKS, marked, is-pair, MarksPair}
+use Rattle.theory.specs.Memory.Table.{LEFT, left-word, right-word, first-word, indexed#, is-pair, merges, EngineSound}
+use Rattle.theory.specs.Memory.Steps.{FindsPair}
+use Rattle.theory.specs.Memory.Explaining.{MARKS, marked, mark-of, MarksPair}
+use Rattle.theory.proofs.Memory.PairIndex.{first-alike, alike-first}
 
 pub both-first : (x y a b : ℕ) → x ≡ a → eqb y b ≡ (eqb x a && eqb y b)
 both-first x y a b p = sym (ap (λ (u : Bool). u && eqb y b) (eq-eqb x a p))
@@ -22,55 +25,71 @@ pub same-pair-other : (x y a b : ℕ) (r s : Bool) → r ≡ (eqb x a && eqb y b
 unfolding same-pair
 same-pair-other x y a b r s p q e = e ∙ sym (ap (λ (u : Bool). u || (eqb x b && eqb y a)) (sym p ∙ q))
 
--- a test r of the nodes x and y of argument pair j, and one store or none
-module _ (t ks : List ℕ) (a b j x y : ℕ) (r : Bool) (p : x ≡ left-word t j) (q : y ≡ right-word t j) (e : r ≡ same-pair x y (a, b)) where
-  tested : r ≡ is-pair t j (a, b)
-  tested = e ∙ ap₂ (λ (u v : ℕ). same-pair u v (a, b)) p q
+-- a test r of the nodes x and y of argument pair j
+pub tested : (t : List ℕ) (a b j : ℕ) {x y : ℕ} {r : Bool} → x ≡ left-word t j → y ≡ right-word t j → r ≡ same-pair x y (a, b) →
+    r ≡ is-pair t j (a, b)
+tested t a b j p q e = e ∙ ap₂ (λ (u v : ℕ). same-pair u v (a, b)) p q
 
-  pub mark-one : (ls : List ℕ) → r ≡ true → ls ≡ put ks MARKS j 1 → ls ≡ cond (is-pair t j (a, b)) (put ks MARKS j 1) ks
-  mark-one ls h g = g ∙ sym (ap (λ (c : Bool). cond c (put ks MARKS j 1) ks) (sym tested ∙ h))
+-- The pair of a and b is expanded: the first of the pairs of these nodes is marked, if there is one.
+module _ {t : List ℕ} {a b k n : ℕ} (z : EngineSound t) (w : FindsPair t a b k) (e : n ≡ indexed# t) where
+  pub mark-none : {ks : List ℕ} → k ≡ n → MarksPair t a b ks ks
+  mark-none {ks} q =
+      record {
+        each = λ j l. let c = z .covers in sym (ap (λ (x : Bool). cond x true (mark-of t ks j)) (w .missing (q ∙ e) j (omega arith)));
+      }
 
-  pub mark-none : r ≡ false → ks ≡ cond (is-pair t j (a, b)) (put ks MARKS j 1) ks
-  mark-none h = sym (ap (λ (c : Bool). cond c (put ks MARKS j 1) ks) (sym tested ∙ h))
+  module _ (d : k ≡ n → ⊥) where
+    found : k < indexed# t
+    found = let v = w .within in omega arith
 
-record Stored (b : Bool) (ks ls : List ℕ) (j : ℕ) : Type 0 where
-  long : length ls ≡ length ks
-  rest : (i : ℕ) → (i ≡ j → ⊥) → at ls MARKS i ≡ at ks MARKS i
-  mark : marked (at ls MARKS j) ≡ cond b true (marked (at ks MARKS j))
+    pub first-in : first-word t k < max-pairs
+    first-in = let l = found in let o = z .indexed .firsts .lower k l in let f = z .indexed .fit in omega arith
 
-store : (b : Bool) (ks : List ℕ) (j : ℕ) → j < length ks → Stored b ks (cond b (put ks MARKS j 1) ks) j
-unfolding marked at put
-store true ks j h =
-    record {
-      long = length-put ks MARKS j 1;
-      rest = λ i. other-place ks MARKS j i 1;
-      mark = ap marked
-          (getD-set-same ks (MARKS + j) 1 0 (omega arith));
-    }
-store false ks j h = record { long = refl; rest = λ i d. refl; mark = refl }
+    -- another first pair, other nodes
+    apart-firsts : (j : ℕ) → j < indexed# t → is-pair t j (a, b) ≡ false → (first-word t j ≡ first-word t k → ⊥)
+    apart-firsts j l o q =
+        true≢false (sym (first-alike a b z j k l found q (w .found found)) ∙ o)
 
--- the pairs below j are marked as they should be, the others as they were
-pub record Marking (t : List ℕ) (a b : ℕ) (ks ls : List ℕ) (j : ℕ) : Type 0 where
-  pub long : length ls ≡ length ks
-  pub done : (i : ℕ) → i < j → marked (at ls MARKS i) ≡ cond (is-pair t i (a, b)) true (marked (at ks MARKS i))
-  pub left-over : (i : ℕ) → j ≤ i → at ls MARKS i ≡ at ks MARKS i
+    -- the same nodes, one first pair
+    one-first : (j : ℕ) → j < indexed# t → is-pair t j (a, b) ≡ true → first-word t j ≡ first-word t k
+    one-first j l o = alike-first a b z j k l found o (w .found found)
 
-pub marking-first : (t : List ℕ) (a b : ℕ) (ks : List ℕ) → Marking t a b ks ks 0
-marking-first t a b ks = record { long = refl; done = λ i h. absurd (omega arith); left-over = λ i h. refl }
+    mark-first : {f : ℕ} {ks ls : List ℕ} → max-pairs ≤ length ks → f ≡ first-word t k → ls ≡ put ks MARKS f 1 → MarksPair t a b ks ls
+    unfolding marked at put
+    mark-first {f} {ks} {ls} m g h =
+        record { each = λ j l. let c = z .covers in go j (omega arith) (is-pair t j (a, b)) refl }
+      where
+        go : (j : ℕ) → j < indexed# t → (r : Bool) → is-pair t j (a, b) ≡ r → mark-of t ls j ≡ cond r true (mark-of t ks j)
+        go j l true o =
+            let i = first-in in
+            ap (λ (u : List ℕ). marked (at u MARKS (first-word t j))) h
+            ∙ ap (λ (x : ℕ). marked (at (put ks MARKS f 1) MARKS x)) (one-first j l o ∙ sym g)
+            ∙ ap marked (getD-set-same ks (MARKS + f) 1 0 (omega arith))
+        go j l false o =
+            ap (λ (u : List ℕ). marked (at u MARKS (first-word t j))) h
+            ∙ ap marked (other-place ks MARKS f (first-word t j) 1 (λ q. apart-firsts j l o (q ∙ g)))
 
-pub marking-next : {t : List ℕ} {a b : ℕ} {ks ls us : List ℕ} {j : ℕ} → Marking t a b ks ls j → j < length ls →
-    us ≡ cond (is-pair t j (a, b)) (put ls MARKS j 1) ls → Marking t a b ks us (j + 1)
-marking-next {t} {a} {b} {ks} {ls} {us} {j} c h e =
-    let s = rw (← e) at (store (is-pair t j (a, b)) ls j h) in
-    record {
-      long = s .long ∙ c .long;
-      done =
-          below-more (λ i. marked (at us MARKS i) ≡ cond (is-pair t i (a, b)) true (marked (at ks MARKS i))) j
-          (λ i g. ap marked (s .rest i (omega arith)) ∙ c .done i g)
-          (s .mark ∙ ap (λ (w : ℕ). cond (is-pair t j (a, b)) true (marked w)) (c .left-over j (omega arith)));
-      left-over = λ i g. s .rest i (omega arith) ∙ c .left-over i (omega arith);
-    }
+    pub mark-one : {v : ℕ} {ks ls : List ℕ} → max-pairs ≤ length ks → v ≡ at t LEFT k → ls ≡ put ks MARKS (v / max-terms) 1 →
+        MarksPair t a b ks ls
+    mark-one m r h = mark-first m (ap (λ (w : ℕ). w / max-terms) r) h
 
-pub marking-done : {t : List ℕ} {a b : ℕ} {ks ls : List ℕ} {n j : ℕ} → n ≡ pairs-in-force (merges t) → Marking t a b ks ls j → n ≤ j →
-    MarksPair t a b ks ls
-marking-done e c h = record { each = λ i g. c .done i (omega arith) }
+-- ---- asking for a mark
+
+-- the first pair of a pair in force has a mark
+module _ {t : List ℕ} {j : ℕ} (z : EngineSound t) (l : j < pairs-in-force (merges t)) where
+  pub mark-in : (j < max-pairs) × (first-word t j < max-pairs)
+  mark-in =
+      let c = z .covers in
+      let o = z .indexed .firsts .lower j (omega arith) in
+      let f = z .indexed .fit in
+      (omega arith, omega arith)
+
+-- by the words v and m that were read
+pub mark-read : (t ks : List ℕ) (j : ℕ) {v m : ℕ} → v ≡ at t LEFT j → m ≡ at ks MARKS (v / max-terms) → not (eqb m 0) ≡ mark-of t ks j
+unfolding marked
+mark-read t ks j {v} {m} e f =
+    go m ∙ ap marked (f ∙ ap (λ (w : ℕ). at ks MARKS (w / max-terms)) e)
+  where
+    go : (n : ℕ) → not (eqb n 0) ≡ marked n
+    go zero = refl
+    go (suc n) = ap not (ne-eqb (suc n) 0 (λ e. absurd (omega arith)))

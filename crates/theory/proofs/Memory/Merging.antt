@@ -1,22 +1,23 @@
 -- One merge: what its steps write, the new edge of the forest, the class that goes under and the entry of the log, makes a sound table
 -- with that merge in front.
-use Rattle.core.proofs.Kit.{ℕ, suc, _+_, _≤_, _<_, _≡_, refl, sym, subst, ap, ap₂, _∙_, inl, Bool, false, cond, List, [], _∷_, arith, ℕ-discrete, add-one, ne-eqb, le-leb, lt-leb, eqb, leb, lit<, length}
+use Rattle.core.proofs.Kit.{ℕ, suc, _+_, _≤_, _<_, _≡_, refl, sym, subst, ap, ap₂, _∙_, inl, Bool, false, cond, List, [], _∷_, arith, ℕ-discrete, add-one, ne-eqb, le-leb, lt-leb, eqb, lit<, length}
 use Rattle.core.specs.Limits.{max-terms, max-pairs}
 use Rattle.core.specs.Lists.{In}
 use Rattle.core.specs.Memory.Words.{put}
 use Rattle.core.proofs.Memory.Stores.{kept-more, kept-put}
-use Rattle.theory.specs.EqEngine.{Merge, child, root, classes, find, are-equal, Step, before, way}
+use Rattle.theory.specs.EqEngine.{Merge, child, root, classes, find, are-equal, pairs-in-force, Step, before, way}
 use Rattle.theory.specs.Memory.Replay.{IsNode, child-of, root-of, parent, end, BothSides, ups, On}
-use Rattle.theory.specs.Memory.Table.{engine-size, COUNTS, MERGES, LEVEL, PARENT, SIZE, FPARENT, FEDGE, FROOT, engine-room, merges#, level-word, parent-word, size-word, fparent-word, fedge-word, a-word, b-word, label-word, value-word, child-word, froot-word, after-word, left-word, right-word, label-code, level-of, kind-of, theory-of, label, begins, just-at, merge-at, pairs-start, merges, FirstEdge, EngineSound, Engine, TwoNodes}
-use Rattle.theory.specs.Memory.Steps.{SameEntry, SameLog, Upward, SameNode, Rerooted, Spliced, TwoClasses, united, Entry, logged, Joinable}
+use Rattle.theory.specs.Memory.Table.{engine-size, COUNTS, MERGES, LEVEL, PARENT, SIZE, FPARENT, FEDGE, FROOT, LEFT, RIGHT, HEAD, INDEXED, engine-room, merges#, level-word, parent-word, size-word, fparent-word, fedge-word, a-word, b-word, label-word, value-word, child-word, froot-word, after-word, left-word, right-word, label-code, level-of, kind-of, theory-of, label, begins, just-at, merge-at, pairs-start, merges, FirstEdge, EngineSound, Engine, TwoNodes}
+use Rattle.theory.specs.Memory.Steps.{SameEntry, SameLog, Upward, SameNode, Rerooted, Spliced, TwoClasses, united, logged, Joinable}
 use Rattle.theory.proofs.Members.{in-right}
 use Rattle.theory.proofs.Classes.{turned-sides, size-more}
 use Rattle.theory.proofs.Forest.{Forest, Above, above?, Below, below, before-end, apart, end-on, split, back, first-side, turned-above, other-stays, other-root}
 use Rattle.theory.proofs.Sizes.{find-within, size-bound, child-within, root-within}
 use Rattle.theory.proofs.Memory.EngineStores.{stores}
-use Rattle.theory.proofs.Memory.Log.{level-is, kind-is, theory-is, label-same, merges-length, merges-within, sound-joins}
+use Rattle.theory.proofs.Memory.Log.{level-is, kind-is, theory-is, label-same, label-length, pairs-more, merges-length, merges-within, sound-joins}
 use Rattle.theory.proofs.Memory.Walks.{sound-forest, way-within}
 use Rattle.theory.proofs.Memory.Turning.{in-ups}
+use Rattle.theory.proofs.Memory.PairIndex.{SameIndex, index-kept}
 use Rattle.theory.proofs.Memory.SoundTables.{edge-words, Grown, grown-merges, grown-sound}
 
 -- ---- the forest
@@ -180,6 +181,7 @@ record Written (s u : List ℕ) (n under over a b w v e : ℕ) : Type 0 where
   after-now : after-word u n ≡ e
   older : (j : ℕ) → j < n → SameEntry s u j
   pairs : (j : ℕ) → j < max-pairs → (left-word u j ≡ left-word s j) × (right-word u j ≡ right-word s j)
+  same-index : SameIndex s u
 
 written : {s u : List ℕ} {n under over a b w v e : ℕ} → engine-size ≤ length s → n < max-terms → IsNode under → IsNode over →
     u ≡ put (logged (united s under over n) n a b w v e) COUNTS MERGES (n + 1) → Written s u n under over a b w v e
@@ -200,6 +202,12 @@ written {n = n} l k p q f = record {
   after-now = search (f, stores);
   older = λ j h. let g : j < max-terms = omega arith in let d : eqb j n ≡ false = ne-eqb j n (omega arith) in search (f, d, stores);
   pairs = λ j h. search (f, stores);
+  same-index = record {
+    count = search (f, stores);
+    left = λ j h. search (f, stores);
+    right = λ j h. search (f, stores);
+    heads = λ x h. search (f, stores);
+  };
 }
 
 module _ {t t₁ : List ℕ} {a b kind h v e ra rb : ℕ} (J : Joinable t a b kind h v e) (fa : ra ≡ find (merges t) a)
@@ -289,6 +297,26 @@ module _ {t t₁ : List ℕ} {a b kind h v e ra rb : ℕ} (J : Joinable t a b ki
         (sizes-then x l)
         ∙ sym (size-more m (merges t) x)
 
+    index-then : SameIndex t u
+    index-then =
+        let r = c .kept .rest in
+        let s = w .same-index in
+        record {
+          count = s .count ∙ r INDEXED 0 tt (lit< tt);
+          left = λ j l. s .left j l ∙ r LEFT j tt l;
+          right = λ j l. s .right j l ∙ r RIGHT j tt l;
+          heads = λ x l. s .heads x l ∙ r HEAD x tt l;
+        }
+
+    -- the pairs of the label end where those in force do then
+    pairs-then : pairs-in-force (m ∷ merges t) ≡ e
+    unfolding m
+    pairs-then =
+        let s = J .start in
+        let l = label-length t kind h v e (J .ordered) in
+        let p = pairs-more m (merges t) in
+        omega arith
+
     grown : Grown t u m
     unfolding m
     grown = record {
@@ -308,6 +336,8 @@ module _ {t t₁ : List ℕ} {a b kind h v e ra rb : ℕ} (J : Joinable t a b ki
       parents = parents-now;
       sizes = sizes-now;
       forest = spliced-forest (J .sound) (J .two) c same-log (w .count ∙ add-one (merges# t)) merge-now (w .nodes);
+      indexed = index-kept (J .sound .indexed) index-then;
+      covers = let k = index-then .count in let f = J .indexed in let p = pairs-then in omega arith;
     }
 
 -- the label of the words is the new merge's, at the present level

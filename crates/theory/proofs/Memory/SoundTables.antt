@@ -6,12 +6,13 @@ use Rattle.core.specs.Lists.{In}
 use Rattle.core.specs.Memory.Words.{put}
 use Rattle.theory.specs.EqEngine.{Merge, classes, are-equal, pairs-of, pairs-in-force, Step, way}
 use Rattle.theory.specs.Memory.Replay.{IsNode, child-of, parent, end, BothSides, Justified, EqualPairs}
-use Rattle.theory.specs.Memory.Table.{engine-size, COUNTS, LEVEL, merges#, level-word, parent-word, size-word, fparent-word, fedge-word, a-word, b-word, label-word, child-word, froot-word, after-word, level-of, just-at, merge-at, pairs-start, merges-below, merges, FirstEdge, EntrySound, EngineSound, Engine}
+use Rattle.theory.specs.Memory.Table.{engine-size, COUNTS, LEVEL, merges#, level-word, parent-word, size-word, fparent-word, fedge-word, a-word, b-word, label-word, child-word, froot-word, after-word, level-of, just-at, merge-at, pairs-start, merges-below, merges, FirstEdge, EntrySound, indexed#, PairsSound, EngineSound, Engine}
 use Rattle.theory.specs.Memory.Steps.{SameEntry, SamePairs, SameLog, SameNode}
 use Rattle.theory.proofs.Classes.{Suffix, in-suffix}
 use Rattle.theory.proofs.Explain.{justified-joins, justified-suffix}
 use Rattle.theory.proofs.Sizes.{Within, merges-fewer}
 use Rattle.theory.proofs.Memory.EngineStores.{stores}
+use Rattle.theory.proofs.Memory.PairIndex.{SameIndex, index-kept}
 use Rattle.theory.proofs.Memory.Log.{just-same, merge-same, start-same, log-shorter, below-same, below-suffix, merges-length, merges-within}
 
 -- ---- first edges
@@ -65,6 +66,8 @@ pub record Shortened (t u : List ℕ) (n : ℕ) : Type 0 where
   pub parents : (x : ℕ) → IsNode x → parent-word u x ≡ parent (merges-below t n) x
   pub sizes : (x : ℕ) → IsNode x → size-word u x ≡ classes (merges-below t n) .size x
   pub forest : (x : ℕ) → IsNode x → FirstEdge u x (way (merges-below t n) x)
+  pub indexed : PairsSound u (indexed# u)
+  pub covers : pairs-in-force (merges-below t n) ≤ indexed# u
 
 module _ {t u : List ℕ} {n : ℕ} (z : EngineSound t) (s : Shortened t u n) where
   pub shorter-merges : merges u ≡ merges-below t n
@@ -104,6 +107,8 @@ module _ {t u : List ℕ} {n : ℕ} (z : EngineSound t) (s : Shortened t u n) wh
     parents = λ x h. s .parents x h ∙ sym (ap (λ (ms : List Merge). parent ms x) shorter-merges);
     sizes = λ x h. s .sizes x h ∙ sym (ap (λ (ms : List Merge). classes ms .size x) shorter-merges);
     forest = λ x h. subst (FirstEdge u x) (sym (ap (λ (ms : List Merge). way ms x) shorter-merges)) (s .forest x h);
+    indexed = s .indexed;
+    covers = let e = ap pairs-in-force shorter-merges in let f = s .covers in omega arith;
   }
 
 -- ---- the level alone
@@ -119,6 +124,16 @@ module _ {t u : List ℕ} {v : ℕ} (z : EngineSound t) (e : u ≡ put t COUNTS 
     entries = λ i h. let w : i < max-terms = let k = z .fewer in omega arith in search (e, stores);
     pairs = λ i h j k. let w : j < max-pairs = let l = z .entries i h .fit .1 in omega arith in search (e, stores);
   }
+
+  same-index : SameIndex t u
+  same-index =
+      let l = z .long in
+      record {
+        count = search (e, stores);
+        left = λ j h. search (e, stores);
+        right = λ j h. search (e, stores);
+        heads = λ x h. search (e, stores);
+      }
 
   levelled : Shortened t u (merges# t)
   unfolding merges
@@ -136,6 +151,8 @@ module _ {t u : List ℕ} {v : ℕ} (z : EngineSound t) (e : u ≡ put t COUNTS 
         parents = λ x h. let k : parent-word u x ≡ parent-word t x = search (e, stores) in k ∙ z .parents x h;
         sizes = λ x h. let k : size-word u x ≡ size-word t x = search (e, stores) in k ∙ z .sizes x h;
         forest = λ x h. edge-kept (way (merges t) x) same-log (omega arith) (search (e, stores)) (z .forest x h);
+        indexed = index-kept (z .indexed) same-index;
+        covers = let k = same-index .count in let f = z .covers in omega arith;
       }
 
   pub level-put : Engine u (merges t) v
@@ -176,6 +193,8 @@ pub record Grown (t u : List ℕ) (m : Merge) : Type 0 where
   pub parents : (x : ℕ) → IsNode x → parent-word u x ≡ parent (m ∷ merges t) x
   pub sizes : (x : ℕ) → IsNode x → size-word u x ≡ classes (m ∷ merges t) .size x
   pub forest : (x : ℕ) → IsNode x → FirstEdge u x (way (m ∷ merges t) x)
+  pub indexed : PairsSound u (indexed# u)
+  pub covers : pairs-in-force (m ∷ merges t) ≤ indexed# u
 
 module _ {t u : List ℕ} {m : Merge} (z : EngineSound t) (g : Grown t u m) where
   -- all merges but the new one
@@ -256,4 +275,6 @@ module _ {t u : List ℕ} {m : Merge} (z : EngineSound t) (g : Grown t u m) wher
         parents = λ x h. g .parents x h ∙ sym (ap (λ (ms : List Merge). parent ms x) grown-merges);
         sizes = λ x h. g .sizes x h ∙ sym (ap (λ (ms : List Merge). classes ms .size x) grown-merges);
         forest = λ x h. subst (FirstEdge u x) (sym (ap (λ (ms : List Merge). way ms x) grown-merges)) (g .forest x h);
+        indexed = g .indexed;
+        covers = let e = ap pairs-in-force grown-merges in let f = g .covers in omega arith;
       }

@@ -1,12 +1,12 @@
 -- Merges taken back: the class of the newest is its own again, and the way from the old root is turned again; back to a level, one after
 -- the other.
-use Rattle.core.proofs.Kit.{ℕ, zero, suc, _+_, _-_, _≤_, _<_, _≡_, refl, sym, subst, ap, ap₂, _∙_, inl, inr, Bool, true, false, cond, false≢true, List, [], _∷_, _++_, arith, ℕ-discrete, decLe, eq-eqb, ne-eqb, ltb-true, ltb-false, le-ltb, le-leb, lt-leb, eqb, leb, ltb, length}
+use Rattle.core.proofs.Kit.{ℕ, zero, suc, _+_, _-_, _≤_, _<_, _≡_, refl, sym, subst, ap, ap₂, _∙_, inl, inr, Bool, true, false, cond, false≢true, List, [], _∷_, _++_, arith, ℕ-discrete, decLe, eq-eqb, ne-eqb, ltb-true, ltb-false, le-ltb, le-leb, lt-leb, eqb, ltb, length}
 use Rattle.core.specs.Limits.{max-terms, max-pairs}
 use Rattle.core.specs.Lists.{In}
 use Rattle.core.specs.Memory.Words.{put}
 use Rattle.theory.specs.EqEngine.{Merge, classes, find, pop-merges, Step, before, turned, way}
 use Rattle.theory.specs.Memory.Replay.{IsNode, child-of, root-of, parent, end, BothSides, ups, On}
-use Rattle.theory.specs.Memory.Table.{engine-size, COUNTS, MERGES, LEVEL, PARENT, SIZE, merges#, level-word, parent-word, size-word, fparent-word, fedge-word, a-word, label-word, child-word, froot-word, level-of, merge-at, merges-below, merges, FirstEdge, EngineSound, Engine, Pops}
+use Rattle.theory.specs.Memory.Table.{engine-size, COUNTS, MERGES, LEVEL, PARENT, SIZE, merges#, level-word, parent-word, size-word, fparent-word, fedge-word, a-word, label-word, child-word, froot-word, level-of, merge-at, merges-below, merges, FirstEdge, EngineSound, Pops}
 use Rattle.theory.specs.Memory.Steps.{SameLog, Upward, SameNode, Rerooted, Separable, separated, Undoes, newest-above, Drops}
 use Rattle.theory.proofs.Members.{in-right}
 use Rattle.theory.proofs.Classes.{Same, unequal, turned-sides, roots-apart}
@@ -14,9 +14,10 @@ use Rattle.theory.proofs.Forest.{Joins, Forest, Above, way-over, above?
 use Rattle.theory.proofs.Sizes.{size-other, size-root, Within, child-within, root-within}
 use Rattle.theory.proofs.UnionFind.{child-parent, parent-child, parent-kept}
 use Rattle.theory.proofs.Memory.EngineStores.{stores}
-use Rattle.theory.proofs.Memory.Log.{merges-within, sound-joins, newest-first}
+use Rattle.theory.proofs.Memory.Log.{merges-within, sound-joins, newest-first, pairs-fewer}
 use Rattle.theory.proofs.Memory.Walks.{sides-within}
 use Rattle.theory.proofs.Memory.Turning.{in-ups, ups-in, ups-left, ups-right}
+use Rattle.theory.proofs.Memory.PairIndex.{SameIndex, index-kept}
 use Rattle.theory.proofs.Memory.SoundTables.{edge-words, Shortened, shorter-sound, shorter-merges, level-put}
 
 -- ---- the table with its newest merge
@@ -168,6 +169,7 @@ module _ (t : List ℕ) (i : ℕ) (z : EngineSound t) (N : merges# t ≡ suc i) 
       sizes : (x : ℕ) → IsNode x →
           size-word u x ≡ cond (eqb x (root-of ms m)) (size-word t (root-of ms m) - size-word t (child-word t i)) (size-word t x)
       nodes-then : (x : ℕ) → IsNode x → SameNode t₁ u x
+      same-index : SameIndex t u
 
     stored : Stored
     unfolding separated
@@ -192,6 +194,12 @@ module _ (t : List ℕ) (i : ℕ) (z : EngineSound t) (N : merges# t ≡ suc i) 
           parents = λ x h. search (e′, kept, stores);
           sizes = λ x h. search (e′, kept, stores);
           nodes-then = λ x h. search (e′, stores);
+          same-index = record {
+            count = search (e′, kept, stores);
+            left = λ p h. search (e′, kept, stores);
+            right = λ p h. search (e′, kept, stores);
+            heads = λ x h. search (e′, kept, stores);
+          };
         }
 
     reroot : Rerooted t t₁ (end (m .a) (way ms (m .a))) (turned (way ms (m .a)))
@@ -264,6 +272,7 @@ module _ (t : List ℕ) (i : ℕ) (z : EngineSound t) (N : merges# t ≡ suc i) 
     edge-now x h (no n) = edge-other x h n (way ms x) refl
 
     shortened : Shortened t u i
+    unfolding merges
     shortened =
         let v = stored .level in
         record {
@@ -276,6 +285,12 @@ module _ (t : List ℕ) (i : ℕ) (z : EngineSound t) (N : merges# t ≡ suc i) 
           parents = λ x h. parents-then x h (ℕ-discrete x (child-of ms m));
           sizes = λ x h. sizes-then x h (ℕ-discrete x (root-of ms m));
           forest = λ x h. edge-now x h (above? (way ms) F x (m .a));
+          indexed = index-kept (z .indexed) (stored .same-index);
+          covers =
+              let k = stored .same-index .count in
+              let f = z .covers in
+              let l = pairs-fewer t i (merges# t) (omega arith) in
+              omega arith;
         }
 
     undone : Undoes t u

@@ -1,5 +1,5 @@
 -- The answer table: its regions, what it means, and why there is always room for a leaf.
-use Prim.Native.Nat.{ℕ, zero, suc, _+_, _≤_, _<_}
+use Prim.Native.Nat.{ℕ, zero, suc, _+_, _%_, _≤_, _<_}
 use mathlib.Core.Path.{_≡_}
 use mathlib.Core.Logic.{_⊎_}
 use mathlib.Core.Bool.{Bool, true, cond}
@@ -7,7 +7,8 @@ use mathlib.Core.List.{List, [], _∷_, _++_}
 use lib.ListN.{length}
 use Rattle.core.specs.Limits.{max-terms, max-theories}
 use Rattle.core.specs.Lists.{In, Apart, any}
-use Rattle.core.specs.Memory.Words.{at, counted, room-in}
+use Rattle.core.specs.Memory.Words.{at, put, counted, room-in}
+use Rattle.core.specs.Memory.Table.{Indexed}
 use Rattle.theory.specs.Types.{EqJust, Asserted, Congruence, Interface, EqLeaf, AssertedLeaf, InterfaceLeaf, same-leaf}
 use Rattle.theory.specs.EqEngine.{Merge}
 use Rattle.theory.specs.declared.types.EqLeaf as Given
@@ -28,14 +29,25 @@ LEAF-KIND = 1
 abbrev pub LEAF-VALUE : ℕ
 LEAF-VALUE = 1025
 
+-- the index: for each bucket one more than the newest leaf in it, or 0; and for each leaf the same of the leaves before it in its bucket
+abbrev pub BUCKET : ℕ
+BUCKET = 2049
+
+abbrev pub LINK : ℕ
+LINK = 2300
+
+abbrev pub buckets : ℕ
+buckets = 251
+
 abbrev pub answer-layout : List (ℕ × ℕ)
-answer-layout = (COUNTS, 1) ∷ (LEAF-KIND, max-terms) ∷ (LEAF-VALUE, max-terms) ∷ []
+answer-layout =
+    (COUNTS, 1) ∷ (LEAF-KIND, max-terms) ∷ (LEAF-VALUE, max-terms) ∷ (BUCKET, buckets) ∷ (LINK, max-terms) ∷ []
 
 abbrev pub answer-room : ℕ → ℕ
 answer-room = room-in answer-layout
 
 abbrev pub answer-size : ℕ
-answer-size = 2049
+answer-size = 3324
 
 -- ---- what a table means
 
@@ -57,6 +69,13 @@ unfoldable pub leaf-meaning : Given.EqLeaf → EqLeaf
 leaf-meaning (Given.the-variants.Asserted l) = AssertedLeaf (l .0)
 leaf-meaning (Given.the-variants.Interface j) = InterfaceLeaf (j .theory) (j .tag)
 
+-- the bucket of a leaf, by its words
+abbrev pub bucket : ℕ → ℕ → ℕ
+bucket kind value = (kind + value) % buckets
+
+abbrev pub bucket-of : List ℕ → ℕ → ℕ
+bucket-of o i = bucket (at o LEAF-KIND i) (at o LEAF-VALUE i)
+
 -- ---- when the words of a table are those of leaves
 
 pub record LeavesSound (o : List ℕ) : Type 0 where
@@ -64,6 +83,12 @@ pub record LeavesSound (o : List ℕ) : Type 0 where
   pub fit : leaves# o ≤ max-terms
   -- a theory has 16 bits
   pub theories : (i : ℕ) → i < leaves# o → at o LEAF-KIND i ≤ max-theories
+  pub index : Indexed (bucket-of o) (at o BUCKET) (at o LINK) buckets (leaves# o)
+
+-- no bucket has a leaf
+pub record NoLeaves (o : List ℕ) : Type 0 where
+  pub long : answer-size ≤ length o
+  pub heads : (h : ℕ) → h < buckets → at o BUCKET h ≡ 0
 
 -- does a leaf stand in a list?
 abbrev pub has-leaf : EqLeaf → List EqLeaf → Bool
@@ -87,6 +112,17 @@ pub record Pushable (o : List ℕ) (kind value : ℕ) : Type 0 where
   pub kind-fits : kind ≤ max-theories
   pub value-fits : value < 4294967296
   pub room : HasRoom o (leaf-of kind value)
+
+-- a leaf of these words may be leaf n
+pub record Linkable (o : List ℕ) (n kind value : ℕ) : Type 0 where
+  pub long : answer-size ≤ length o
+  pub place : n < max-terms
+  pub kind-fits : kind ≤ max-theories
+  pub value-fits : value < 4294967296
+
+-- leaf n is at the head of bucket h
+unfoldable pub linked : List ℕ → ℕ → ℕ → List ℕ
+linked o n h = put (put o LINK n (at o BUCKET h)) BUCKET h (n + 1)
 
 -- ---- why there is room
 

@@ -10,9 +10,9 @@ use Rattle.core.specs.Limits.{max-pairs}
 use Rattle.core.specs.Lists.{any, range}
 use Rattle.core.specs.Memory.Words.{at}
 use Rattle.theory.specs.Types.{EqJust, EqLeaf}
-use Rattle.theory.specs.EqEngine.{Merge, Step, Explained, are-equal, pairs-of, pairs-in-force, before, way, path, same-pair, visit, expand-edge, explain-rec, explain, firsts-after}
+use Rattle.theory.specs.EqEngine.{Merge, Step, Explained, are-equal, pairs-of, pairs-in-force, before, way, path, visit, expand-edge, explain-rec, explain, firsts-after}
 use Rattle.theory.specs.Memory.Replay.{IsNode}
-use Rattle.theory.specs.Memory.Table.{engine-size, pair-at, merges, EngineSound}
+use Rattle.theory.specs.Memory.Table.{first-word, pair-at, is-pair, merges, EngineSound}
 use Rattle.theory.specs.Memory.Answer.{leaves, AnswerSound}
 
 -- ---- ages
@@ -88,15 +88,15 @@ unfoldable pub marked : ℕ → Bool
 marked zero = false
 marked (suc n) = true
 
--- is argument pair j a pair of nodes, in either order?
-abbrev pub is-pair : List ℕ → ℕ → ℕ × ℕ → Bool
-is-pair t j p = same-pair (pair-at t j .0) (pair-at t j .1) p
+-- the mark of argument pair j: that of the first pair of the same nodes
+abbrev pub mark-of : List ℕ → List ℕ → ℕ → Bool
+mark-of t marks j = marked (at marks MARKS (first-word t j))
 
 -- The table holds the first occurrences of the leaves met, after those seen before; a pair in force is marked where it, in
 -- either order, has been expanded.
 pub record Shows (t marks out : List ℕ) (seen : List EqLeaf) (e : Explained) : Type 0 where
   pub listed : leaves out ≡ seen ++ firsts-after seen (e .leaves)
-  pub marks-are : (j : ℕ) → j < pairs-in-force (merges t) → marked (at marks MARKS j) ≡ any (is-pair t j) (e .visited)
+  pub marks-are : (j : ℕ) → j < pairs-in-force (merges t) → mark-of t marks j ≡ any (is-pair t j) (e .visited)
 
 -- the tables that an explanation works on
 pub record Explaining (t marks out : List ℕ) : Type 0 where
@@ -126,15 +126,9 @@ pub record PairsEqual (t : List ℕ) (from to : ℕ) : Type 0 where
   pub ordered : from ≤ to
   pub each : (j : ℕ) → from ≤ j → j < to → EqualPair t j
 
--- ks with a mark at each pair in force that is a and b, in either order
+-- ls is ks with the pairs in force that are a and b, in either order, marked
 pub record MarksPair (t : List ℕ) (a b : ℕ) (ks ls : List ℕ) : Type 0 where
-  pub each : (j : ℕ) → j < pairs-in-force (merges t) → marked (at ls MARKS j) ≡ cond (is-pair t j (a, b)) true (marked (at ks MARKS j))
-
--- argument pair j has words, and a mark
-pub record Markable (t marks : List ℕ) (j : ℕ) : Type 0 where
-  pub engine : engine-size ≤ length t
-  pub place : j < max-pairs
-  pub long : max-pairs ≤ length marks
+  pub each : (j : ℕ) → j < pairs-in-force (merges t) → mark-of t ls j ≡ cond (is-pair t j (a, b)) true (mark-of t ks j)
 
 -- two equal terms, and an answer table for what their equality rests on
 pub record Explainable (t : List ℕ) (a b : ℕ) (out : List ℕ) : Type 0 where

@@ -1,8 +1,8 @@
 -- What the engine's private functions do to its table: for the contracts between them. A caller of the crate needs none of it.
-use Prim.Native.Nat.{ℕ, suc, _+_, _-_, _≤_, _<_}
+use Prim.Native.Nat.{ℕ, suc, _+_, _-_, _*_, _≤_, _<_}
 use mathlib.Core.Path.{_≡_}
-use mathlib.Core.Bool.{Bool, false}
-use mathlib.Core.List.{List, [], _∷_, map}
+use mathlib.Core.Bool.{Bool, true, false}
+use mathlib.Core.List.{List, [], _∷_}
 use lib.Dec.{ltb}
 use lib.ListN.{length}
 use Rattle.core.specs.Limits.{max-terms, max-pairs}
@@ -12,7 +12,7 @@ use Rattle.theory.specs.declared.types.EqJust as Given
 use Rattle.theory.specs.declared.eq_engine.LabelWords as LabelWords
 use Rattle.theory.specs.EqEngine.{Merge, are-equal, pop-merges, pairs-of, pairs-in-force, Step, way}
 use Rattle.theory.specs.Memory.Replay.{IsNode, end, On, EqualPairs}
-use Rattle.theory.specs.Memory.Table.{engine-size, PARENT, SIZE, FPARENT, FEDGE, SIDE-A, SIDE-B, LABEL, VALUE, CHILD, FROOT, AFTER, LEFT, RIGHT, engine-room, merges#, parent-word, size-word, fparent-word, fedge-word, a-word, b-word, label-word, value-word, child-word, froot-word, after-word, left-word, right-word, kind-unit, label, begins, merges-below, merges, just-meaning, level, EngineSound, Engine}
+use Rattle.theory.specs.Memory.Table.{engine-size, PARENT, SIZE, FPARENT, FEDGE, SIDE-A, SIDE-B, LABEL, VALUE, CHILD, FROOT, AFTER, LEFT, RIGHT, HEAD, INDEXED, engine-room, merges#, parent-word, size-word, fparent-word, fedge-word, a-word, b-word, label-word, value-word, child-word, froot-word, after-word, left-word, right-word, first-word, indexed#, is-pair, pair-buckets, pair-bucket, PairsSound, kind-unit, label, begins, merges-below, merges, just-meaning, level, EngineSound, Engine}
 
 -- ---- the log
 
@@ -25,6 +25,10 @@ pub record SameEntry (t u : List ℕ) (i : ℕ) : Type 0 where
   pub child : child-word u i ≡ child-word t i
   pub froot : froot-word u i ≡ froot-word t i
   pub after : after-word u i ≡ after-word t i
+
+-- the regions of the index of pairs
+abbrev pub pair-regions : List ℕ
+pair-regions = LEFT ∷ RIGHT ∷ HEAD ∷ INDEXED ∷ []
 
 -- and on the first p pairs
 abbrev pub SamePairs : List ℕ → List ℕ → ℕ → Type 0
@@ -120,6 +124,7 @@ pub record Joinable (t : List ℕ) (a b kind h v e : ℕ) : Type 0 where
   pub start : begins kind v e ≡ pairs-in-force (merges t)
   pub ordered : begins kind v e ≤ e
   pub fit : e ≤ max-pairs
+  pub indexed : e ≤ indexed# t
   pub pairs : EqualPairs (merges t) (pairs-of (label t kind h v e))
 
 -- the words of a label without pairs
@@ -132,17 +137,102 @@ pub record HoldsLabel (j : Given.EqJust) (w : LabelWords.LabelWords) : Type 0 wh
 
 -- ---- argument pairs
 
--- there is room for the pairs of two lists from start on
+-- the nodes of two lists may be pairs from start on
 pub record PairRoom (t : List ℕ) (start : ℕ) (xs ys : List ℕ) : Type 0 where
   pub long : engine-size ≤ length t
   pub same-count : length xs ≡ length ys
   pub fit : start + length xs ≤ max-pairs
+  pub indexed : PairsSound t (indexed# t)
+  pub covers : start ≤ indexed# t
+  pub nodes : (i : ℕ) → i < length xs → IsNode (at xs 0 i) × IsNode (at ys 0 i)
 
--- the numbers of two lists are pairs from start on, and all else is as before
+-- they are the last pairs of the index, and all else is as before
 pub record Copied (t u : List ℕ) (start : ℕ) (xs ys : List ℕ) : Type 0 where
-  pub kept : Kept engine-room (LEFT ∷ RIGHT ∷ []) t u
+  pub kept : Kept engine-room pair-regions t u
   pub older : SamePairs t u start
   pub new : (j : ℕ) → j < length xs → (left-word u (start + j) ≡ at xs 0 j) × (right-word u (start + j) ≡ at ys 0 j)
+  pub indexed : PairsSound u (indexed# u)
+  pub count : indexed# u ≡ start + length xs
+
+-- no pair is in the index
+pub record NoPairs (t : List ℕ) : Type 0 where
+  pub long : engine-size ≤ length t
+  pub none : indexed# t ≡ 0
+  pub heads : (h : ℕ) → h < pair-buckets → at t HEAD h ≡ 0
+
+-- two nodes may be looked for in the index
+pub record PairAsked (t : List ℕ) (x y : ℕ) : Type 0 where
+  pub long : engine-size ≤ length t
+  pub indexed : PairsSound t (indexed# t)
+  pub first : IsNode x
+  pub second : IsNode y
+
+-- r is an indexed pair of the nodes x and y, or the number of indexed pairs if there is none
+pub record FindsPair (t : List ℕ) (x y r : ℕ) : Type 0 where
+  pub within : r ≤ indexed# t
+  pub found : r < indexed# t → is-pair t r (x, y) ≡ true
+  pub missing : r ≡ indexed# t → (j : ℕ) → j < indexed# t → is-pair t j (x, y) ≡ false
+
+-- f is the number of the first pair of the nodes x and y, if one more is added
+pub record FirstOf (t : List ℕ) (x y f : ℕ) : Type 0 where
+  pub lower : f ≤ indexed# t
+  pub same : f < indexed# t → is-pair t f (x, y) ≡ true
+  pub one : (j : ℕ) → j < indexed# t → is-pair t j (x, y) ≡ true → first-word t j ≡ f
+
+-- the nodes x and y may be one more pair
+pub record Addable (t : List ℕ) (x y : ℕ) : Type 0 where
+  pub asked : PairAsked t x y
+  pub room : indexed# t < max-pairs
+
+-- its words fit
+pub record PairLinkable (t : List ℕ) (n x y f : ℕ) : Type 0 where
+  pub long : engine-size ≤ length t
+  pub place : n < max-pairs
+  pub first : IsNode x
+  pub second : IsNode y
+  pub lower : f ≤ max-pairs
+  pub heads : at t HEAD (pair-bucket x y) ≤ max-pairs
+
+-- one more pair, with first pair f
+unfoldable pub pair-linked : List ℕ → ℕ → ℕ → ℕ → ℕ → List ℕ
+pair-linked t n x y f =
+    put (put (put (put t LEFT n (max-terms * f + x)) RIGHT n (max-terms * at t HEAD (pair-bucket x y) + y)) HEAD (pair-bucket x y)
+    (n + 1)) INDEXED 0 (n + 1)
+
+-- the index has one pair more, x and y
+pub record PairAdded (t u : List ℕ) (x y : ℕ) : Type 0 where
+  pub kept : Kept engine-room pair-regions t u
+  pub older : SamePairs t u (indexed# t)
+  pub new : (left-word u (indexed# t) ≡ x) × (right-word u (indexed# t) ≡ y)
+  pub indexed : PairsSound u (indexed# u)
+  pub count : indexed# u ≡ suc (indexed# t)
+
+-- pair j is the newest of the index
+pub record LastPair (t : List ℕ) (j : ℕ) : Type 0 where
+  pub long : engine-size ≤ length t
+  pub indexed : PairsSound t (indexed# t)
+  pub last : indexed# t ≡ suc j
+
+-- the index has n pairs at least
+pub record Cuttable (t : List ℕ) (n : ℕ) : Type 0 where
+  pub long : engine-size ≤ length t
+  pub indexed : PairsSound t (indexed# t)
+  pub enough : n ≤ indexed# t
+
+-- the nodes of two lists may be pairs behind those of the index
+pub record PairsAddable (t xs ys : List ℕ) : Type 0 where
+  pub long : engine-size ≤ length t
+  pub same-count : length xs ≡ length ys
+  pub indexed : PairsSound t (indexed# t)
+  pub fit : indexed# t + length xs ≤ max-pairs
+  pub nodes : (i : ℕ) → i < length xs → IsNode (at xs 0 i) × IsNode (at ys 0 i)
+
+-- the index is cut back to n pairs
+pub record PairsCut (t u : List ℕ) (n : ℕ) : Type 0 where
+  pub kept : Kept engine-room pair-regions t u
+  pub older : SamePairs t u max-pairs
+  pub indexed : PairsSound u (indexed# u)
+  pub count : indexed# u ≡ n
 
 -- ---- merges undone
 

@@ -2,18 +2,18 @@
 -- of the log of merges.
 use Prim.Native.Nat.{ℕ, zero, suc, _+_, _-_, _*_, _/_, _%_, _≤_, _<_}
 use mathlib.Core.Path.{_≡_}
-use mathlib.Core.Bool.{true, false, cond}
+use mathlib.Core.Bool.{Bool, true, cond}
 use mathlib.Core.List.{List, [], _∷_, map}
-use mathlib.Core.Logic.{_⊎_}
-use lib.Dec.{T, eqb, leb}
+use lib.Dec.{leb}
 use lib.ListN.{length}
 use Rattle.core.specs.Limits.{max-terms, max-pairs, max-levels, max-theories, table-words}
 use Rattle.core.specs.Lists.{In, range, zip}
 use Rattle.core.specs.Memory.Words.{at, room-in}
+use Rattle.core.specs.Memory.Table.{Indexed}
 use Rattle.theory.specs.Types.{EqJust, Asserted, Congruence, Interface}
 use Rattle.theory.specs.declared.types.EqJust as Given
 use Rattle.theory.specs.Memory.Replay.{IsNode, child-of, parent, end, BothSides, Justified, EqualPairs}
-use Rattle.theory.specs.EqEngine.{Merge, child, root, classes, find, are-equal, merge, pop-merges, pairs-of, pairs-in-force, Step, way}
+use Rattle.theory.specs.EqEngine.{Merge, child, root, classes, are-equal, merge, pop-merges, pairs-of, pairs-in-force, Step, way, same-pair}
 
 -- ---- the layout
 
@@ -66,19 +66,32 @@ FROOT = 9280
 abbrev pub AFTER : ℕ
 AFTER = 10304
 
--- for each argument pair: its two nodes
+-- for each argument pair: its first node with the number of the first pair of the same nodes; its second node with one more than the
+-- newest pair before it in its bucket, or 0
 abbrev pub LEFT : ℕ
 LEFT = 11328
 
 abbrev pub RIGHT : ℕ
 RIGHT = 13376
 
+-- the index of pairs: for each bucket one more than the newest pair in it, or 0; how many pairs it has: those in force, and maybe some
+-- behind them that were given back
+abbrev pub HEAD : ℕ
+HEAD = 15424
+
+abbrev pub INDEXED : ℕ
+INDEXED = 16377
+
+abbrev pub pair-buckets : ℕ
+pair-buckets = 953
+
 -- A node is a term, and there are fewer merges than nodes.
 abbrev pub engine-room : ℕ → ℕ
 engine-room = room-in
     ((COUNTS, 64) ∷ (PARENT, max-terms) ∷ (SIZE, max-terms) ∷ (FPARENT, max-terms) ∷ (FEDGE, max-terms)
     ∷ (SIDE-A, max-terms) ∷ (SIDE-B, max-terms) ∷ (LABEL, max-terms) ∷ (VALUE, max-terms) ∷ (CHILD, max-terms)
-    ∷ (FROOT, max-terms) ∷ (AFTER, max-terms) ∷ (LEFT, max-pairs) ∷ (RIGHT, max-pairs) ∷ [])
+    ∷ (FROOT, max-terms) ∷ (AFTER, max-terms) ∷ (LEFT, max-pairs) ∷ (RIGHT, max-pairs)
+    ∷ (HEAD, pair-buckets) ∷ (INDEXED, 1) ∷ [])
 
 abbrev pub merges# : List ℕ → ℕ
 merges# t = at t COUNTS MERGES
@@ -120,13 +133,33 @@ abbrev pub after-word : List ℕ → ℕ → ℕ
 after-word t i = at t AFTER i
 
 abbrev pub left-word : List ℕ → ℕ → ℕ
-left-word t j = at t LEFT j
+left-word t j = at t LEFT j % max-terms
 
 abbrev pub right-word : List ℕ → ℕ → ℕ
-right-word t j = at t RIGHT j
+right-word t j = at t RIGHT j % max-terms
+
+abbrev pub first-word : List ℕ → ℕ → ℕ
+first-word t j = at t LEFT j / max-terms
+
+abbrev pub link-word : List ℕ → ℕ → ℕ
+link-word t j = at t RIGHT j / max-terms
+
+abbrev pub indexed# : List ℕ → ℕ
+indexed# t = at t INDEXED 0
 
 abbrev pub pair-at : List ℕ → ℕ → ℕ × ℕ
 pair-at t j = (left-word t j, right-word t j)
+
+-- is argument pair j a pair of nodes, in either order?
+abbrev pub is-pair : List ℕ → ℕ → ℕ × ℕ → Bool
+is-pair t j p = same-pair (pair-at t j .0) (pair-at t j .1) p
+
+-- the bucket of two nodes, in either order
+abbrev pub pair-bucket : ℕ → ℕ → ℕ
+pair-bucket x y = (x + y) % pair-buckets
+
+abbrev pub pair-bucket-of : List ℕ → ℕ → ℕ
+pair-bucket-of t j = pair-bucket (left-word t j) (right-word t j)
 
 -- a label's word: the level of its merge, its kind and its theory
 abbrev pub kind-unit : ℕ
@@ -199,6 +232,18 @@ pub record EntrySound (t : List ℕ) (i : ℕ) : Type 0 where
   pub start : pairs-start t i ≡ pairs-in-force (merges-below t i)
   pub fit : (pairs-start t i ≤ after-word t i) × (after-word t i ≤ max-pairs)
 
+-- pairs of the same nodes have one first pair
+pub record FirstsSound (t : List ℕ) (n : ℕ) : Type 0 where
+  pub lower : (j : ℕ) → j < n → first-word t j ≤ j
+  pub same : (j : ℕ) → j < n → is-pair t (first-word t j) (pair-at t j) ≡ true
+  pub one : (j k : ℕ) → j < n → k < n → is-pair t j (pair-at t k) ≡ true → first-word t j ≡ first-word t k
+
+-- the first n pairs are found by the index
+pub record PairsSound (t : List ℕ) (n : ℕ) : Type 0 where
+  pub fit : n ≤ max-pairs
+  pub index : Indexed (pair-bucket-of t) (at t HEAD) (link-word t) pair-buckets n
+  pub firsts : FirstsSound t n
+
 -- Each region is what the log of merges says.
 pub record EngineSound (t : List ℕ) : Type 0 where
   pub long : engine-size ≤ length t
@@ -215,6 +260,9 @@ pub record EngineSound (t : List ℕ) : Type 0 where
   pub parents : (x : ℕ) → IsNode x → parent-word t x ≡ parent (merges t) x
   pub sizes : (x : ℕ) → IsNode x → size-word t x ≡ classes (merges t) .size x
   pub forest : (x : ℕ) → IsNode x → FirstEdge t x (way (merges t) x)
+  -- the index has all pairs in force
+  pub indexed : PairsSound t (indexed# t)
+  pub covers : pairs-in-force (merges t) ≤ indexed# t
 
 -- A caller sees the merges in force, newest first, and the level.
 abbrev pub level : List ℕ → ℕ

@@ -7,7 +7,7 @@ use Rattle.theory_main.proofs.main.Tie as tie
 
 abbrev Inv-loop : tie.InvT-loop
 Inv-loop t₀ out₀ atoms₀ sum₀ i₀ t out atoms sum i =
-    EngineSound t × (length t ≡ 16384) × (length out ≡ 2049) × RegistrySound atoms × (length atoms ≡ 3073)
+    EngineSound t × (length t ≡ 16384) × (length out ≡ 3324) × RegistrySound atoms × (length atoms ≡ 3073)
 
 abbrev μ-loop : tie.MeasureT-loop
 μ-loop t₀ out₀ atoms₀ sum₀ i₀ t out atoms sum i = 24553 - i

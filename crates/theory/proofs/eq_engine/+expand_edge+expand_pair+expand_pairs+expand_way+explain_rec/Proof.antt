@@ -2,6 +2,7 @@
 -- explain_rec, expand_pair, expand_pairs, expand_edge, expand_way: a call for a part that is as old goes down in this order, and the ways
 -- of a pair are less old than the pair.
 use Rattle.core.proofs.Kit.{ℕ, _+_, _-_, _*_, _<_, _∙_, [], _∷_, arith, mod-lt, needs, length}
+use borrow.Author.Tests.{not-true, not-false}
 use borrow.Fn.Kinds.{In}
 use borrow.Fn.PlainCycle.{Measures, falls, and}
 use Rattle.theory.specs.EqEngine.{way}
@@ -12,6 +13,9 @@ use Rattle.core.proofs.table.get_at.Reads as get-at
 use Rattle.theory.proofs.types.push_leaf.Reads as push-leaf
 use Rattle.theory.proofs.eq_engine.forest_nca.Reads as forest-nca
 use Rattle.theory.proofs.eq_engine.mark_pairs.Reads as mark-pairs
+use Rattle.theory.proofs.eq_engine.is_expanded.Reads as is-expanded
+use Rattle.theory.proofs.eq_engine.left.Reads as left
+use Rattle.theory.proofs.eq_engine.right.Reads as right
 use Rattle.theory.proofs.eq_engine.expand_edge.Reads as expand-edge
 use Rattle.theory.proofs.eq_engine.expand_edge.Kinds as expand-edge-kinds
 use Rattle.theory.proofs.eq_engine.+expand_edge+expand_pair+expand_pairs+expand_way+explain_rec.Lts-expand_edge as expand-edge-lts
@@ -144,17 +148,19 @@ pub +expand-edge+expand-pair+expand-pairs+expand-way+explain-rec-spec : {M : Typ
     let w = edge-interface (p .0) (p .1) (at-get .get-at .ensures .0) (at-get2 .get-at2 .ensures .0) (at-if2 .before .if1 .left)
     (at-if2 .if2 .left) in
     w .goes (at-push .push-leaf2 .ensures)))
-    (λ t. expand-pair-lts.spec (get-at.Asked, get-at.Learnt, explain-rec-below t, explain-rec.Post)
+    (λ t. expand-pair-lts.spec
+    (is-expanded.Asked, is-expanded.Learnt, left.Asked, left.Learnt, right.Asked, right.Learnt, explain-rec-below t, explain-rec.Post)
     _ expand-pair.Post
-    (λ c κs. let p = c .before .before .before .before .pre .1 in omega (arith, pair-few (p .0 .engine) (p .1)))
-    (λ c κs. let p = c .before .before .before .before .before .before .pre .1 in omega (arith, pair-few (p .0 .engine) (p .1)))
-    (λ c κs. let p = c .before .before .before .before .before .before .before .pre .1 in omega (arith, pair-few (p .0 .engine) (p .1)))
+    (λ c κs. let p = c .before .before .before .before .pre .1 in (p .0 .engine, p .1 .in-force, p .0 .long))
+    (λ c κs. let p = c .before .before .before .before .before .before .pre .1 in (p .0 .engine .long, pair-few (p .0 .engine) (p .1)))
+    (λ c κs.
+    let p = c .before .before .before .before .before .before .before .pre .1 in (p .0 .engine .long, pair-few (p .0 .engine) (p .1)))
     -- the pair is explained
     (λ c κs.
     let at-right = c .before .before in
     let start = at-right .before .before .before .before .before .before .before .before in
     let p = start .pre .1 in
-    let w = pair-nodes (p .1) (at-right .before .get-at2 .ensures .0) (at-right .get-at3 .ensures .0) in
+    let w = pair-nodes (p .1) (at-right .before .left .ensures .0) (at-right .right .ensures .0) in
     (omega (arith, start .pre .0, w .as-old), (p .0, w .nodes)))
     (λ c. c .before .before .before .before .explain-rec .kept .1 .1 .1 .0)
     (λ c. c .before .before .before .before .explain-rec .kept .1 .1 .1 .1 .0)
@@ -163,12 +169,12 @@ pub +expand-edge+expand-pair+expand-pairs+expand-way+explain-rec-spec : {M : Typ
     let at-right = at-rec .before .before .before in
     let at-if = at-right .before .before in
     let p = at-if .before .before .before .before .before .before .pre .1 in
-    let w = pair-nodes (p .1) (at-right .before .get-at2 .ensures .0) (at-right .get-at3 .ensures .0) in
-    pair-new (p .1) (at-if .before .get-at .ensures .0) w (at-if .if1 .taken) (at-rec .explain-rec .ensures))
+    let w = pair-nodes (p .1) (at-right .before .left .ensures .0) (at-right .right .ensures .0) in
+    pair-new (p .1) (at-if .before .is-expanded .ensures) w (not-true _ (at-if .if1 .taken)) (at-rec .explain-rec .ensures))
     (λ c. search needs)
     (λ c.
     let p = c .before .before .before .before .before .before .pre .1 in
-    pair-known (p .1) (c .before .get-at .ensures .0) (p .0) (c .if1 .left)))
+    pair-known (p .1) (c .before .is-expanded .ensures) (p .0) (not-false _ (c .if1 .left))))
     (λ t. expand-pairs-lts.spec (expand-pair-below t, expand-pair.Post)
     _ expand-pairs.Post Inv-pairs μ-pairs
     (λ c. let p = c .before .before .before .pre .1 in pair-first (p .0) (p .1 .ordered))
@@ -219,7 +225,7 @@ pub +expand-edge+expand-pair+expand-pairs+expand-way+explain-rec-spec : {M : Typ
     (mark-pairs.Asked, mark-pairs.Learnt, forest-nca.Asked, forest-nca.Learnt, expand-way-below t, expand-way.Post)
     _ explain-rec.Post
     (λ c. goes-one (c .before .before .before .before .pre .1 .0) (c .if1 .taken))
-    (λ c κs. let p = c .before .before .before .before .before .pre .1 in (p .0 .engine, p .0 .long))
+    (λ c κs. let p = c .before .before .before .before .before .pre .1 in (p .0 .engine, p .1 .first, p .1 .second, p .0 .long))
     (λ c κs.
     let p = c .before .before .before .before .before .before .before .before .pre .1 in
     (record { sound = p .0 .engine; first = p .1 .first; second = p .1 .second }, p .1 .equal))

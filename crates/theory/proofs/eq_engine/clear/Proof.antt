@@ -1,4 +1,4 @@
--- The counts are cleared, then one node after the other is alone.
+-- The index and the counts are cleared, then one node after the other is alone.
 use Rattle.core.proofs.Kit.{_-_, needs}
 use Rattle.core.specs.Limits.{max-terms}
 use Rattle.theory.proofs.Memory.Clearing.{Clearing, clear-first, clear-next, clear-done}
@@ -14,5 +14,5 @@ abbrev μ-loop : tie.MeasureT-loop
 pub clear-spec : {M : Type 1} → statement M
 clear-spec =
     tie.close
-    (tie.spec Inv-loop μ-loop (λ c κs. search needs) (λ c κs. search needs) (λ c. search clear-first) (λ c κs. search needs)
-    (λ c. search needs) (λ c. search needs) (λ c. search clear-next) (λ c. search needs) (λ c. search clear-done))
+    (tie.spec Inv-loop μ-loop (λ c κs. search needs) (λ c κs. search needs) (λ c κs. search needs) (λ c. search clear-first)
+    (λ c κs. search needs) (λ c. search needs) (λ c. search needs) (λ c. search clear-next) (λ c. search needs) (λ c. search clear-done))

@@ -1,23 +1,21 @@
--- The invariant: the pairs below j are marked as they should be, the others as they were.
-use Rattle.core.proofs.Kit.{_-_, arith, needs}
-use Rattle.theory.proofs.Memory.Marks.{Marking, marking-first, marking-next, marking-done}
+-- No such pair, or its first one is marked.
+use Rattle.core.proofs.Kit.{arith, needs}
+use Rattle.theory.proofs.Memory.Marks.{mark-none, mark-one, first-in}
 use Rattle.theory.proofs.eq_engine.mark_pairs.Statement.{statement}
 use Rattle.theory.proofs.eq_engine.mark_pairs.Tie as tie
 
-abbrev Inv-loop : tie.InvT-loop
-Inv-loop t a b marks₀ n j₀ marks j = Marking t a b marks₀ marks j
-
-abbrev μ-loop : tie.MeasureT-loop
-μ-loop t a b marks₀ n j₀ marks j = n - j
-
-loop-again : tie.Need-loop-again Inv-loop μ-loop
-loop-again c =
-    let at-test = c .before .before .before .before in
-    let inv = at-test .before .loop .inv in
-    marking-next inv (omega arith) (c .before .before .mark-pair .ensures)
+put-at-requires : tie.Need-put-at-requires
+put-at-requires c κs =
+    let at-first = c .before in
+    let at-if = at-first .before in
+    let at-count = at-if .before in
+    let at-find = at-count .before in
+    let p = at-find .before .before .before .pre in
+    let l = first-in (p .0) (at-find .find-pair .ensures) (at-count .get-at .ensures .0) (at-if .if1 .left) in
+    (omega (arith, l, p .3, at-first .get-at2 .ensures .0), omega arith)
 
 pub mark-pairs-spec : {M : Type 1} → statement M
 mark-pairs-spec =
     tie.close
-    (tie.spec Inv-loop μ-loop (λ c κs. search needs) (λ c. search marking-first) (λ c κs. search needs) (λ c. search needs)
-    (λ c. search needs) loop-again (λ c. search needs) (λ c. search marking-done))
+    (tie.spec (λ c κs. search needs) (λ c κs. search needs) (λ c. search mark-none) (λ c κs. search needs) put-at-requires
+    (λ c. search needs) (λ c. search mark-one))
