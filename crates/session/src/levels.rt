@@ -1,12 +1,11 @@
 // The lines that change what the session keeps beside the tables: `close`, `push`, `pop`.
 use crate::answer::Answer;
 use crate::answer::Refusal;
-use crate::session::Session;
-use crate::session::Stepped;
 use core::context::all_grounded;
 use core::limits::MAX_LEVELS;
 use solver::levels as marks;
 use solver::levels::TesterMarks;
+use theory::eq_engine::level;
 use theory::eq_engine::pop;
 use theory::eq_engine::push;
 ghost use mathlib.Core.Path.{_≡_};
@@ -18,34 +17,18 @@ ghost use Rattle.solver.specs.Memory.Levels.{MarksSound, RecordsSound, Opened, 
 ghost use Rattle.session.specs.Line as Line;
 ghost use Rattle.session.specs.Memory.Sessions.{LevelsSound, AnswersClose, AnswersLevels};
 
-// The answer to a line that leaves the session as it was.
-pub fn unchanged(m: Session, a: Answer) -> Stepped
-    ensures { λ r. ⌜ (r .session ≡ m) × (r .answer ≡ a) ⌝ }
-{
-    Stepped {
-        answer: a,
-        session: m,
-    }
-}
-
-pub fn close_line(c: &[u32], m: Session) -> Stepped
+pub fn close_line(c: &[u32], closed: &mut bool) -> Answer
     requires { ⌜ ContextSound (now c) ⌝ }
-    ensures { λ r. ⌜ AnswersClose (now (c .entry)) m r ⌝ }
+    ensures { λ r. ⌜ AnswersClose (now (c .entry)) (now (closed .entry)) r (now (closed .exit)) ⌝ }
 {
-    if m.closed {
-        return unchanged(m, Answer::Refused(Refusal::Misplaced));
+    if *closed {
+        return Answer::Refused(Refusal::Misplaced);
     }
     if !all_grounded(c) {
-        return unchanged(m, Answer::Refused(Refusal::NotGrounded));
+        return Answer::Refused(Refusal::NotGrounded);
     }
-    let marks = m.marks;
-    Stepped {
-        answer: Answer::Ok,
-        session: Session {
-            marks,
-            closed: true,
-        },
-    }
+    *closed = true;
+    Answer::Ok
 }
 
 // The counts once a level is open: they are lent to the solver, which opens it.
@@ -68,42 +51,59 @@ fn popped(s: &mut [u32], m: TesterMarks, to: usize) -> TesterMarks
     r
 }
 
-pub fn push_line(e: &mut [u32], s: &[u32], m: Session) -> Stepped
-    requires { ⌜ LevelsSound (now e) (now s) m ⌝ }
-    ensures { λ r. ⌜ AnswersLevels Line.Push (now (e .entry)) (now (s .entry)) m r (now (e .exit)) (now (s .entry)) ⌝ }
+pub fn push_line(e: &mut [u32], s: &[u32], counts: &mut [u32; MAX_LEVELS], closed: bool) -> Answer
+    requires { ⌜ LevelsSound (now e) (now s) (now counts) ⌝ }
+    ensures { λ r. ⌜ AnswersLevels Line.Push (now (e .entry)) (now (s .entry)) (now (counts .entry)) closed r (now (e .exit))
+        (now (s .entry)) (now (counts .exit)) ⌝ }
 {
-    if !m.closed {
-        return unchanged(m, Answer::Refused(Refusal::Misplaced));
+    if !closed {
+        return Answer::Refused(Refusal::Misplaced);
     }
-    let marks = m.marks;
-    if marks.levels == MAX_LEVELS {
-        return unchanged(m, Answer::Refused(Refusal::NoRoom));
+    let levels = level(e);
+    if levels == MAX_LEVELS {
+        return Answer::Refused(Refusal::NoRoom);
     }
     push(e);
-    Stepped {
-        answer: Answer::Ok,
-        session: Session {
-            marks: pushed(s, marks),
-            closed: true,
+    let old = *counts;
+    let m = pushed(
+        s,
+        TesterMarks {
+            levels,
+            counts: old,
         },
-    }
+    );
+    let new = m.counts;
+    *counts = new;
+    Answer::Ok
 }
 
-pub fn pop_line(e: &mut [u32], s: &mut [u32], m: Session, to: u32) -> Stepped
-    requires { ⌜ LevelsSound (now e) (now s) m ⌝ }
-    ensures { λ r. ⌜ AnswersLevels (Line.Pop to) (now (e .entry)) (now (s .entry)) m r (now (e .exit)) (now (s .exit)) ⌝ }
+pub fn pop_line(
+    e: &mut [u32],
+    s: &mut [u32],
+    counts: &mut [u32; MAX_LEVELS],
+    closed: bool,
+    to: u32,
+) -> Answer
+    requires { ⌜ LevelsSound (now e) (now s) (now counts) ⌝ }
+    ensures { λ r. ⌜ AnswersLevels (Line.Pop to) (now (e .entry)) (now (s .entry)) (now (counts .entry)) closed r (now (e .exit))
+        (now (s .exit)) (now (counts .exit)) ⌝ }
 {
-    if !m.closed {
-        return unchanged(m, Answer::Refused(Refusal::Misplaced));
+    if !closed {
+        return Answer::Refused(Refusal::Misplaced);
     }
-    let level = to as usize;
-    pop(e, level);
-    let marks = m.marks;
-    Stepped {
-        answer: Answer::Ok,
-        session: Session {
-            marks: popped(s, marks, level),
-            closed: true,
+    let target = to as usize;
+    let levels = level(e);
+    pop(e, target);
+    let old = *counts;
+    let m = popped(
+        s,
+        TesterMarks {
+            levels,
+            counts: old,
         },
-    }
+        target,
+    );
+    let new = m.counts;
+    *counts = new;
+    Answer::Ok
 }

@@ -1,17 +1,17 @@
 // The run: questions 1, 2 and 12, the counts, and what lent memory holds at the end (specs/Run.antt, specs/Promise.antt).
 use crate::answer::write_answer;
 use crate::reader::line_end;
-use crate::session::Session;
 use crate::session::step;
 use crate::text::write_text;
 use core::context as context;
-use solver::levels::TesterMarks;
+use core::limits::MAX_LEVELS;
 use solver::records as records;
 use theory::eq_engine as engine;
 ghost use mathlib.Core.Path.{_≡_};
 ghost use Rattle.session.specs.Run.{result-number, zeros};
 ghost use Rattle.session.specs.Promise.{ending-meaning, Runs};
-ghost use Rattle.session.specs.Memory.Running.{TablesLong, EmptyTables, EmptySession, Answerable, AnswersLine, MayRun, RunsLines, MayStart, Zeroed, RunsStarted};
+ghost use Rattle.session.specs.Memory.Sessions.{beside};
+ghost use Rattle.session.specs.Memory.Running.{TablesLong, EmptyTables, Answerable, AnswersLine, MayRun, RunsLines, MayStart, Zeroed, RunsStarted};
 
 // How a run ends.
 pub enum Ending {
@@ -28,12 +28,6 @@ pub struct Ran {
     pub written: usize,
 }
 
-// The session after a line, and how many bytes its answer line has.
-struct Answered {
-    session: Session,
-    length: usize,
-}
-
 // Words of a work table, or more.
 const TABLE_WORDS: usize = 16384;
 
@@ -42,7 +36,7 @@ const MAX_SCRIPT: usize = 65536;
 const MAX_NUMBERS: usize = 17;
 
 // Words of an answer table.
-const ANSWER_SIZE: usize = 2049;
+const ANSWER_SIZE: usize = 3324;
 
 // No answer line is longer.
 const MAX_LINE: usize = 18441;
@@ -63,38 +57,25 @@ impl Ending {
 
 // ---- the lines
 
-fn empty_session() -> Session
-    ensures { λ m. ⌜ EmptySession m ⌝ }
-{
-    Session {
-        marks: TesterMarks {
-            levels: 0,
-            counts: [0u32; 64],
-        },
-        closed: false,
-    }
-}
-
-// Answers a line; its answer line, with the LF, stands at the start of `text`.
+// Answers a line; its answer line, with the LF, stands at the start of `text`: so many bytes.
 fn answer_line(
     c: &mut [u32],
     e: &mut [u32],
     s: &mut [u32],
-    m: Session,
+    counts: &mut [u32; MAX_LEVELS],
+    closed: &mut bool,
     line: &[u8],
     numbers: &mut [u32; MAX_NUMBERS],
     answer: &mut [u32; ANSWER_SIZE],
     text: &mut [u8; MAX_LINE],
-) -> Answered
-    requires { ⌜ Answerable (now c) (now e) (now s) m ⌝ }
-    ensures { λ r. ⌜ AnswersLine (now (line .entry)) (now (c .entry)) (now (e .entry)) (now (s .entry)) m r (now (c .exit))
-        (now (e .exit)) (now (s .exit)) (now (text .exit)) ⌝ }
+) -> usize
+    requires { ⌜ Answerable (now c) (now e) (now s) (beside (now e) (now counts) (now closed)) ⌝ }
+    ensures { λ n. ⌜ AnswersLine (now (line .entry)) (now (c .entry)) (now (e .entry)) (now (s .entry))
+        (beside (now (e .entry)) (now (counts .entry)) (now (closed .entry))) n (now (c .exit)) (now (e .exit)) (now (s .exit))
+        (beside (now (e .exit)) (now (counts .exit)) (now (closed .exit))) (now (text .exit)) ⌝ }
 {
-    let r = step(c, e, s, m, line, numbers, answer);
-    let a = r.answer;
-    let length = write_answer(a, answer, text);
-    let session = r.session;
-    Answered { session, length }
+    let a = step(c, e, s, counts, closed, line, numbers, answer);
+    write_answer(a, answer, text)
 }
 
 // An answer line goes to `text` first: the output gets it only if it fits whole.
@@ -105,23 +86,24 @@ fn run_lines(script: &[u8], c: &mut [u32], e: &mut [u32], s: &mut [u32], output:
     let mut numbers = [0u32; MAX_NUMBERS];
     let mut answer = [0u32; ANSWER_SIZE];
     let mut text = [0u8; MAX_LINE];
-    let mut m = empty_session();
+    let mut counts = [0u32; MAX_LEVELS];
+    let mut closed = false;
     let mut at = 0;
     let mut answered = 0;
     let mut written = 0;
     while at < script.len() {
         let end = line_end(script, at);
-        let r = answer_line(
+        let n = answer_line(
             c,
             e,
             s,
-            m,
+            &mut counts,
+            &mut closed,
             &script[at..end],
             &mut numbers,
             &mut answer,
             &mut text,
         );
-        let n = r.length;
         if n > output.len() - written {
             return Ran {
                 ending: Ending::Full,
@@ -131,8 +113,6 @@ fn run_lines(script: &[u8], c: &mut [u32], e: &mut [u32], s: &mut [u32], output:
         }
         written = write_text(output, written, &text[..n]);
         answered += 1;
-        let next = r.session;
-        m = next;
         at = end + 1;
     }
     Ran {

@@ -12,11 +12,10 @@ use Rattle.solver.proofs.Memory.Checking.{fits-now}
 use Rattle.session.specs.Line.{Command}
 use Rattle.session.specs.Answer as Answer
 use Rattle.session.specs.Session.{Asked, Performed, first-no, questions, perform, fits, asked, if-fits, refused}
-use Rattle.session.specs.declared.session.Session.{Session}
 use Rattle.session.specs.declared.answer.Refusal as GivenRefusal
 use Rattle.session.specs.declared.answer.Answer as Given
 use Rattle.session.specs.Memory.Answers.{refusal-meaning, answer-meaning, Printable}
-use Rattle.session.specs.Memory.Sessions.{session, SessionSound, Answers}
+use Rattle.session.specs.Memory.Sessions.{Beside, session, SessionSound, Answers}
 
 abbrev pub Refused : GivenRefusal.Refusal → Given.Answer
 Refused q = Given.the-variants.Refused q
@@ -62,7 +61,7 @@ declarations-now c z =
     rw (le-leb (length (context c .sorts)) max-sorts (omega arith), le-leb (length (context c .symbols)) max-symbols (omega arith))
 
 -- what sound tables hold fits
-pub sound-fits : (c e s : List ℕ) (m : Session) → SessionSound c e s m → fits (session c e s m .state) ≡ true
+pub sound-fits : (c e s : List ℕ) (m : Beside) → SessionSound c e s m → fits (session c e s m .state) ≡ true
 unfolding fits session state-with
 sound-fits c e s m z =
     let l = z .state .engine .levels-fit in
@@ -111,7 +110,7 @@ module _ (st : State) where
 
 -- ---- a line
 
-module _ {k : Command} {c e s : List ℕ} {m : Session} (o : List ℕ) (z : SessionSound c e s m) where
+module _ {k : Command} {c e s : List ℕ} {m : Beside} (o : List ℕ) (z : SessionSound c e s m) where
   -- a question says no
   pub refuses : (q : GivenRefusal.Refusal) → first-no (questions (session c e s m) k) ≡ some (refusal-meaning q) →
       Answers k c e s m (Given.the-variants.Refused q) c e s m o
@@ -125,7 +124,7 @@ module _ {k : Command} {c e s : List ℕ} {m : Session} (o : List ℕ) (z : Sess
   no-room h f = record { sound = z; printable = tt; performed = rw (h, f) }
 
   -- all say yes, and sound tables hold the result
-  pub accepts : {a : Given.Answer} {c′ e′ s′ : List ℕ} {m′ : Session} → Printable a o → first-no (questions (session c e s m) k) ≡ none →
+  pub accepts : {a : Given.Answer} {c′ e′ s′ : List ℕ} {m′ : Beside} → Printable a o → first-no (questions (session c e s m) k) ≡ none →
       SessionSound c′ e′ s′ m′ → perform (session c e s m) k ≡ record { answer = answer-meaning a o; session = session c′ e′ s′ m′ } →
       Answers k c e s m a c′ e′ s′ m′ o
   unfolding asked if-fits

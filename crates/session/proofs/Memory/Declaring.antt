@@ -22,12 +22,11 @@ use Rattle.solver.proofs.Memory.Registering.{unflagged, not-set}
 use Rattle.session.specs.Line.{Command, DeclareSort, DeclareCtor, DeclareFun}
 use Rattle.session.specs.Answer as Answer
 use Rattle.session.specs.Session.{before-close, exist, agree, sort-exists, questions, perform, first-no, done, Performed}
-use Rattle.session.specs.declared.session.Session.{Session}
 use Rattle.session.specs.declared.answer.Refusal as GivenRefusal
 use Rattle.session.specs.declared.answer.Answer as Given
 use Rattle.session.specs.Memory.Answers.{refusal-meaning, answer-meaning}
 use Rattle.session.specs.Memory.Questions.{sorts-exist}
-use Rattle.session.specs.Memory.Sessions.{session, Unclosed, SessionSound, Answers, AnswersCore, declared-answer}
+use Rattle.session.specs.Memory.Sessions.{Beside, session, Unclosed, SessionSound, Answers, AnswersCore, declared-answer}
 use Rattle.session.proofs.Memory.Questions.{and-left, and-right, below-all}
 use Rattle.session.proofs.Memory.Answering.{Refused, no-here, yes-here, yes-last, unfit-declarations, refuses, no-room, accepts}
 
@@ -57,7 +56,7 @@ unclosed-sound {c} {e} {s} core signed engine u =
 
 -- ---- a declaration
 
-module _ (k : Command) (cx : Context) {c e s : List ℕ} {m : Session} (o : List ℕ) (z : SessionSound c e s m) (before : m .closed ≡ false)
+module _ (k : Command) (cx : Context) {c e s : List ℕ} {m : Beside} (o : List ℕ) (z : SessionSound c e s m) (before : m .closed ≡ false)
     (asked-all : first-no (questions (session c e s m) k) ≡ none)
     (does : perform (session c e s m) k ≡ done (session c e s m) Answer.Ok (with-terms (session c e s m .state) cx))
     (same-terms : cx .terms ≡ context c .terms) (signed : Signed cx) where

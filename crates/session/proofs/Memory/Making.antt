@@ -19,12 +19,11 @@ use Rattle.session.specs.Line.{Command, MkTerm, MkEq}
 use Rattle.session.specs.Answer as Answer
 use Rattle.session.specs.Session as Session
 use Rattle.session.specs.Session.{after-close, exist, agree, symbol-exists, term-exists, questions, first-no, perform, done, numbered, Performed}
-use Rattle.session.specs.declared.session.Session.{Session}
 use Rattle.session.specs.declared.answer.Refusal as GivenRefusal
 use Rattle.session.specs.declared.answer.Answer as Given
 use Rattle.session.specs.Memory.Answers.{refusal-meaning, answer-meaning}
 use Rattle.session.specs.Memory.Questions.{app-exists, two-exist, sorts-agree, may-equate, NamesApp, NamesTwo}
-use Rattle.session.specs.Memory.Sessions.{session, SessionSound, Answers, AnswersCore, numbered-answer}
+use Rattle.session.specs.Memory.Sessions.{Beside, session, SessionSound, Answers, AnswersCore, numbered-answer}
 use Rattle.session.proofs.Memory.Questions.{and-left, and-right, below-all}
 use Rattle.session.proofs.Memory.Answering.{Refused, no-here, yes-here, yes-last, unfit-terms, refuses, no-room, accepts}
 
@@ -36,7 +35,7 @@ below-members n [] h a i = absurd i
 below-members n (x ∷ xs) h a (inl e) = subst⁻¹ (λ (y : ℕ). y < n) e (h 0 (omega arith))
 below-members n (x ∷ xs) h a (inr i) = below-members n xs (λ j l. h (suc j) (omega arith)) a i
 
-module _ (k : Command) (op : Op) (args : List ℕ) {c e s : List ℕ} {m : Session} (o : List ℕ) (z : SessionSound c e s m) (later :
+module _ (k : Command) (op : Op) (args : List ℕ) {c e s : List ℕ} {m : Beside} (o : List ℕ) (z : SessionSound c e s m) (later :
     m .closed ≡ true)
     (asked-all : first-no (questions (session c e s m) k) ≡ none)
     (does : perform (session c e s m) k ≡ numbered (session c e s m) (mk-app (context c) op args))

@@ -24,19 +24,18 @@ use Rattle.session.specs.Line.{Command, Equate, Cong, Iface}
 use Rattle.session.specs.Answer as Answer
 use Rattle.session.specs.Session as Session
 use Rattle.session.specs.Session.{after-close, exist, agree, term-exists, atom-of, argument-pairs, questions, first-no, perform, done, merged, merge-sides}
-use Rattle.session.specs.declared.session.Session.{Session}
 use Rattle.session.specs.declared.answer.Refusal as GivenRefusal
 use Rattle.session.specs.declared.answer.Answer as Given
 use Rattle.session.specs.Memory.Answers.{refusal-meaning, answer-meaning}
 use Rattle.session.specs.Memory.Questions.{two-exist, var-exists, one-sort, equation, congruent, pairs-fit, NamesTwo, NamesLit, NodePairs, PairsNamed}
-use Rattle.session.specs.Memory.Sessions.{session, SessionSound, Answers, AnswersEngine, AnswersEquate, Merging, Equating, MergesSides}
+use Rattle.session.specs.Memory.Sessions.{Beside, session, SessionSound, Answers, AnswersEngine, AnswersEquate, Merging, Equating, MergesSides}
 use Rattle.session.proofs.Memory.Questions.{and-left, and-right, arguments-are, children-nodes, named-atom, named-var}
 use Rattle.session.proofs.Memory.Answering.{Refused, engine-changes, no-here, yes-here, yes-last, unfit-pairs, refuses, no-room, accepts}
 use Rattle.session.proofs.Memory.Making.{two-named}
 
 -- ---- a merge
 
-module _ (k : Command) (x y : ℕ) (j : EqJust) {c e s e′ : List ℕ} {m : Session} (o : List ℕ) (z : SessionSound c e s m)
+module _ (k : Command) (x y : ℕ) (j : EqJust) {c e s e′ : List ℕ} {m : Beside} (o : List ℕ) (z : SessionSound c e s m)
     (later : m .closed ≡ true) (asked-all : first-no (questions (session c e s m) k) ≡ none)
     (does : perform (session c e s m) k ≡ merged (session c e s m) x y j) (M : Merges e e′ x y j) where
   pub merge-answers : Answers k c e s m Given.the-variants.Ok c e′ s m o
@@ -123,7 +122,7 @@ module _ (c e : List ℕ) (closed : Bool) (t u : ℕ) where
 
     module _ (xs ys : List ℕ) (f : Bool) (k : not b ≡ false) (l : xs ≡ children (context c) t) (v : ys ≡ children (context c) u)
         (g : f ≡ pairs-fit e t u xs ys) where
-      cong-asked : (s : List ℕ) (m : Session) → m .closed ≡ closed → first-no (questions (session c e s m) (Cong t u)) ≡ none
+      cong-asked : (s : List ℕ) (m : Beside) → m .closed ≡ closed → first-no (questions (session c e s m) (Cong t u)) ≡ none
       unfolding questions after-close exist Session.congruent equal argument-pairs term-exists session state-with
       cong-asked s m q = yes-here _ _ (q ∙ not-false closed w) ∙ yes-here _ _ (sym p ∙ not-false r n) ∙ yes-last _ (sym d ∙ not-false b k)
 

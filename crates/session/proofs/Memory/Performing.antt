@@ -1,5 +1,5 @@
 -- Any line: what was promised of each kind, put together by the command that was read.
-use Rattle.core.proofs.Kit.{ℕ, suc, _+_, _-_, _≤_, _≡_, refl, sym, ap, _∙_, subst, subst⁻¹, Bool, List, [], _∷_, _++_, none, some, arith, length, take, drop, length-take-le, length-drop}
+use Rattle.core.proofs.Kit.{ℕ, suc, _+_, _-_, _≤_, _≡_, refl, sym, ap, _∙_, subst, Bool, List, [], _∷_, _++_, none, some, arith, length, take, drop, length-take-le, length-drop}
 use Rattle.core.specs.Limits.{max-params}
 use Rattle.core.specs.declared.ids.SortId.{SortId}
 use Rattle.core.specs.declared.ids.SymbolId.{SymbolId}
@@ -8,15 +8,13 @@ use Rattle.session.specs.Line.{Command, DeclareCtor, DeclareFun, Close, 
 use Rattle.session.specs.Answer as Answer
 use Rattle.session.specs.Session as Session
 use Rattle.session.specs.Session.{Performed, answer-read, refused, empty-session, step}
-use Rattle.session.specs.declared.session.Session.{Session}
-use Rattle.session.specs.declared.session.Stepped.{Stepped}
 use Rattle.session.specs.declared.line.Command as GivenCommand
 use Rattle.session.specs.declared.answer.Refusal as GivenRefusal
 use Rattle.session.specs.declared.answer.Answer as Given
 use Rattle.session.specs.Memory.Commands.{max-numbers, others, command-meaning, ListFits, ReadsLine}
 use Rattle.session.specs.Memory.Answers.{refusal-meaning, answer-meaning}
-use Rattle.session.specs.Memory.Sessions.{session, after, SessionSound, Answers, AnswersWith, AnswersCore, AnswersEngine, AnswersSolver, AnswersEquate, AnswersClose, AnswersLevels, AnswersCheck, LevelsSound, Performable, Performs, Steppable, Steps}
-use Rattle.session.proofs.Memory.Levels.{answered}
+use Rattle.session.specs.Memory.Sessions.{Beside, beside, session, after, SessionSound, Answers, AnswersWith, AnswersCore, AnswersEngine, AnswersSolver, AnswersEquate, AnswersClose, AnswersLevels, AnswersCheck, LevelsSound, Performable, Performs, Steppable, Steps}
+use Rattle.session.proofs.Memory.Levels.{as-beside}
 
 -- ---- the numbers behind the first
 
@@ -63,62 +61,55 @@ module _ {k : GivenCommand.Command} (ns : List ℕ) {n : ℕ} {x : SymbolId} whe
 
 -- ---- a command that was answered
 
-pub levels-sound : {c e s : List ℕ} {m : Session} → SessionSound c e s m → LevelsSound e s m
-levels-sound z = record { engine = z .state .engine; records = records-sound (z .state); marks = z .marks; levels = z .levels }
+pub levels-sound : {c e s n : List ℕ} {b : Bool} → SessionSound c e s (beside e n b) → LevelsSound e s n
+levels-sound z = record { engine = z .state .engine; records = records-sound (z .state); marks = z .marks }
 
-abbrev Kept : Stepped → Session → Given.Answer → Type 0
-Kept r m a = (r .session ≡ m) × (r .answer ≡ a)
-
-module _ {k : GivenCommand.Command} {ns c e s o₀ : List ℕ} {m : Session} (P : Performable c e s m k ns o₀) (k′ : Command)
-    (is : command-meaning k ns ≡ some k′) where
-  performs : {r : Stepped} {c′ e′ s′ o : List ℕ} → Answers k′ c e s m (r .answer) c′ e′ s′ (r .session) o →
-      Performs k ns c e s m r c′ e′ s′ o
+module _ {k : GivenCommand.Command} {ns c e s n : List ℕ} {b : Bool} {o₀ : List ℕ} (P : Performable c e s (beside e n b) k ns o₀)
+    (k′ : Command) (is : command-meaning k ns ≡ some k′) where
+  performs : {a : Given.Answer} {c′ e′ s′ : List ℕ} {m : Beside} {o : List ℕ} → Answers k′ c e s (beside e n b) a c′ e′ s′ m o →
+      Performs k ns c e s (beside e n b) a c′ e′ s′ (beside e′ (m .marks .counts) (m .closed)) o
   unfolding answer-read
   performs A =
-      record { sound = A .sound; printable = A .printable; performed = ap (answer-read (session c e s m)) is ∙ A .performed }
+      let K = as-beside A in
+      record { sound = K .sound; printable = K .printable; performed = ap (answer-read (session c e s (beside e n b))) is ∙ K .performed }
 
-  kept : {r : Stepped} {a : Given.Answer} {c′ e′ s′ o : List ℕ} → Kept r m a → Answers k′ c e s m a c′ e′ s′ m o →
-      Performs k ns c e s m r c′ e′ s′ o
-  kept {r} {a} {c′} {e′} {s′} {o} (p, q) A = performs (answered k′ c e s o c′ e′ s′ m r a p q A)
+  pub by-core : {a : Given.Answer} {c′ : List ℕ} → AnswersCore b k′ c a c′ →
+      Performs k ns c e s (beside e n b) a c′ e s (beside e n b) o₀
+  by-core A = performs (A e s o₀ (beside e n b) (P .sound) refl)
 
-  pub by-core : {r : Stepped} {a : Given.Answer} {c′ : List ℕ} → Kept r m a → AnswersCore (m .closed) k′ c a c′ →
-      Performs k ns c e s m r c′ e s o₀
-  by-core u A = kept u (A e s o₀ m (P .sound) refl)
+  pub by-engine : {a : Given.Answer} {e′ : List ℕ} → AnswersEngine b k′ c e a e′ →
+      Performs k ns c e s (beside e n b) a c e′ s (beside e′ n b) o₀
+  by-engine A = performs (A s o₀ (beside e n b) (P .sound) refl)
 
-  pub by-engine : {r : Stepped} {a : Given.Answer} {e′ : List ℕ} → Kept r m a → AnswersEngine (m .closed) k′ c e a e′ →
-      Performs k ns c e s m r c e′ s o₀
-  by-engine u A = kept u (A s o₀ m (P .sound) refl)
+  pub by-solver : {a : Given.Answer} {s′ : List ℕ} → AnswersSolver b k′ c s a s′ →
+      Performs k ns c e s (beside e n b) a c e s′ (beside e n b) o₀
+  by-solver A = performs (A e o₀ (beside e n b) (P .sound) refl)
 
-  pub by-solver : {r : Stepped} {a : Given.Answer} {s′ : List ℕ} → Kept r m a → AnswersSolver (m .closed) k′ c s a s′ →
-      Performs k ns c e s m r c e s′ o₀
-  by-solver u A = kept u (A e o₀ m (P .sound) refl)
+  pub by-equate : {a : Given.Answer} {e′ : List ℕ} → AnswersEquate b k′ c e s a e′ →
+      Performs k ns c e s (beside e n b) a c e′ s (beside e′ n b) o₀
+  by-equate A = performs (A o₀ (beside e n b) (P .sound) refl)
 
-  pub by-equate : {r : Stepped} {a : Given.Answer} {e′ : List ℕ} → Kept r m a → AnswersEquate (m .closed) k′ c e s a e′ →
-      Performs k ns c e s m r c e′ s o₀
-  by-equate u A = kept u (A o₀ m (P .sound) refl)
+  pub by-assert : {a : Given.Answer} {s′ o : List ℕ} → AnswersWith b k′ c e s a c e s′ o →
+      Performs k ns c e s (beside e n b) a c e s′ (beside e n b) o
+  by-assert A = performs (A (beside e n b) (P .sound) refl)
 
-  pub by-assert : {r : Stepped} {a : Given.Answer} {s′ o : List ℕ} → Kept r m a → AnswersWith (m .closed) k′ c e s a c e s′ o →
-      Performs k ns c e s m r c e s′ o
-  by-assert u A = kept u (A m (P .sound) refl)
-
-  pub by-levels : {r : Stepped} {e′ s′ : List ℕ} → AnswersLevels k′ e s m r e′ s′ → Performs k ns c e s m r c e′ s′ o₀
+  pub by-levels : {a : Given.Answer} {e′ s′ n′ : List ℕ} → AnswersLevels k′ e s n b a e′ s′ n′ →
+      Performs k ns c e s (beside e n b) a c e′ s′ (beside e′ n′ b) o₀
   by-levels A = performs (A c o₀ (P .sound))
 
-module _ {k : GivenCommand.Command} {ns c e s o₀ : List ℕ} {m : Session} (P : Performable c e s m k ns o₀) where
-  pub by-close : {r : Stepped} → command-meaning k ns ≡ some Close → AnswersClose c m r → Performs k ns c e s m r c e s o₀
-  by-close is A = performs P Close is (A e s o₀ (P .sound))
+module _ {k : GivenCommand.Command} {ns c e s n : List ℕ} {b : Bool} {o₀ : List ℕ} (P : Performable c e s (beside e n b) k ns o₀) where
+  pub by-close : {a : Given.Answer} {b′ : Bool} → command-meaning k ns ≡ some Close → AnswersClose c b a b′ →
+      Performs k ns c e s (beside e n b) a c e s (beside e n b′) o₀
+  by-close is A = performs P Close is (A e s n o₀ (P .sound))
 
-  pub by-check : {r : Stepped} {a : Given.Answer} {full : Bool} {c′ s′ o : List ℕ} → command-meaning k ns ≡ some (Check full) → Kept r m a →
-      AnswersCheck (m .closed) full c e s a c′ s′ o → Performs k ns c e s m r c′ e s′ o
-  by-check {full = full} is u A = kept P (Check full) is u (A m (P .sound) (P .reached) refl)
+  pub by-check : {a : Given.Answer} {full : Bool} {c′ s′ o : List ℕ} → command-meaning k ns ≡ some (Check full) →
+      AnswersCheck b full c e s a c′ s′ o → Performs k ns c e s (beside e n b) a c′ e s′ (beside e n b) o
+  by-check {full = full} is A = performs P (Check full) is (A (beside e n b) (P .sound) (P .reached) refl)
 
-  pub by-none : {r : Stepped} → command-meaning k ns ≡ none →
-      Kept r m (Given.the-variants.Refused GivenRefusal.the-variants.Unreadable) → Performs k ns c e s m r c e s o₀
+  pub by-none : command-meaning k ns ≡ none →
+      Performs k ns c e s (beside e n b) (Given.the-variants.Refused GivenRefusal.the-variants.Unreadable) c e s (beside e n b) o₀
   unfolding answer-read refused answer-meaning refusal-meaning
-  by-none {r} is (p, q) =
-      subst⁻¹ (λ (x : Session). Performs k ns c e s m (record { answer = r .answer; session = x }) c e s o₀) p
-      (subst⁻¹ (λ (a : Given.Answer). Performs k ns c e s m (record { answer = a; session = m }) c e s o₀) q
-      (record { sound = P .sound; printable = tt; performed = ap (answer-read (session c e s m)) is }))
+  by-none is = record { sound = P .sound; printable = tt; performed = ap (answer-read (session c e s (beside e n b))) is }
 
 -- ---- a line
 
@@ -127,10 +118,11 @@ unfolding after
 after-more s [] l = refl
 after-more s (x ∷ xs) l = after-more (step s x .session) xs l
 
-pub steps : {line c e s : List ℕ} {m : Session} {ns₀ ns o₀ : List ℕ} {k : GivenCommand.Command} {r : Stepped} {c′ e′ s′ o : List ℕ} →
-    Steppable c e s m ns₀ o₀ → ReadsLine line k ns → Performs k ns c e s m r c′ e′ s′ o → Steps line c e s m r c′ e′ s′ o
+pub steps : {line c e s : List ℕ} {m : Beside} {ns₀ ns o₀ : List ℕ} {k : GivenCommand.Command} {a : Given.Answer} {c′ e′ s′ : List ℕ}
+    {m′ : Beside} {o : List ℕ} → Steppable c e s m ns₀ o₀ → ReadsLine line k ns → Performs k ns c e s m a c′ e′ s′ m′ o →
+    Steps line c e s m a c′ e′ s′ m′ o
 unfolding step
-steps {line} {c} {e} {s} {m} {r = r} {c′} {e′} {s′} Q R P =
+steps {line} {c} {e} {s} {m} Q R P =
     let does = ap (answer-read (session c e s m)) (sym (R .is)) ∙ P .performed in
     let (ls, at) = Q .reached in
     record {
@@ -144,6 +136,6 @@ steps {line} {c} {e} {s} {m} {r = r} {c′} {e′} {s′} Q R P =
       stepped = does;
     }
 
-pub performable : (line : List ℕ) {c e s : List ℕ} {m : Session} {ns₀ ns o : List ℕ} {k : GivenCommand.Command} → Steppable c e s m ns₀ o →
+pub performable : (line : List ℕ) {c e s : List ℕ} {m : Beside} {ns₀ ns o : List ℕ} {k : GivenCommand.Command} → Steppable c e s m ns₀ o →
     ReadsLine line k ns → Performable c e s m k ns o
 performable line Q R = record { sound = Q .sound; reached = Q .reached; fits = R .fits; long = Q .long }

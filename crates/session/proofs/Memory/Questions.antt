@@ -256,7 +256,7 @@ pub named-atom : {c s : List ℕ} {l v x : ℕ} → NamesLit c s l → v ≡ Ids
     x < length (context c .terms)
 named-atom {c} {s} {l} {v} {x} N p a =
     let h = atom-within (atoms (registry s)) v (length (context c .terms)) (N .atoms-are)
-        (ap (is-registered (atoms (registry s))) p ∙ N .registered)
+    (ap (is-registered (atoms (registry s))) p ∙ N .registered)
     in
     omega arith
 

@@ -1,6 +1,6 @@
 -- The run: words set to 0, an empty session, and the lines one by one: what the definition makes of all lines from the start is what it
 -- makes of the rest from the present session on, with the lines answered and the bytes written so far in front.
-use Rattle.core.proofs.Kit.{ℕ, suc, _+_, _-_, _≤_, _<_, _≡_, refl, sym, ap, _∙_, _⊎_, inl, inr, ⊎-elim, true, false, _&&_, leb, List, [], _∷_, _++_, append-assoc, append-nil, zero-add, below-more, arith, le-leb, lt-leb, length, getD, take, drop, set, length-set, length-map, ext-getD, getD-set-same, getD-set-other, length-take-le}
+use Rattle.core.proofs.Kit.{ℕ, suc, _+_, _-_, _≤_, _<_, _≡_, refl, sym, ap, _∙_, _⊎_, inl, inr, ⊎-elim, Bool, true, false, _&&_, leb, List, [], _∷_, _++_, append-assoc, append-nil, zero-add, below-more, arith, le-leb, lt-leb, length, getD, take, drop, set, length-set, length-map, ext-getD, getD-set-same, getD-set-other, length-take-le}
 use lib.ListN.{List·getD-map}
 use lib.Seq.{sets-eq, take-at}
 use Rattle.core.proofs.Lists.{and-no}
@@ -17,11 +17,9 @@ use Rattle.session.specs.Promise.{ending-meaning, lent, Gives, Runs}
 use Rattle.session.specs.Memory.Lines.{LineEnd}
 use Rattle.session.specs.Answer.{answer-text}
 use Rattle.session.specs.Memory.Answers.{answer-meaning, Written, Room, Prints}
-use Rattle.session.specs.Memory.Sessions.{session, after, Steps}
-use Rattle.session.specs.Memory.Running.{TablesLong, EmptyTables, EmptySession, Answerable, AnsweredBy, RunsLines, MayStart, Zeroed, RunsStarted}
-use Rattle.session.specs.declared.session.Session as Kept
-use Rattle.session.specs.declared.run.Answered.{Answered}
-use Rattle.session.specs.declared.session.Stepped.{Stepped}
+use Rattle.session.specs.Memory.Sessions.{Beside, level-marks, beside, session, after, Steps}
+use Rattle.session.specs.Memory.Running.{TablesLong, EmptyTables, Answerable, AnsweredBy, RunsLines, MayStart, Zeroed, RunsStarted}
+use Rattle.session.specs.declared.answer.Answer as GivenAnswer
 use Rattle.session.specs.declared.run.Ending as Given
 use Rattle.session.specs.declared.run.Ran as GivenRan
 use Rattle.session.proofs.RunClaim.{Stops, run-stops}
@@ -63,18 +61,18 @@ zero-done {t₀} {t} z h =
 
 -- ---- an empty session
 
-module _ {c e s : List ℕ} {m : Kept.Session} (z : EmptyTables c e s) (u : EmptySession m) where
-  empty-is : empty-session ≡ session c e s m
+module _ {c e s : List ℕ} (n : List ℕ) (z : EmptyTables c e s) where
+  empty-is : empty-session ≡ session c e s (beside e n false)
   unfolding session empty-session
-  empty-is = rw (cleared-state (z .core) (z .no-terms) (z .engine) (z .solver) (entry-level (m .marks)), u .closed)
+  empty-is = rw (cleared-state (z .core) (z .no-terms) (z .engine) (z .solver) (entry-level (level-marks e n)))
 
-  empty-answerable : Answerable c e s m
+  empty-answerable : Answerable c e s (beside e n false)
   unfolding after Context.empty-context
   empty-answerable = record {
     sound = record {
       state = cleared-sound (z .core) (z .no-terms) (z .engine) (z .solver);
-      marks = marks-none s (m .marks) (u .levels);
-      levels = u .levels ∙ sym (z .engine .at-level);
+      marks = marks-none s (level-marks e n) (z .engine .at-level);
+      levels = refl;
       unclosed = λ _. record { no-terms = ap (λ (x : Context.Context). x .terms) (z .no-terms); solver = z .solver };
     };
     reached = ([], empty-is);
@@ -93,13 +91,13 @@ pub written-within : {b xs b′ : List ℕ} {r : ℕ} → Written b 0 xs b′ r 
 written-within w = let kept = written-length w in let within = w .within in omega arith
 
 -- the step's answer is written as the definition's answer line
-pub answered-by : {line c e s : List ℕ} {m : Kept.Session} {k : Stepped} {c′ e′ s′ o text text′ : List ℕ} {n : ℕ} →
-    Steps line c e s m k c′ e′ s′ o → Prints (k .answer) o text n text′ →
-    AnsweredBy (step (session c e s m) line) (record { session = k .session; length = n }) c′ e′ s′ text′
+pub answered-by : {line c e s ns : List ℕ} {b : Bool} {a : GivenAnswer.Answer} {c′ e′ s′ ns′ : List ℕ} {b′ : Bool}
+    {o text text′ : List ℕ} {n : ℕ} → Steps line c e s (beside e ns b) a c′ e′ s′ (beside e′ ns′ b′) o → Prints a o text n text′ →
+    AnsweredBy (step (session c e s (beside e ns b)) line) n c′ e′ s′ (beside e′ ns′ b′) text′
 unfolding answer-line
-answered-by {k = k} {o = o} {text} {text′} {n} d w =
+answered-by {a = a} {o = o} {text} {text′} {n} d w =
     let ends = w .ends in
-    let line = answer-text (answer-meaning (k .answer) o) ++ (LF ∷ []) in
+    let line = answer-text (answer-meaning a o) ++ (LF ∷ []) in
     let long : length line ≡ n = omega arith in
     record {
       answerable = record { sound = d .sound; reached = d .reached };
@@ -109,8 +107,9 @@ answered-by {k = k} {o = o} {text} {text′} {n} d w =
     }
 
 -- how long it is
-line-long : {p : Performed} {r : Answered} {c e s text : List ℕ} → AnsweredBy p r c e s text → length (answer-line p) ≡ r .length
-line-long {r = r} {text = text} f = sym (ap length (f .line)) ∙ length-take-le (r .length) text (f .long)
+line-long : {p : Performed} {n : ℕ} {c e s : List ℕ} {m : Beside} {text : List ℕ} → AnsweredBy p n c e s m text →
+    length (answer-line p) ≡ n
+line-long {n = n} {text = text} f = sym (ap length (f .line)) ∙ length-take-le n text (f .long)
 
 module _ (room : ℕ) (s : Session.Session) (l : List ℕ) (ls : List (List ℕ)) where
   line-fits : length (answer-line (step s l)) ≤ room →
@@ -140,7 +139,7 @@ front-more n w text d =
     rw (e, append-assoc)
 
 -- So many lines are answered, their answer lines are these bytes at the start of the output, and the definition goes on from here.
-pub record Running (script o₀ c e s : List ℕ) (m : Kept.Session) (at answered written : ℕ) (o : List ℕ) : Type 0 where
+pub record Running (script o₀ c e s : List ℕ) (m : Beside) (at answered written : ℕ) (o : List ℕ) : Type 0 where
   pub answerable : Answerable c e s m
   pub fewer : answered ≤ at
   pub bytes : List ℕ
@@ -149,16 +148,15 @@ pub record Running (script o₀ c e s : List ℕ) (m : Kept.Session) (at answere
       run-lines (length o₀) empty-session (lines script)
       ≡ in-front answered bytes (run-lines (length o₀ - written) (session c e s m) (lines (drop at script)))
 
-pub run-first : {script c e s : List ℕ} {m : Kept.Session} (o : List ℕ) → EmptyTables c e s → EmptySession m →
-    Running script o c e s m 0 0 0 o
-run-first o z u =
+pub run-first : {script c e s : List ℕ} (n o : List ℕ) → EmptyTables c e s → Running script o c e s (beside e n false) 0 0 0 o
+run-first n o z =
     let room : length o - 0 ≡ length o = omega arith in
     record {
-      answerable = empty-answerable z u;
+      answerable = empty-answerable n z;
       fewer = omega arith;
       bytes = [];
       done = written-nothing o 0 (omega arith);
-      rest = front-none _ ∙ rw (empty-is z u, room);
+      rest = front-none _ ∙ rw (empty-is n z, room);
     }
 
 -- the definition's result is what stands in front
@@ -175,7 +173,7 @@ gives {w = w} {k = k} g v e =
       output = rw (e, w-nil) (written-front v);
     }
 
-module _ {script o₀ c e s : List ℕ} {m : Kept.Session} {at n written : ℕ} {o : List ℕ} (z : Running script o₀ c e s m at n written o) where
+module _ {script o₀ c e s : List ℕ} {m : Beside} {at n written : ℕ} {o : List ℕ} (z : Running script o₀ c e s m at n written o) where
   -- no line is left
   pub run-complete : length script ≤ at →
       RunsLines script o₀ (record { ending = Given.the-variants.Complete; answered = n; written = written }) o
@@ -186,9 +184,10 @@ module _ {script o₀ c e s : List ℕ} {m : Kept.Session} {at n written : ℕ} 
     abbrev line : List ℕ
     line = take (end - at) (drop at script)
 
-    module _ {r : Answered} {c′ e′ s′ text : List ℕ} (f : AnsweredBy (step (session c e s m) line) r c′ e′ s′ text) where
+    module _ {size : ℕ} {c′ e′ s′ ns : List ℕ} {b : Bool} {text : List ℕ}
+        (f : AnsweredBy (step (session c e s m) line) size c′ e′ s′ (beside e′ ns b) text) where
       -- the next line has no room
-      pub run-full : length o - written < r .length →
+      pub run-full : length o - written < size →
           RunsLines script o₀ (record { ending = Given.the-variants.Full; answered = n; written = written }) o
       unfolding ending-meaning
       run-full g =
@@ -197,22 +196,22 @@ module _ {script o₀ c e s : List ℕ} {m : Kept.Session} {at n written : ℕ} 
           let full = line-full (length o₀ - written) (session c e s m) line (lines (drop (suc end) script)) (omega arith) in
           gives Given.the-variants.Full (z .done) (z .rest ∙ rw (lines-from script at end h l, full))
 
-      pub line-room : r .length ≤ length o - written → Room o written (take (r .length) text)
+      pub line-room : size ≤ length o - written → Room o written (take size text)
       line-room g =
           let within = written-within (z .done) in
-          let long = length-take-le (r .length) text (f .long) in
+          let long = length-take-le size text (f .long) in
           omega arith
 
       -- the next line is answered
-      pub run-next : {k written′ : ℕ} {o′ : List ℕ} → k ≡ n + 1 → r .length ≤ length o - written →
-          Written o written (take (r .length) text) o′ written′ → Running script o₀ c′ e′ s′ (r .session) (end + 1) k written′ o′
+      pub run-next : {k written′ : ℕ} {o′ : List ℕ} → k ≡ n + 1 → size ≤ length o - written →
+          Written o written (take size text) o′ written′ → Running script o₀ c′ e′ s′ (beside e′ ns b) (end + 1) k written′ o′
       run-next {k} {written′} {o′} counted g v =
           let kept = written-length (z .done) in
           let long = line-long f in
           let fewer = z .fewer in
           let after = l .after in
           let ends = v .ends in
-          let cut = length-take-le (r .length) text (f .long) in
+          let cut = length-take-le size text (f .long) in
           let text′ = answer-line (step (session c e s m) line) in
           let fits = line-fits (length o₀ - written) (session c e s m) line (lines (drop (suc end) script)) (omega arith) in
           let room : length o₀ - written - length text′ ≡ length o₀ - written′ = omega arith in

@@ -33,12 +33,11 @@ use Rattle.session.specs.Line as Line
 use Rattle.session.specs.Answer as Answer
 use Rattle.session.specs.Session as Session
 use Rattle.session.specs.Session.{after-close, exist, agree, unregistered, term-exists, questions, first-no, perform, done, conflict-or-ok}
-use Rattle.session.specs.declared.session.Session.{Session}
 use Rattle.session.specs.declared.answer.Refusal as GivenRefusal
 use Rattle.session.specs.declared.answer.Answer as Given
 use Rattle.session.specs.Memory.Answers.{refusal-meaning, answer-meaning, Printable}
 use Rattle.session.specs.Memory.Questions.{var-named, var-exists}
-use Rattle.session.specs.Memory.Sessions.{session, SessionSound, Reached, Answers, AnswersWith, AnswersSolver, AnswersCheck, FitsWith, asserted-answer, checked-answer}
+use Rattle.session.specs.Memory.Sessions.{Beside, session, SessionSound, Reached, Answers, AnswersWith, AnswersSolver, AnswersCheck, FitsWith, asserted-answer, checked-answer}
 use Rattle.session.proofs.Memory.Questions.{and-left, and-right}
 use Rattle.session.proofs.Memory.Answering.{Refused, no-here, yes-here, yes-last, unfit-terms, refuses, no-room, accepts}
 use Rattle.session.proofs.Claim.{reached-ready}
@@ -57,7 +56,7 @@ unfolding state-with dt-with
 record-is c e s lv = refl
 
 -- a state with the same entries has the same mark counts
-marks-stay : (c e s c′ e′ u : List ℕ) (m : Session) → MarksSound s (m .marks) →
+marks-stay : (c e s c′ e′ u : List ℕ) (m : Beside) → MarksSound s (m .marks) →
     state c′ e′ u (entry-level (m .marks)) .dt .level-record ≡ state c e s (entry-level (m .marks)) .dt .level-record →
     MarksSound u (m .marks)
 marks-stay c e s c′ e′ u m z h =
@@ -235,7 +234,7 @@ module _ {c e s : List ℕ} {closed full : Bool} where
   unfolding questions after-close session refusal-meaning
   check-early {o} w m z R q = refuses o z GivenRefusal.the-variants.Misplaced (no-here _ _ (q ∙ not-true closed w))
 
-  module _ {c′ s′ o : List ℕ} {r : TCheck.TCheck} (w : not closed ≡ false) (K : Checks full c e s r c′ s′ o) (m : Session)
+  module _ {c′ s′ o : List ℕ} {r : TCheck.TCheck} (w : not closed ≡ false) (K : Checks full c e s r c′ s′ o) (m : Beside)
       (z : SessionSound c e s m) (R : Reached (session c e s m)) (q : m .closed ≡ closed) where
     abbrev lv : ℕ → ℕ
     lv = entry-level (m .marks)

@@ -1,7 +1,6 @@
 -- What the functions of the run promise one another.
 use Prim.Native.Nat.{ℕ, _≤_}
 use mathlib.Core.Path.{_≡_}
-use mathlib.Core.Bool.{false}
 use mathlib.Core.List.{List, []}
 use lib.ListN.{length, take}
 use Rattle.core.specs.Limits.{table-words, max-script}
@@ -13,9 +12,7 @@ use Rattle.session.specs.Text.{lines}
 use Rattle.session.specs.Session.{Performed, empty-session, step}
 use Rattle.session.specs.Run.{answer-line, run-lines, zeros}
 use Rattle.session.specs.Promise.{Gives}
-use Rattle.session.specs.Memory.Sessions.{session, Reached, SessionSound}
-use Rattle.session.specs.declared.session.Session.{Session}
-use Rattle.session.specs.declared.run.Answered.{Answered}
+use Rattle.session.specs.Memory.Sessions.{Beside, session, Reached, SessionSound}
 use Rattle.session.specs.declared.run.Ran.{Ran}
 
 -- ---- an empty session
@@ -33,27 +30,22 @@ pub record EmptyTables (c e s : List ℕ) : Type 0 where
   pub engine : Engine e [] 0
   pub solver : SolverCleared s
 
--- what an empty session keeps beside them
-pub record EmptySession (m : Session) : Type 0 where
-  pub levels : m .marks .levels ≡ 0
-  pub closed : m .closed ≡ false
-
 -- ---- the lines
 
 -- a session that lines lead to, in tables that fit together: the next line may be answered
-pub record Answerable (c e s : List ℕ) (m : Session) : Type 0 where
+pub record Answerable (c e s : List ℕ) (m : Beside) : Type 0 where
   pub sound : SessionSound c e s m
   pub reached : Reached (session c e s m)
 
--- It was: r, the tables and the text show what the definition's step p gives, the session after the line and its answer line.
-pub record AnsweredBy (p : Performed) (r : Answered) (c e s text : List ℕ) : Type 0 where
-  pub answerable : Answerable c e s (r .session)
-  pub after : p .session ≡ session c e s (r .session)
-  pub line : take (r .length) text ≡ answer-line p
-  pub long : r .length ≤ length text
+-- It was: the tables, m and n bytes of the text show what the definition's step p gives, the session after the line and its answer line.
+pub record AnsweredBy (p : Performed) (n : ℕ) (c e s : List ℕ) (m : Beside) (text : List ℕ) : Type 0 where
+  pub answerable : Answerable c e s m
+  pub after : p .session ≡ session c e s m
+  pub line : take n text ≡ answer-line p
+  pub long : n ≤ length text
 
-abbrev pub AnswersLine : List ℕ → List ℕ → List ℕ → List ℕ → Session → Answered → List ℕ → List ℕ → List ℕ → List ℕ → Type 0
-AnswersLine line c e s m r c′ e′ s′ text = AnsweredBy (step (session c e s m) line) r c′ e′ s′ text
+abbrev pub AnswersLine : List ℕ → List ℕ → List ℕ → List ℕ → Beside → ℕ → List ℕ → List ℕ → List ℕ → Beside → List ℕ → Type 0
+AnswersLine line c e s m n c′ e′ s′ m′ text = AnsweredBy (step (session c e s m) line) n c′ e′ s′ m′ text
 
 -- the lines of a script may be answered, from the first on
 pub record MayRun (script c e s : List ℕ) : Type 0 where

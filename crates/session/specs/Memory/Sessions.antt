@@ -17,6 +17,7 @@ use Rattle.theory.specs.Memory.Answer.{answer-size}
 use Rattle.theory.specs.Memory.Registry.{atoms}
 use Rattle.theory.specs.Memory.Table.{level, EngineSound, Merges}
 use Rattle.solver.specs.declared.answer.TCheck as TCheck
+use Rattle.solver.specs.declared.levels.TesterMarks.{TesterMarks}
 use Rattle.solver.specs.Memory.Table.{registry, state, StateSound}
 use Rattle.solver.specs.Memory.Levels.{entry-level, MarksSound, RecordsSound}
 use Rattle.solver.specs.Memory.Recording.{SolverCleared}
@@ -25,14 +26,24 @@ use Rattle.session.specs.Session as Session
 use Rattle.session.specs.Session.{asked, first-no, questions, empty-session, answer-read, step}
 use Rattle.session.specs.Memory.Answers.{answer-meaning, Printable}
 use Rattle.session.specs.Memory.Commands.{max-numbers, command-meaning, ListFits}
-use Rattle.session.specs.declared.session.Session.{Session}
-use Rattle.session.specs.declared.session.Stepped.{Stepped}
 use Rattle.session.specs.declared.line.Command as GivenCommand
 use Rattle.session.specs.declared.answer.Refusal as GivenRefusal
 use Rattle.session.specs.declared.answer.Answer as Given
 
+-- What a session keeps beside the three tables: the mark counts of the level record, and whether a `close` was accepted.
+pub record Beside : Type 0 where
+  pub marks : TesterMarks
+  pub closed : Bool
+
+-- as the code has it: the engine's table says how many levels are open, n has their counts
+abbrev pub level-marks : List ℕ → List ℕ → TesterMarks
+level-marks e n = record { levels = level e; counts = n }
+
+abbrev pub beside : List ℕ → List ℕ → Bool → Beside
+beside e n closed = record { marks = level-marks e n; closed = closed }
+
 -- the session that the tables of core, of the engine and of the solver mean, with what the session keeps beside them
-unfoldable pub session : List ℕ → List ℕ → List ℕ → Session → Session.Session
+unfoldable pub session : List ℕ → List ℕ → List ℕ → Beside → Session.Session
 session c e s m = record { state = state c e s (entry-level (m .marks)); closed = m .closed }
 
 -- the session after some lines, each working on the session that the line before left
@@ -52,7 +63,7 @@ pub record Unclosed (c s : List ℕ) : Type 0 where
   pub solver : SolverCleared s
 
 -- The tables and what the session keeps fit together.
-pub record SessionSound (c e s : List ℕ) (m : Session) : Type 0 where
+pub record SessionSound (c e s : List ℕ) (m : Beside) : Type 0 where
   pub state : StateSound c e s
   pub marks : MarksSound s (m .marks)
   pub levels : m .marks .levels ≡ level e
@@ -61,7 +72,7 @@ pub record SessionSound (c e s : List ℕ) (m : Session) : Type 0 where
 -- ---- answering a line
 
 -- a line that reads was answered: the questions 4 to 11, and what an accepted line does
-pub record Answers (k : Command) (c e s : List ℕ) (m : Session) (a : Given.Answer) (c′ e′ s′ : List ℕ) (m′ : Session) (o : List ℕ) :
+pub record Answers (k : Command) (c e s : List ℕ) (m : Beside) (a : Given.Answer) (c′ e′ s′ : List ℕ) (m′ : Beside) (o : List ℕ) :
     Type 0 where
   pub sound : SessionSound c′ e′ s′ m′
   pub printable : Printable a o
@@ -71,7 +82,7 @@ pub record Answers (k : Command) (c e s : List ℕ) (m : Session) (a : Given.Ans
 
 -- a line that asks of what the session keeps only whether a `close` was accepted, and changes nothing of it
 abbrev pub AnswersWith : Bool → Command → List ℕ → List ℕ → List ℕ → Given.Answer → List ℕ → List ℕ → List ℕ → List ℕ → Type 0
-AnswersWith closed k c e s a c′ e′ s′ o = (m : Session) → SessionSound c e s m → m .closed ≡ closed → Answers k c e s m a c′ e′ s′ m o
+AnswersWith closed k c e s a c′ e′ s′ o = (m : Beside) → SessionSound c e s m → m .closed ≡ closed → Answers k c e s m a c′ e′ s′ m o
 
 -- and works on core's table alone; on core's and the engine's; on core's and the solver's
 abbrev pub AnswersCore : Bool → Command → List ℕ → Given.Answer → List ℕ → Type 0
@@ -87,17 +98,19 @@ AnswersSolver closed k c s a s′ = (e o : List ℕ) → AnswersWith closed k c 
 abbrev pub AnswersEquate : Bool → Command → List ℕ → List ℕ → List ℕ → Given.Answer → List ℕ → Type 0
 AnswersEquate closed k c e s a e′ = (o : List ℕ) → AnswersWith closed k c e s a c e′ s o
 
--- `close`; `push` and `pop`: r has the answer and what the session keeps after it
-abbrev pub AnswersClose : List ℕ → Session → Stepped → Type 0
-AnswersClose c m r = (e s o : List ℕ) → SessionSound c e s m → Answers Close c e s m (r .answer) c e s (r .session) o
+-- `close`; `push` and `pop`, which change the counts
+abbrev pub AnswersClose : List ℕ → Bool → Given.Answer → Bool → Type 0
+AnswersClose c closed a closed′ =
+    (e s n o : List ℕ) → SessionSound c e s (beside e n closed) → Answers Close c e s (beside e n closed) a c e s (beside e n closed′) o
 
-abbrev pub AnswersLevels : Command → List ℕ → List ℕ → Session → Stepped → List ℕ → List ℕ → Type 0
-AnswersLevels k e s m r e′ s′ = (c o : List ℕ) → SessionSound c e s m → Answers k c e s m (r .answer) c e′ s′ (r .session) o
+abbrev pub AnswersLevels : Command → List ℕ → List ℕ → List ℕ → Bool → Given.Answer → List ℕ → List ℕ → List ℕ → Type 0
+AnswersLevels k e s n closed a e′ s′ n′ =
+    (c o : List ℕ) → SessionSound c e s (beside e n closed) → Answers k c e s (beside e n closed) a c e′ s′ (beside e′ n′ closed) o
 
 -- a check; that it keeps the level record is known of sessions that lines lead to
 abbrev pub AnswersCheck : Bool → Bool → List ℕ → List ℕ → List ℕ → Given.Answer → List ℕ → List ℕ → List ℕ → Type 0
 AnswersCheck closed full c e s a c′ s′ o =
-    (m : Session) → SessionSound c e s m → Reached (session c e s m) → m .closed ≡ closed → Answers (Check full) c e s m a c′ e s′ m o
+    (m : Beside) → SessionSound c e s m → Reached (session c e s m) → m .closed ≡ closed → Answers (Check full) c e s m a c′ e s′ m o
 
 -- the tables of core and of the solver fit together with some table of the engine
 abbrev pub FitsWith : List ℕ → List ℕ → Type 0
@@ -123,42 +136,42 @@ pub record MergesSides (c e s : List ℕ) (l : ℕ) (e′ : List ℕ) : Type 0 w
   pub merged : Merges e e′ left right (Asserted l)
 
 -- what lines that open and close levels ask of the tables of the engine and of the solver
-pub record LevelsSound (e s : List ℕ) (m : Session) : Type 0 where
+pub record LevelsSound (e s n : List ℕ) : Type 0 where
   pub engine : EngineSound e
   pub records : RecordsSound s
-  pub marks : MarksSound s (m .marks)
-  pub levels : m .marks .levels ≡ level e
+  pub marks : MarksSound s (level-marks e n)
 
 -- ---- any line
 
 -- a command may be answered; its numbers stand in ns
-pub record Performable (c e s : List ℕ) (m : Session) (k : GivenCommand.Command) (ns o : List ℕ) : Type 0 where
+pub record Performable (c e s : List ℕ) (m : Beside) (k : GivenCommand.Command) (ns o : List ℕ) : Type 0 where
   pub sound : SessionSound c e s m
   pub reached : Reached (session c e s m)
   pub fits : ListFits k (length ns)
   pub long : answer-size ≤ length o
 
--- it was: r has the answer and what the session keeps after it
-pub record Performs (k : GivenCommand.Command) (ns c e s : List ℕ) (m : Session) (r : Stepped) (c′ e′ s′ o : List ℕ) : Type 0 where
-  pub sound : SessionSound c′ e′ s′ (r .session)
-  pub printable : Printable (r .answer) o
+-- it was: a is the answer, m′ what the session keeps after it
+pub record Performs (k : GivenCommand.Command) (ns c e s : List ℕ) (m : Beside) (a : Given.Answer) (c′ e′ s′ : List ℕ) (m′ : Beside)
+    (o : List ℕ) : Type 0 where
+  pub sound : SessionSound c′ e′ s′ m′
+  pub printable : Printable a o
   pub performed :
       answer-read (session c e s m) (command-meaning k ns)
-      ≡ record { answer = answer-meaning (r .answer) o; session = session c′ e′ s′ (r .session) }
+      ≡ record { answer = answer-meaning a o; session = session c′ e′ s′ m′ }
 
 -- a line may be answered
-pub record Steppable (c e s : List ℕ) (m : Session) (ns o : List ℕ) : Type 0 where
+pub record Steppable (c e s : List ℕ) (m : Beside) (ns o : List ℕ) : Type 0 where
   pub sound : SessionSound c e s m
   pub reached : Reached (session c e s m)
   pub numbers : max-numbers ≤ length ns
   pub long : answer-size ≤ length o
 
 -- it was, by the definition's step
-pub record Steps (line c e s : List ℕ) (m : Session) (r : Stepped) (c′ e′ s′ o : List ℕ) : Type 0 where
-  pub sound : SessionSound c′ e′ s′ (r .session)
-  pub reached : Reached (session c′ e′ s′ (r .session))
-  pub printable : Printable (r .answer) o
-  pub stepped : step (session c e s m) line ≡ record { answer = answer-meaning (r .answer) o; session = session c′ e′ s′ (r .session) }
+pub record Steps (line c e s : List ℕ) (m : Beside) (a : Given.Answer) (c′ e′ s′ : List ℕ) (m′ : Beside) (o : List ℕ) : Type 0 where
+  pub sound : SessionSound c′ e′ s′ m′
+  pub reached : Reached (session c′ e′ s′ m′)
+  pub printable : Printable a o
+  pub stepped : step (session c e s m) line ≡ record { answer = answer-meaning a o; session = session c′ e′ s′ m′ }
 
 -- ---- answers of the layers below as answers of a line
 

@@ -6,5 +6,4 @@ use Rattle.session.proofs.levels.close_line.Tie as tie
 
 pub close-line-spec : {M : Type 1} → statement M
 close-line-spec =
-    tie.close (tie.spec (λ c κs. search needs) (λ c. search close-late) (λ c κs. search needs) (λ c κs. search needs)
-    (λ c. search close-empty) (λ c. search close-done))
+    tie.close (tie.spec (λ c. search close-late) (λ c κs. search needs) (λ c. search close-empty) (λ c. search close-done))

@@ -6,9 +6,8 @@ use Rattle.session.proofs.run.answer_line.Tie as tie
 
 returns : tie.Need-returns
 returns c =
-    let at-write = c .before in
-    let at-step = at-write .before .before .before .before .before .before .before .before .before .before in
-    answered-by (at-step .step .ensures) (at-write .write-answer .ensures)
+    let at-step = c .before .before .before .before .before .before .before .before .before .before in
+    answered-by (at-step .step .ensures) (c .write-answer .ensures)
 
 pub answer-line-spec : {M : Type 1} → statement M
 answer-line-spec =

@@ -64,108 +64,112 @@ fun-line-requires c κs =
     (entry .pre .sound .state .core, few-behind (now (entry .args .numbers)) _ room)
 
 push-line-requires : tie.Need-push-line-requires
-push-line-requires c κs = levels-sound (c .before .before .before .before .before .before .before .before .before .pre .sound)
+push-line-requires c κs =
+    let at-k = c .before .before .before in
+    let entry = at-k .before .before .before .before .before .before .before in
+    levels-sound (entry .pre .sound)
 
 pop-line-requires : tie.Need-pop-line-requires
-pop-line-requires c κs = levels-sound (c .before .before .before .before .before .before .before .before .before .before .pre .sound)
+pop-line-requires c κs =
+    let at-k = c .before .before .before .before in
+    let entry = at-k .before .before .before .before .before .before .before in
+    levels-sound (entry .pre .sound)
 
 returns : tie.Need-returns
 unfolding command-meaning
 returns c =
-    let at-k = c .before in
-    let entry = at-k .before .before .before .before .before .before .before in
-    by-none (entry .pre) (ap (λ (j : Command). command-meaning j (now (entry .args .numbers))) (at-k .enum-told .given .1))
-    (c .unchanged .ensures)
+    let entry = c .before .before .before .before .before .before .before in
+    by-none (entry .pre) (ap (λ (j : Command). command-meaning j (now (entry .args .numbers))) (c .enum-told .given .1))
 
 returns-2 : tie.Need-returns-2
 unfolding command-meaning
 returns-2 c =
-    let at-k = c .before .before .before .before .before .before in
+    let at-k = c .before .before .before .before .before in
     let entry = at-k .before .before .before .before .before .before .before in
     by-core (entry .pre) _ (ap (λ (j : Command). command-meaning j (now (entry .args .numbers))) (at-k .k .given .1))
-    (c .unchanged2 .ensures) (c .before .before .before .sort-line .ensures)
+    (c .before .before .sort-line .ensures)
 
 returns-3 : tie.Need-returns-3
 returns-3 c =
-    let at-k = c .before .before .before .before .before .before .before in
+    let at-k = c .before .before .before .before .before .before in
     let entry = at-k .before .before .before .before .before .before .before in
-    by-core (entry .pre) _ (ctor-read (now (entry .args .numbers)) (at-k .k2 .given .1)) (c .unchanged3 .ensures)
-    (c .before .before .before .ctor-line .ensures)
+    by-core (entry .pre) _ (ctor-read (now (entry .args .numbers)) (at-k .k2 .given .1))
+    (c .before .before .ctor-line .ensures)
 
 returns-4 : tie.Need-returns-4
 returns-4 c =
-    let at-k = c .before .before .before .before .before .before .before in
+    let at-k = c .before .before .before .before .before .before in
     let entry = at-k .before .before .before .before .before .before .before in
-    by-core (entry .pre) _ (fun-read (now (entry .args .numbers)) (at-k .k3 .given .1)) (c .unchanged4 .ensures)
-    (c .before .before .before .fun-line .ensures)
+    by-core (entry .pre) _ (fun-read (now (entry .args .numbers)) (at-k .k3 .given .1))
+    (c .before .before .fun-line .ensures)
 
 returns-5 : tie.Need-returns-5
 unfolding command-meaning
 returns-5 c =
-    let at-k = c .before .before in
+    let at-k = c .before .before .before in
     let entry = at-k .before .before .before .before .before .before .before in
     by-close (entry .pre) (ap (λ (j : Command). command-meaning j (now (entry .args .numbers))) (at-k .enum-told2 .given .1))
     (c .close-line .ensures)
 
 returns-6 : tie.Need-returns-6
 returns-6 c =
-    let at-k = c .before .before .before .before .before .before .before in
+    let at-k = c .before .before .before .before .before .before in
     let entry = at-k .before .before .before .before .before .before .before in
-    by-core (entry .pre) _ (term-read (now (entry .args .numbers)) (at-k .k4 .given .1)) (c .unchanged5 .ensures)
-    (c .before .before .before .term-line .ensures)
+    by-core (entry .pre) _ (term-read (now (entry .args .numbers)) (at-k .k4 .given .1))
+    (c .before .before .term-line .ensures)
 
 returns-7 : tie.Need-returns-7
 unfolding command-meaning
 returns-7 c =
-    let at-k = c .before .before .before .before .before .before in
+    let at-k = c .before .before .before .before .before in
     let entry = at-k .before .before .before .before .before .before .before in
     by-core (entry .pre) _ (ap (λ (j : Command). command-meaning j (now (entry .args .numbers))) (at-k .k5 .given .1))
-    (c .unchanged6 .ensures) (c .before .before .before .eq-line .ensures)
+    (c .before .before .eq-line .ensures)
 
 returns-8 : tie.Need-returns-8
 unfolding command-meaning
 returns-8 c =
-    let at-k = c .before .before .before .before .before .before .before in
+    let at-k = c .before .before .before .before .before .before in
     let entry = at-k .before .before .before .before .before .before .before in
     by-solver (entry .pre) _ (ap (λ (j : Command). command-meaning j (now (entry .args .numbers))) (at-k .k6 .given .1))
-    (c .unchanged7 .ensures) (c .before .before .before .var-line .ensures)
+    (c .before .before .var-line .ensures)
 
 returns-9 : tie.Need-returns-9
 unfolding command-meaning
 returns-9 c =
-    let at-k = c .before .before .before .before .before .before .before .before in
+    let at-k = c .before .before .before .before .before .before .before in
     let entry = at-k .before .before .before .before .before .before .before in
     by-equate (entry .pre) _ (ap (λ (j : Command). command-meaning j (now (entry .args .numbers))) (at-k .k7 .given .1))
-    (c .unchanged8 .ensures) (c .before .before .before .equate-line .ensures)
+    (c .before .before .equate-line .ensures)
 
 returns-10 : tie.Need-returns-10
 unfolding command-meaning
 returns-10 c =
-    let at-k = c .before .before .before .before .before .before .before in
+    let at-k = c .before .before .before .before .before .before in
     let entry = at-k .before .before .before .before .before .before .before in
     by-engine (entry .pre) _ (ap (λ (j : Command). command-meaning j (now (entry .args .numbers))) (at-k .k8 .given .1))
-    (c .unchanged9 .ensures) (c .before .before .before .cong-line .ensures)
+    (c .before .before .cong-line .ensures)
 
 returns-11 : tie.Need-returns-11
 unfolding command-meaning
 returns-11 c =
-    let at-k = c .before .before .before .before .before .before .before in
+    let at-k = c .before .before .before .before .before .before in
     let entry = at-k .before .before .before .before .before .before .before in
     by-engine (entry .pre) _ (ap (λ (j : Command). command-meaning j (now (entry .args .numbers))) (at-k .k9 .given .1))
-    (c .unchanged10 .ensures) (c .before .before .before .iface-line .ensures)
+    (c .before .before .iface-line .ensures)
 
 returns-12 : tie.Need-returns-12
 unfolding command-meaning
 returns-12 c =
-    let at-k = c .before .before .before .before .before .before .before .before .before .before .before in
+    let at-k = c .before .before .before .before .before .before .before .before .before .before in
     let entry = at-k .before .before .before .before .before .before .before in
     by-assert (entry .pre) _ (ap (λ (j : Command). command-meaning j (now (entry .args .numbers))) (at-k .k10 .given .1))
-    (c .unchanged11 .ensures) (c .before .before .before .before .before .assert-line .ensures)
+    (c .before .before .before .before .assert-line .ensures)
 
 returns-13 : tie.Need-returns-13
 unfolding command-meaning
 returns-13 c =
-    let at-k = c .before .before .before .before .before in
+    let at-k = c .before .before .before .before .before .before in
     let entry = at-k .before .before .before .before .before .before .before in
     by-levels (entry .pre) _ (ap (λ (j : Command). command-meaning j (now (entry .args .numbers))) (at-k .enum-told3 .given .1))
     (c .before .before .push-line .ensures)
@@ -173,7 +177,7 @@ returns-13 c =
 returns-14 : tie.Need-returns-14
 unfolding command-meaning
 returns-14 c =
-    let at-k = c .before .before .before .before .before .before .before .before in
+    let at-k = c .before .before .before .before .before .before .before .before .before in
     let entry = at-k .before .before .before .before .before .before .before in
     by-levels (entry .pre) _ (ap (λ (j : Command). command-meaning j (now (entry .args .numbers))) (at-k .k11 .given .1))
     (c .before .before .before .before .pop-line .ensures)
@@ -181,26 +185,23 @@ returns-14 c =
 returns-15 : tie.Need-returns-15
 unfolding command-meaning
 returns-15 c =
-    let at-k = c .before .before .before .before .before .before .before .before .before .before .before .before .before in
+    let at-k = c .before .before .before .before .before .before .before .before .before .before .before .before in
     let entry = at-k .before .before .before .before .before .before .before in
     by-check (entry .pre) (ap (λ (j : Command). command-meaning j (now (entry .args .numbers))) (at-k .k12 .given .1))
-    (c .unchanged12 .ensures) (c .before .before .before .before .before .before .before .check-line .ensures)
+    (c .before .before .before .before .before .before .check-line .ensures)
 
 pub perform-spec : {M : Type 1} → statement M
 perform-spec =
-    tie.close (tie.spec (λ c. search needs) (λ c κs. search needs) (λ c. search needs) (λ c κs. search needs) (λ c κs. search needs)
-    (λ c. search needs) add-ctor-line (λ c. search needs) (λ c. search needs) part-ctor-line-end ctor-line-requires
-    (λ c κs. search needs) (λ c. search needs) add-fun-line (λ c. search needs) (λ c. search needs) part-fun-line-end
-    fun-line-requires (λ c κs. search needs) (λ c. search needs) (λ c κs. search needs) (λ c. search needs) add-term-line
-    (λ c. search needs) (λ c. search needs) part-term-line-end (λ c κs. search needs) (λ c κs. search needs) (λ c. search needs)
-    (λ c κs. search needs) (λ c κs. search needs) (λ c. search needs) (λ c κs. search needs) (λ c κs. search needs)
-    (λ c. search needs) (λ c κs. search needs) (λ c κs. search needs) (λ c. search needs) (λ c κs. search needs)
-    (λ c κs. search needs) (λ c. search needs) (λ c κs. search needs) (λ c κs. search needs) (λ c. search needs)
-    (λ c κs. search needs) (λ c κs. search needs) (λ c. search needs) push-line-requires (λ c. search needs) pop-line-requires
-    (λ c. search needs) (λ c κs. search needs) (λ c κs. search needs) returns (λ c. search needs) returns-2 (λ c. search needs)
-    returns-3 (λ c. search needs) returns-4 (λ c. search needs) returns-5 (λ c. search needs) returns-6 (λ c. search needs) returns-7
-    (λ c. search needs) (λ c. search needs) returns-8 (λ c. search needs) (λ c. search needs) (λ c. search needs) returns-9
-    (λ c. search needs) (λ c. search needs) returns-10 (λ c. search needs) (λ c. search needs) returns-11 (λ c. search needs)
-    (λ c. search needs) (λ c. search needs) (λ c. search needs) returns-12 (λ c. search needs) (λ c. search needs) returns-13
-    (λ c. search needs) (λ c. search needs) returns-14 (λ c. search needs) (λ c. search needs) (λ c. search needs) (λ c. search needs)
-    returns-15)
+    tie.close (tie.spec (λ c. search needs) (λ c. search needs) (λ c κs. search needs) (λ c. search needs) add-ctor-line
+    (λ c. search needs) (λ c. search needs) part-ctor-line-end ctor-line-requires (λ c. search needs) add-fun-line
+    (λ c. search needs) (λ c. search needs) part-fun-line-end fun-line-requires (λ c. search needs) (λ c κs. search needs)
+    (λ c. search needs) add-term-line (λ c. search needs) (λ c. search needs) part-term-line-end (λ c κs. search needs)
+    (λ c. search needs) (λ c κs. search needs) (λ c. search needs) (λ c κs. search needs) (λ c. search needs) (λ c κs. search needs)
+    (λ c. search needs) (λ c κs. search needs) (λ c. search needs) (λ c κs. search needs) (λ c. search needs) (λ c κs. search needs)
+    (λ c. search needs) push-line-requires (λ c. search needs) pop-line-requires (λ c. search needs) (λ c κs. search needs) returns
+    (λ c. search needs) returns-2 (λ c. search needs) returns-3 (λ c. search needs) returns-4 (λ c. search needs) returns-5
+    (λ c. search needs) returns-6 (λ c. search needs) returns-7 (λ c. search needs) (λ c. search needs) returns-8
+    (λ c. search needs) (λ c. search needs) (λ c. search needs) returns-9 (λ c. search needs) (λ c. search needs) returns-10
+    (λ c. search needs) (λ c. search needs) returns-11 (λ c. search needs) (λ c. search needs) (λ c. search needs)
+    (λ c. search needs) returns-12 (λ c. search needs) (λ c. search needs) returns-13 (λ c. search needs) (λ c. search needs)
+    returns-14 (λ c. search needs) (λ c. search needs) (λ c. search needs) (λ c. search needs) returns-15)
