@@ -5,7 +5,7 @@ use mathlib.Core.Path.{_≡_}
 use mathlib.Core.List.{List}
 use lib.ListN.{length}
 use Rattle.session.specs.Run as Run
-use Rattle.session.specs.Run.{Sizes, run, output-after, table-after}
+use Rattle.session.specs.Run.{Sizes, run, result-number, output-after, table-after}
 use Rattle.session.specs.declared.run.Ending as Given
 use Rattle.session.specs.declared.run.Ran.{Ran}
 
@@ -38,3 +38,11 @@ pub record Runs (script c e s o : List ℕ) (r : Ran) (c′ e′ s′ o′ : Lis
   pub core : c′ ≡ table-after (run (lent c e s o) script .ending) c
   pub theory : e′ ≡ table-after (run (lent c e s o) script .ending) e
   pub solver : s′ ≡ table-after (run (lent c e s o) script .ending) s
+
+-- The same by numbers: 01's number n for the result, a lines answered, w bytes written.
+pub record Reports (script c e s o : List ℕ) (n a w : ℕ) (c′ e′ s′ o′ : List ℕ) : Type 0 where
+  pub ran : Ran
+  pub runs : Runs script c e s o ran c′ e′ s′ o′
+  pub number : n ≡ result-number (ending-meaning (ran .ending))
+  pub answered : a ≡ ran .answered
+  pub written : w ≡ ran .written

@@ -1,6 +1,7 @@
 // The script session: reading, the questions, the answers, the run. What is right here is defined in specs/.
 pub mod answer;
 pub mod declaring;
+pub mod export;
 pub mod levels;
 pub mod line;
 pub mod making;
