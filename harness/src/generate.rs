@@ -2,13 +2,16 @@
 
 use crate::damage;
 use crate::limits;
+use crate::reacting;
 use crate::rng::Rng;
 use crate::search::{self, Size};
 
-#[derive(Clone, Copy)]
+#[derive(Clone, Copy, Debug)]
 pub enum Kind {
     /// Like a search core; no line is refused.
     Search,
+    /// A search core that reacts to each answer; no line is refused.
+    Reacting,
     /// Like a search core, with refused lines between.
     Refused,
     Limits,
@@ -17,11 +20,12 @@ pub enum Kind {
 }
 
 impl Kind {
-    pub const ALL: [Kind; 5] = [Kind::Search, Kind::Refused, Kind::Limits, Kind::Damaged, Kind::Any];
+    pub const ALL: [Kind; 6] = [Kind::Search, Kind::Reacting, Kind::Refused, Kind::Limits, Kind::Damaged, Kind::Any];
 
     pub fn named(name: &str) -> Option<Kind> {
         match name {
             "search" => Some(Kind::Search),
+            "reacting" => Some(Kind::Reacting),
             "refused" => Some(Kind::Refused),
             "limits" => Some(Kind::Limits),
             "damaged" => Some(Kind::Damaged),
@@ -39,16 +43,18 @@ pub fn script(kind: Kind, seed: u64) -> Vec<u8> {
 fn script_of(kind: Kind, rng: &mut Rng) -> Vec<u8> {
     match kind {
         Kind::Search => like_a_search(rng, 0),
+        Kind::Reacting => reacting::reacting(rng).script,
         Kind::Refused => like_a_search(rng, 20),
         Kind::Limits => limits::limits(rng),
         Kind::Damaged => {
-            let kinds = [Kind::Search, Kind::Search, Kind::Search, Kind::Refused, Kind::Limits];
+            let kinds = [Kind::Search, Kind::Search, Kind::Reacting, Kind::Refused, Kind::Limits];
             let script = script_of(kinds[rng.below(kinds.len())], rng);
             damage::damage(rng, &script)
         }
         Kind::Any => {
             let kind = match rng.below(100) {
-                0..=49 => Kind::Search,
+                0..=39 => Kind::Search,
+                40..=49 => Kind::Reacting,
                 50..=64 => Kind::Refused,
                 65..=84 => Kind::Limits,
                 _ => Kind::Damaged,

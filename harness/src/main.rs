@@ -1,22 +1,7 @@
 //! Answers scripts with the published solver, makes scripts, and counts what they meet.
 
-mod compare;
-mod damage;
-mod generate;
-mod limits;
-mod offence;
-mod plans;
-mod records;
-mod rng;
-mod run;
-mod script;
-mod search;
-mod session;
-mod signature;
-mod statistic;
-mod writer;
-
-use generate::Kind;
+use oracle::generate::{self, Kind};
+use oracle::{compare, records, run, statistic};
 use std::io::{Read, Write};
 
 const USAGE: &str = "harness answer [--result]
@@ -26,7 +11,7 @@ harness statistic KIND COUNT SEED
 harness fixed EXAMPLES
 harness verify
 harness compare PROGRAM COUNT SEED
-KIND is search, refused, limits, damaged or any.";
+KIND is search, reacting, refused, limits, damaged or any.";
 
 fn main() {
     let arguments: Vec<String> = std::env::args().skip(1).collect();

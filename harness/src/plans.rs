@@ -3,18 +3,22 @@
 
 use crate::search::{Search, Size};
 use crate::signature::Constructor;
+use crate::topics::TOPICS;
 
-type Plan<'a> = fn(&mut Search<'a>);
+pub type Plan = fn(&mut Search);
 
-impl<'a> Search<'a> {
-    /// A random plan, or none.
-    pub fn any_plan(&mut self) -> Option<Plan<'a>> {
+impl Search<'_> {
+    /// A random plan, or none. Where the signature allows, mostly one of the topics.
+    pub fn any_plan(&mut self) -> Option<Plan> {
+        if self.rich && self.rng.chance(80) {
+            return self.rng.pick(TOPICS).map(|&(topic, _)| topic);
+        }
         match self.rng.below(12) {
             0..=4 => None,
-            5..=6 => Some(Search::plan_ring),
-            7..=8 => Some(Search::plan_tower),
-            9 => Some(Search::plan_testers),
-            _ => Some(Search::plan_web),
+            5..=6 => Some(|search| search.plan_ring()),
+            7..=8 => Some(|search| search.plan_tower()),
+            9 => Some(|search| search.plan_testers()),
+            _ => Some(|search| search.plan_web()),
         }
     }
 
@@ -112,7 +116,8 @@ impl<'a> Search<'a> {
         self.w.term("term", &numbers).expect("well sorted, and room")
     }
 
-    fn determined(&mut self, sort: usize) -> usize {
+    /// A term with a constructor and, below it, no datatype term without one.
+    pub fn determined(&mut self, sort: usize) -> usize {
         if !self.signature.datatype[sort] {
             return self.any_term(sort, 0);
         }
@@ -126,7 +131,7 @@ impl<'a> Search<'a> {
     }
 
     /// Joins two terms, with a registered equation; by a literal or, more seldom, by an interface leaf.
-    fn join(&mut self, t: usize, u: usize) {
+    pub fn join(&mut self, t: usize, u: usize) {
         let sides = if self.rng.chance(50) { [t, u] } else { [u, t] };
         let Some(atom) = self.w.term("eq", &sides) else {
             return;

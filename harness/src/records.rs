@@ -6,16 +6,21 @@ use crate::generate::{self, Kind};
 use crate::limits;
 use crate::rng::Rng;
 use crate::run;
+use crate::search;
+use crate::shortcuts;
 use crate::statistic::{self, Statistic};
+use crate::topics::TOPICS;
 use std::io::Write;
 use std::path::Path;
 
 /// Generated scripts of the fixed list: how many of each kind, and the most bytes of one script.
 const FIXED: &[(Kind, usize, usize)] =
-    &[(Kind::Search, 150, 1_600), (Kind::Refused, 90, 1_600), (Kind::Damaged, 60, 1_600)];
+    &[(Kind::Search, 120, 1_600), (Kind::Reacting, 40, 1_600), (Kind::Refused, 90, 1_600), (Kind::Damaged, 60, 1_600)];
 /// Each of them meets something that fewer scripts of its kind than this met before.
 const SCARCE: usize = 40;
 const SEEDS_PER_KIND: u64 = 10_000;
+/// The most bytes of a script on a topic.
+const MOST_TOPIC_BYTES: usize = 1_600;
 /// Of each family at a limit, the scripts of the first seeds that meet a limit not met before, or the first script.
 const SEEDS_PER_FAMILY: u64 = 40;
 
@@ -40,8 +45,15 @@ pub fn write_fixed(examples: &Path, out: &mut dyn Write) {
     for example in scripts_in(examples) {
         put(&example, out);
     }
+    for script in shortcuts::scripts() {
+        put(&script, out);
+    }
     for family in limits::FAMILIES {
         put_limit_scripts(*family, out);
+    }
+    for &(topic, count) in TOPICS {
+        let scripts = (0..).map(|seed| search::on_topic(&mut Rng::new(seed), topic).script);
+        scripts.filter(|script| script.len() <= MOST_TOPIC_BYTES).take(count).for_each(|script| put(&script, out));
     }
     for &(kind, count, most_bytes) in FIXED {
         put_scripts_of_kind(kind, count, most_bytes, out);
@@ -96,10 +108,15 @@ pub fn verify(mut bytes: &[u8]) -> (usize, usize) {
     while !bytes.is_empty() {
         let (script, length) = first_record(bytes).expect("a whole record");
         count += 1;
-        differing += usize::from(record(script) != bytes[..length]);
+        differing += usize::from(!gives_again(script, &bytes[..length]));
         bytes = &bytes[length..];
     }
     (count, differing)
+}
+
+/// Whether the script gives the record again. A wrong oracle may also break off, which is another answer.
+fn gives_again(script: &[u8], expected: &[u8]) -> bool {
+    std::panic::catch_unwind(|| record(script)).is_ok_and(|again| again == expected)
 }
 
 /// The script of the first record, and the record's length.

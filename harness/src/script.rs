@@ -1,15 +1,39 @@
 //! The lines of a script, and question 3: does a line read?
 
+use std::ops::Deref;
+
 const MOST_NUMBERS: usize = 17;
 const MOST_THEORY: u32 = 65_535;
+
+/// The numbers of a line, held in place: reading a line takes no memory from the heap.
+#[derive(Clone, Copy, Debug, Default)]
+pub struct Numbers {
+    count: usize,
+    list: [u32; MOST_NUMBERS],
+}
+
+impl Numbers {
+    fn of(numbers: &[u32]) -> Numbers {
+        let mut held = Numbers { count: numbers.len(), ..Numbers::default() };
+        held.list[..numbers.len()].copy_from_slice(numbers);
+        held
+    }
+}
+
+impl Deref for Numbers {
+    type Target = [u32];
+    fn deref(&self) -> &[u32] {
+        &self.list[..self.count]
+    }
+}
 
 #[derive(Clone, Debug)]
 pub enum Line {
     Sort { datatype: bool },
-    Ctor { sort: u32, fields: Vec<u32> },
-    Fun { result: u32, arguments: Vec<u32> },
+    Ctor { sort: u32, fields: Numbers },
+    Fun { result: u32, arguments: Numbers },
     Close,
-    Term { symbol: u32, arguments: Vec<u32> },
+    Term { symbol: u32, arguments: Numbers },
     Eq(u32, u32),
     Var { variable: u32, atom: u32 },
     Equate(u32),
@@ -33,11 +57,11 @@ pub fn read(line: &[u8]) -> Option<Line> {
         return read_sort(value);
     }
     let numbers = read_numbers(value)?;
-    match (key, numbers.as_slice()) {
-        (b"ctor", [sort, fields @ ..]) => Some(Line::Ctor { sort: *sort, fields: fields.to_vec() }),
-        (b"fun", [result, arguments @ ..]) => Some(Line::Fun { result: *result, arguments: arguments.to_vec() }),
+    match (key, &*numbers) {
+        (b"ctor", [sort, fields @ ..]) => Some(Line::Ctor { sort: *sort, fields: Numbers::of(fields) }),
+        (b"fun", [result, arguments @ ..]) => Some(Line::Fun { result: *result, arguments: Numbers::of(arguments) }),
         (b"close", [1]) => Some(Line::Close),
-        (b"term", [symbol, arguments @ ..]) => Some(Line::Term { symbol: *symbol, arguments: arguments.to_vec() }),
+        (b"term", [symbol, arguments @ ..]) => Some(Line::Term { symbol: *symbol, arguments: Numbers::of(arguments) }),
         (b"eq", &[t, u]) => Some(Line::Eq(t, u)),
         (b"var", &[variable, atom]) => Some(Line::Var { variable, atom }),
         (b"equate", &[literal]) => Some(Line::Equate(literal)),
@@ -61,15 +85,24 @@ fn read_sort(value: &[u8]) -> Option<Line> {
     }
 }
 
-fn read_numbers(value: &[u8]) -> Option<Vec<u32>> {
-    let numbers = value.split(|&byte| byte == b',').map(read_number).collect::<Option<Vec<u32>>>()?;
-    (numbers.len() <= MOST_NUMBERS).then_some(numbers)
+fn read_numbers(value: &[u8]) -> Option<Numbers> {
+    let mut numbers = Numbers::default();
+    for digits in value.split(|&byte| byte == b',') {
+        *numbers.list.get_mut(numbers.count)? = read_number(digits)?;
+        numbers.count += 1;
+    }
+    Some(numbers)
 }
 
 fn read_number(digits: &[u8]) -> Option<u32> {
     let leading_zero = digits.len() > 1 && digits[0] == b'0';
-    if digits.is_empty() || leading_zero || !digits.iter().all(u8::is_ascii_digit) {
+    if digits.is_empty() || leading_zero {
         return None;
     }
-    std::str::from_utf8(digits).ok()?.parse().ok()
+    digits.iter().try_fold(0u32, |number, &digit| {
+        if !digit.is_ascii_digit() {
+            return None;
+        }
+        number.checked_mul(10)?.checked_add(u32::from(digit - b'0'))
+    })
 }

@@ -1,6 +1,7 @@
 //! Scripts like those of a search core: it declares, builds terms, registers atoms, decides, closes under congruence,
 //! checks, follows the lemmas it is handed and goes back after conflicts. Unless asked for, no line is refused.
 
+use crate::plans::Plan;
 use crate::rng::Rng;
 use crate::run::{MOST_OUTPUT, MOST_SCRIPT};
 use crate::session::{Answer, MOST_LEVELS, MOST_PLACES, MOST_TERMS, MOST_VARIABLES};
@@ -23,9 +24,13 @@ pub struct Search<'a> {
     pub size: Size,
     /// How many of a hundred steps follow a refused line.
     refused_percent: usize,
+    /// Whether the signature has what the topics build with.
+    pub rich: bool,
+    /// How many interface leaves were made of their own.
+    pub tags: usize,
     /// Each registered variable with its atom.
     pub variables: Vec<(usize, usize)>,
-    first_variable: HashMap<usize, usize>,
+    pub first_variable: HashMap<usize, usize>,
 }
 
 pub fn search(rng: &mut Rng, size: Size, refused_percent: usize) -> Writer {
@@ -34,17 +39,34 @@ pub fn search(rng: &mut Rng, size: Size, refused_percent: usize) -> Writer {
     search.w
 }
 
+/// A small script on one topic, with a few random steps after it.
+pub fn on_topic(rng: &mut Rng, topic: Plan) -> Writer {
+    let mut search = Search::over(rng, Size::Small, 0, true);
+    topic(&mut search);
+    for _ in 0..search.rng.below(4) {
+        search.step_over_known_terms();
+    }
+    search.w
+}
+
 impl<'a> Search<'a> {
     pub fn start(rng: &'a mut Rng, size: Size, refused_percent: usize) -> Search<'a> {
+        let rich = rng.chance(60);
+        Search::over(rng, size, refused_percent, rich)
+    }
+
+    fn over(rng: &'a mut Rng, size: Size, refused_percent: usize, rich: bool) -> Search<'a> {
         let (datatypes, others, constants, functions) = match size {
+            Size::Small if rich => (1, rng.below(2), 4, 0),
             Size::Small => (rng.between(1, 2), rng.below(2), 2, 2),
             Size::Middle => (rng.between(1, 3), rng.below(3), 4, 4),
             Size::Large => (rng.between(2, 6), rng.below(4), 6, 8),
         };
-        let shape = Shape { datatypes, others, constants, functions, refused_percent };
+        let shape = Shape { datatypes, others, constants, functions, refused_percent, rich };
         let mut w = Writer::new();
         let signature = Signature::declare(rng, &mut w, &shape);
-        Search { rng, w, signature, size, refused_percent, variables: Vec::new(), first_variable: HashMap::new() }
+        let (variables, first_variable) = (Vec::new(), HashMap::new());
+        Search { rng, w, signature, size, refused_percent, rich, tags: 0, variables, first_variable }
     }
 
     fn fill(&mut self) {
@@ -73,7 +95,7 @@ impl<'a> Search<'a> {
     }
 
     /// Keeps away from every limit, so that no line is refused and the run does not end early.
-    fn room(&self) -> bool {
+    pub fn room(&self) -> bool {
         self.w.session.term_count() + 300 < MOST_TERMS
             && self.w.session.places() + 1_200 < MOST_PLACES
             && self.w.script.len() + 4_096 < MOST_SCRIPT

@@ -2,12 +2,15 @@
 //! equality from `EqualityEngine`, terms from `Context`.
 
 use crate::script::{self, Line};
+use rustc_hash::FxHasher;
 use shinri_core::{BuiltinOp, Context, DtRole, Lit, Op, SortId, SymbolId, TermId, TermNode, TheoryJust, Var};
 use shinri_dt::DtSolver;
 use shinri_sat::Effort;
-use shinri_theory::types::{EqJust, EqLeaf, Owner};
+use shinri_theory::types::{EqJust, EqLeaf, MergeEvent, Owner};
 use shinri_theory::{AtomRegistry, ENodeId, EqualityEngine, TCheck, TheoryCtx, TheorySolver};
+use std::collections::HashSet;
 use std::fmt;
+use std::hash::BuildHasherDefault;
 
 pub const MOST_SORTS: usize = 64;
 pub const MOST_SYMBOLS: usize = 512;
@@ -28,7 +31,7 @@ pub enum Answer {
     Refused(u32),
 }
 
-#[derive(Clone, Copy, PartialEq, Eq, Debug)]
+#[derive(Clone, Copy, PartialEq, Eq, Hash, Debug)]
 pub enum Leaf {
     Literal(u32),
     Interface { theory: u16, tag: u32 },
@@ -51,8 +54,14 @@ pub struct Session {
     pairs: usize,
     /// The pairs in force when each open level began.
     pairs_before: Vec<usize>,
-    /// The accepted lines, to build the session again after a refused check.
-    accepted: Vec<Line>,
+    /// The accepted lines, each with an LF, to build the session again after a refused check.
+    accepted: Vec<u8>,
+    /// A copy of the table, asked for terms when there is no room, with the count of terms that it was made of.
+    copy: Option<(usize, Context)>,
+    /// Lists that are filled anew for a line, kept for their room: arguments, argument pairs, merge events.
+    arguments: Vec<TermId>,
+    argument_pairs: Vec<(ENodeId, ENodeId)>,
+    events: Vec<MergeEvent>,
 }
 
 impl Session {
@@ -63,12 +72,13 @@ impl Session {
     }
 
     pub fn answer(&mut self, line: &[u8]) -> Answer {
-        let Some(line) = script::read(line) else {
+        let Some(read) = script::read(line) else {
             return Answer::Refused(3);
         };
-        match self.obey(&line) {
+        match self.obey(&read) {
             Ok(answer) => {
-                self.accepted.push(line);
+                self.accepted.extend_from_slice(line);
+                self.accepted.push(b'\n');
                 answer
             }
             Err(question) => Answer::Refused(question),
@@ -207,8 +217,14 @@ impl Session {
 
     fn make_application(&mut self, symbol: u32, arguments: &[u32]) -> Result<Answer, Refusal> {
         let symbol = *self.symbols.get(symbol as usize).ok_or(5u32)?;
-        let arguments = arguments.iter().map(|&t| self.term(t)).collect::<Result<Vec<_>, _>>()?;
-        self.make(Op::Uninterpreted(symbol), &arguments)
+        let mut terms = std::mem::take(&mut self.arguments);
+        terms.clear();
+        for &t in arguments {
+            terms.push(self.term(t)?);
+        }
+        let answer = self.make(Op::Uninterpreted(symbol), &terms);
+        self.arguments = terms;
+        answer
     }
 
     fn make_equation(&mut self, t: u32, u: u32) -> Result<Answer, Refusal> {
@@ -220,13 +236,22 @@ impl Session {
     fn make(&mut self, op: Op, arguments: &[TermId]) -> Result<Answer, Refusal> {
         let room = self.term_count < MOST_TERMS && self.places + arguments.len() <= MOST_PLACES;
         if !room {
-            // Only an existing term may be named now; the clone tells whether it exists and leaves the table alone.
-            let t = self.terms.clone().mk_app(op, arguments).map_err(|_| 6u32)?;
+            // Only an existing term may be named now; a copy tells whether it exists and leaves the table alone.
+            let t = self.copy_of_terms().mk_app(op, arguments).map_err(|_| 6u32)?;
             ensure(t.index() < self.term_count, 11)?;
         }
         let t = self.terms.mk_app(op, arguments).map_err(|_| 6u32)?;
         self.count_new_terms();
         Ok(Answer::Term(t.index()))
+    }
+
+    /// A copy of the table, made anew when terms were added; terms made in it meanwhile have numbers from the count on.
+    fn copy_of_terms(&mut self) -> &mut Context {
+        let outdated = !matches!(&self.copy, Some((count, _)) if *count == self.term_count);
+        if outdated {
+            self.copy = Some((self.term_count, self.terms.clone()));
+        }
+        &mut self.copy.as_mut().expect("made above").1
     }
 
     /// Counts the terms made since the last count, and their argument places. The published argument arena also
@@ -254,26 +279,41 @@ impl Session {
         let literal = self.literal(literal)?;
         let atom = self.atoms.atom(literal.var());
         ensure(literal.is_positive() && self.operation(atom) == Op::Builtin(BuiltinOp::Eq), 8)?;
-        let sides = self.arguments(atom).to_vec();
-        self.merge(sides[0], sides[1], EqJust::Asserted(literal));
+        let (t, u) = (self.arguments(atom)[0], self.arguments(atom)[1]);
+        self.merge(t, u, EqJust::Asserted(literal));
         Ok(Answer::Ok)
     }
 
     fn join_congruent(&mut self, t: u32, u: u32) -> Result<Answer, Refusal> {
         let (t, u) = (self.term(t)?, self.term(u)?);
         ensure(self.operation(t) == self.operation(u), 9)?;
-        let (left, right) = (self.nodes_of_arguments(t), self.nodes_of_arguments(u));
-        let pairs: Vec<(ENodeId, ENodeId)> = left.into_iter().zip(right).collect();
-        ensure(pairs.iter().all(|&(a, b)| self.eq.are_equal(a, b)), 9)?;
+        self.pair_arguments(t, u);
+        ensure(self.argument_pairs.iter().all(|&(a, b)| self.eq.are_equal(a, b)), 9)?;
         let (a, b) = (self.eq.intern(t), self.eq.intern(u));
         // The published engine keeps the pairs of a merge that joins nothing too; here they take no room.
         if !self.eq.are_equal(a, b) {
-            ensure(self.pairs + pairs.len() <= MOST_PAIRS, 11)?;
-            self.pairs += pairs.len();
-            self.eq.merge_congruence(a, b, &pairs).expect("no disequalities");
-            self.eq.drain_merges(&mut Vec::new());
+            let pairs = self.pairs + self.argument_pairs.len();
+            ensure(pairs <= MOST_PAIRS, 11)?;
+            self.pairs = pairs;
+            self.eq.merge_congruence(a, b, &self.argument_pairs).expect("no disequalities");
+            self.take_events();
         }
         Ok(Answer::Ok)
+    }
+
+    /// The argument pairs of two applications of one operation.
+    fn pair_arguments(&mut self, t: TermId, u: TermId) {
+        self.argument_pairs.clear();
+        let (left, right) = (arguments(&self.terms, t), arguments(&self.terms, u));
+        for (&a, &b) in left.iter().zip(right) {
+            self.argument_pairs.push((self.eq.intern(a), self.eq.intern(b)));
+        }
+    }
+
+    /// The published `pop` asserts that the merge events were taken.
+    fn take_events(&mut self) {
+        self.eq.drain_merges(&mut self.events);
+        self.events.clear();
     }
 
     fn join_by_interface(&mut self, sides: (u32, u32), leaf: TheoryJust) -> Result<Answer, Refusal> {
@@ -286,8 +326,7 @@ impl Session {
     fn merge(&mut self, t: TermId, u: TermId, label: EqJust) {
         let (a, b) = (self.eq.intern(t), self.eq.intern(u));
         self.eq.merge(a, b, label).expect("no disequalities");
-        // The published `pop` asserts that the merge events were taken.
-        self.eq.drain_merges(&mut Vec::new());
+        self.take_events();
     }
 
     fn assert(&mut self, literal: u32) -> Result<Answer, Refusal> {
@@ -335,8 +374,9 @@ impl Session {
     fn rebuild(&mut self) {
         let accepted = std::mem::take(&mut self.accepted);
         *self = Session::new();
-        for line in &accepted {
-            self.obey(line).expect("accepted before");
+        for line in script::lines(&accepted) {
+            let line = script::read(line).expect("accepted before");
+            self.obey(&line).expect("accepted before");
         }
         self.accepted = accepted;
     }
@@ -380,15 +420,14 @@ impl Session {
     }
 
     fn arguments(&self, t: TermId) -> &[TermId] {
-        match self.terms.term_node(t) {
-            TermNode::App { args, .. } => self.terms.children(*args),
-            TermNode::Const { .. } => unreachable!("a script has no constants"),
-        }
+        arguments(&self.terms, t)
     }
+}
 
-    fn nodes_of_arguments(&mut self, t: TermId) -> Vec<ENodeId> {
-        let arguments = self.arguments(t).to_vec();
-        arguments.into_iter().map(|argument| self.eq.intern(argument)).collect()
+fn arguments(terms: &Context, t: TermId) -> &[TermId] {
+    match terms.term_node(t) {
+        TermNode::App { args, .. } => terms.children(*args),
+        TermNode::Const { .. } => unreachable!("a script has no constants"),
     }
 }
 
@@ -414,46 +453,96 @@ fn check_answer(result: TCheck) -> Answer {
 }
 
 fn first_occurrences(leaves: &[EqLeaf]) -> Vec<Leaf> {
-    let mut kept = Vec::new();
+    let mut met: HashSet<Leaf, BuildHasherDefault<FxHasher>> = HashSet::default();
+    met.reserve(leaves.len());
+    let mut kept = Vec::with_capacity(leaves.len());
     for leaf in leaves {
         let leaf = match leaf {
             EqLeaf::Asserted(literal) => Leaf::Literal(literal.code()),
             EqLeaf::Interface(just) => Leaf::Interface { theory: just.theory, tag: just.tag },
         };
-        if !kept.contains(&leaf) {
+        if met.insert(leaf) {
             kept.push(leaf);
         }
     }
     kept
 }
 
-impl fmt::Display for Leaf {
-    fn fmt(&self, f: &mut fmt::Formatter<'_>) -> fmt::Result {
+impl Answer {
+    /// Appends the answer's text, without its LF.
+    pub fn write(&self, out: &mut Vec<u8>) {
         match self {
-            Leaf::Literal(code) => write!(f, "a{code}"),
-            Leaf::Interface { theory, tag } => write!(f, "i{theory}.{tag}"),
+            Answer::Ok => out.extend_from_slice(b"ok=1"),
+            Answer::Term(number) => {
+                out.extend_from_slice(b"term=");
+                write_number(*number, out);
+            }
+            Answer::Conflict(leaves) => {
+                out.extend_from_slice(b"conflict=");
+                write_list(leaves, out, |leaf, out| leaf.write(out));
+            }
+            Answer::Split { atoms, guards, phases } => {
+                out.extend_from_slice(b"split=");
+                write_list(atoms, out, |&atom, out| write_number(atom, out));
+                out.push(b';');
+                write_list(guards, out, |&guard, out| write_number(guard as usize, out));
+                out.push(b';');
+                write_list(phases, out, |&phase, out| out.push(if phase == Some(true) { b'1' } else { b'-' }));
+            }
+            Answer::Sat => out.extend_from_slice(b"sat=1"),
+            Answer::Unknown => out.extend_from_slice(b"unknown=1"),
+            Answer::Refused(question) => {
+                out.extend_from_slice(b"refused=");
+                write_number(*question as usize, out);
+            }
         }
     }
+}
+
+impl Leaf {
+    fn write(&self, out: &mut Vec<u8>) {
+        match self {
+            Leaf::Literal(code) => {
+                out.push(b'a');
+                write_number(*code as usize, out);
+            }
+            Leaf::Interface { theory, tag } => {
+                out.push(b'i');
+                write_number(usize::from(*theory), out);
+                out.push(b'.');
+                write_number(*tag as usize, out);
+            }
+        }
+    }
+}
+
+/// The items parted by commas.
+fn write_list<T>(items: &[T], out: &mut Vec<u8>, write: impl Fn(&T, &mut Vec<u8>)) {
+    for (place, item) in items.iter().enumerate() {
+        if place > 0 {
+            out.push(b',');
+        }
+        write(item, out);
+    }
+}
+
+fn write_number(number: usize, out: &mut Vec<u8>) {
+    let start = out.len();
+    let mut rest = number;
+    loop {
+        out.push(b'0' + (rest % 10) as u8);
+        rest /= 10;
+        if rest == 0 {
+            break;
+        }
+    }
+    out[start..].reverse();
 }
 
 impl fmt::Display for Answer {
     fn fmt(&self, f: &mut fmt::Formatter<'_>) -> fmt::Result {
-        match self {
-            Answer::Ok => write!(f, "ok=1"),
-            Answer::Term(number) => write!(f, "term={number}"),
-            Answer::Conflict(leaves) => write!(f, "conflict={}", comma_list(leaves)),
-            Answer::Split { atoms, guards, phases } => {
-                let phases: Vec<&str> =
-                    phases.iter().map(|phase| if *phase == Some(true) { "1" } else { "-" }).collect();
-                write!(f, "split={};{};{}", comma_list(atoms), comma_list(guards), phases.join(","))
-            }
-            Answer::Sat => write!(f, "sat=1"),
-            Answer::Unknown => write!(f, "unknown=1"),
-            Answer::Refused(question) => write!(f, "refused={question}"),
-        }
+        let mut text = Vec::new();
+        self.write(&mut text);
+        f.write_str(std::str::from_utf8(&text).expect("an answer is ASCII"))
     }
-}
-
-fn comma_list<T: fmt::Display>(items: &[T]) -> String {
-    items.iter().map(T::to_string).collect::<Vec<_>>().join(",")
 }

@@ -9,6 +9,7 @@ pub struct Symbol {
     pub result: usize,
 }
 
+#[derive(Clone)]
 pub struct Constructor {
     pub symbol: usize,
     pub sort: usize,
@@ -37,6 +38,9 @@ pub struct Shape {
     pub functions: usize,
     /// How many of a hundred declarations follow a refused line.
     pub refused_percent: usize,
+    /// Whether each datatype has what the topics build with: a constructor without fields, one with one field of the
+    /// datatype's own sort and one with two, constants, a predicate and functions of several places.
+    pub rich: bool,
 }
 
 impl Signature {
@@ -45,7 +49,7 @@ impl Signature {
         let mut signature = Signature { datatype: vec![false], ..Signature::default() };
         signature.declare_sorts(rng, w, shape);
         for sort in signature.datatypes() {
-            signature.declare_constructors(rng, w, sort, shape.refused_percent);
+            signature.declare_constructors(rng, w, sort, shape);
         }
         signature.declare_functions(rng, w, shape);
         w.line("close=1");
@@ -95,8 +99,9 @@ impl Signature {
         }
     }
 
-    fn declare_constructors(&mut self, rng: &mut Rng, w: &mut Writer, sort: usize, refused_percent: usize) {
+    fn declare_constructors(&mut self, rng: &mut Rng, w: &mut Writer, sort: usize, shape: &Shape) {
         let mut field_lists = match rng.below(5) {
+            _ if shape.rich => self.rich_field_lists(rng, sort),
             0 => vec![Vec::new(); rng.between(1, 6)],
             1 => vec![self.fields(rng, 1, 4, 0)],
             2 => vec![Vec::new(), self.recursive_fields(rng, sort, 1)],
@@ -109,11 +114,23 @@ impl Signature {
         }
         rng.shuffle(&mut field_lists);
         for fields in field_lists {
-            if rng.chance(refused_percent) {
+            if rng.chance(shape.refused_percent) {
                 offence::among_declarations(rng, w, self);
             }
             self.declare_constructor(w, sort, fields);
         }
+    }
+
+    fn rich_field_lists(&self, rng: &mut Rng, sort: usize) -> Vec<Vec<usize>> {
+        let mut lists = vec![Vec::new()];
+        lists.extend([1, 2].map(|recursive| self.recursive_fields(rng, sort, recursive)));
+        match rng.below(4) {
+            0 => lists.push(Vec::new()),
+            1 => lists.push(self.recursive_fields(rng, sort, 2)),
+            2 => lists.push(self.fields(rng, 1, 2, 0)),
+            _ => {}
+        }
+        lists
     }
 
     pub fn declare_constructor(&mut self, w: &mut Writer, sort: usize, fields: Vec<usize>) {
@@ -148,10 +165,15 @@ impl Signature {
     fn declare_functions(&mut self, rng: &mut Rng, w: &mut Writer, shape: &Shape) {
         let mut functions = Vec::new();
         for sort in 0..self.datatype.len() {
-            functions.extend(vec![vec![sort]; rng.between(1, shape.constants.max(1))]);
+            let most = shape.constants.max(1);
+            let least = if shape.rich && self.datatype[sort] { most } else { 1 };
+            functions.extend(vec![vec![sort]; rng.between(least, most)]);
         }
         for sort in self.datatypes() {
             functions.push(vec![sort, sort]);
+            if shape.rich {
+                functions.extend([vec![0, sort, sort], vec![sort; 3], vec![sort; 4]]);
+            }
         }
         for _ in 0..rng.below(shape.functions + 1) {
             let most = if rng.chance(3) { 16 } else { 3 };

@@ -10,6 +10,8 @@ use shinri_theory::types::{EqJust, EqLeaf};
 use shinri_theory::EqualityEngine;
 use std::collections::{BTreeMap, BTreeSet};
 
+mod details;
+
 /// How often each thing was met, and in how many scripts.
 #[derive(Default)]
 pub struct Statistic {
@@ -50,6 +52,16 @@ impl Statistic {
         }
     }
 
+    /// Adds what was met by other scripts.
+    pub fn join(&mut self, other: Statistic) {
+        self.scripts += other.scripts;
+        for (name, met) in other.met {
+            let count = self.met.entry(name).or_default();
+            count.times += met.times;
+            count.scripts += met.scripts;
+        }
+    }
+
     pub fn scripts_meeting(&self, name: &str) -> usize {
         self.met.get(name).map_or(0, |count| count.scripts)
     }
@@ -75,6 +87,19 @@ struct Watcher {
     constructors: BTreeSet<usize>,
     watched: BTreeSet<usize>,
     went_back: bool,
+    /// The first variable of each registered atom.
+    first_variable: BTreeMap<usize, u32>,
+    /// Testers asserted so far, and atoms that collapse has handed out.
+    asserted: BTreeSet<usize>,
+    collapsed: BTreeSet<usize>,
+    /// Whether the explanation just followed goes through a pair after the first of a congruence.
+    later_pair: bool,
+}
+
+/// The edges of a ring, from field to application, and whether the walk that found it started on it.
+struct Ring {
+    edges: Vec<(usize, usize)>,
+    from_start: bool,
 }
 
 /// One step of the walk that looks for a ring: a class, its application, and the field that led there.
@@ -91,7 +116,10 @@ impl Watcher {
         }
         self.count(format!("answer {}", key(answer.to_string().as_bytes())));
         match script::read(line).expect("an accepted line reads") {
-            Line::Var { atom, .. } => self.collect(session, atom as usize),
+            Line::Var { variable, atom } => {
+                self.first_variable.entry(atom as usize).or_insert(variable);
+                self.collect(session, atom as usize);
+            }
             Line::Equate(literal) => {
                 let sides = session.arguments_of(session.atom_of(literal / 2));
                 self.join(sides[0], sides[1], Vec::new());
@@ -103,7 +131,7 @@ impl Watcher {
             Line::Iface { sides, .. } => self.join(sides.0 as usize, sides.1 as usize, Vec::new()),
             Line::Push => self.labels.push(),
             Line::Pop(level) => self.go_back(level as usize),
-            Line::Assert(_) => self.see_assert(session, answer),
+            Line::Assert(literal) => self.see_assert(session, literal, answer),
             Line::Check { full: true } => self.see_check(session, answer),
             _ => {}
         }
@@ -164,7 +192,10 @@ impl Watcher {
         }
     }
 
-    fn see_assert(&mut self, session: &Session, answer: &Answer) {
+    fn see_assert(&mut self, session: &Session, literal: u32, answer: &Answer) {
+        if literal % 2 == 0 {
+            self.asserted.insert(session.atom_of(literal / 2));
+        }
         if let Answer::Conflict(leaves) = answer {
             self.count("rule assert conflict");
             self.see_conflict(leaves);
@@ -173,6 +204,9 @@ impl Watcher {
     }
 
     fn see_check(&mut self, session: &mut Session, answer: &Answer) {
+        if !matches!(answer, Answer::Conflict(_)) {
+            self.see_past_clashes(session, answer);
+        }
         match answer {
             Answer::Conflict(leaves) => self.see_check_conflict(session, leaves),
             Answer::Split { atoms, guards, phases } => {
@@ -182,6 +216,7 @@ impl Watcher {
                 } else if !phases.is_empty() {
                     "exhaustiveness"
                 } else if session.symbol_of(atoms[0]).is_none() {
+                    self.see_collapse(session, atoms[0]);
                     "collapse"
                 } else {
                     "tester lemma"
@@ -210,19 +245,22 @@ impl Watcher {
         self.see_conflict(leaves);
         if cites_tester(session, leaves) {
             self.count("rule tester clash");
+            self.see_tester_clash(session, leaves);
             return self.see_tester(session, leaves);
         }
         if let Some((p, q)) = self.clash(session) {
             self.count("rule constructor clash");
+            self.see_clashing_classes(session);
             return self.see_depth(&[(p, q)]);
         }
         self.count("rule ring");
-        let edges = self.ring(session).expect("a conflict that is no clash is a ring");
-        self.count(match edges.len() {
+        let ring = self.ring(session).expect("a conflict that is no clash is a ring");
+        self.count(match ring.edges.len() {
             length @ 1..=4 => format!("ring of length {length}"),
             _ => "ring of length 5 or more".into(),
         });
-        self.see_depth(&edges);
+        self.see_ring(session, &ring);
+        self.see_depth(&ring.edges);
     }
 
     /// The depth of a tester's conflict: from the tester's term to its class's lowest application.
@@ -254,8 +292,8 @@ impl Watcher {
         None
     }
 
-    /// The edges, from field to application, of the first ring.
-    fn ring(&mut self, session: &Session) -> Option<Vec<(usize, usize)>> {
+    /// The first ring.
+    fn ring(&mut self, session: &Session) -> Option<Ring> {
         let mut done = BTreeSet::new();
         let watched: Vec<usize> = self.watched.iter().copied().collect();
         watched.into_iter().find_map(|t| self.ring_from(session, t, &mut Vec::new(), &mut done))
@@ -267,12 +305,12 @@ impl Watcher {
         via: usize,
         path: &mut Vec<Step>,
         done: &mut BTreeSet<usize>,
-    ) -> Option<Vec<(usize, usize)>> {
+    ) -> Option<Ring> {
         let class = self.class(via);
         if let Some(entry) = path.iter().position(|step| step.class == class) {
             let closing = (via, path[entry].application);
             let others = path[entry + 1..].iter().map(|step| (step.via, step.application));
-            return Some(std::iter::once(closing).chain(others).collect());
+            return Some(Ring { edges: std::iter::once(closing).chain(others).collect(), from_start: entry == 0 });
         }
         if done.contains(&class) {
             return None;
@@ -293,11 +331,15 @@ impl Watcher {
 
     fn see_depth(&mut self, pairs: &[(usize, usize)]) {
         let mut seen = BTreeSet::new();
+        self.later_pair = false;
         let depth = pairs.iter().map(|&(t, u)| self.depth(t, u, &mut seen)).max().unwrap_or(0);
         match depth {
             0 => {}
             1 => self.count("conflict through a congruence"),
             _ => self.count("conflict through nested congruences"),
+        }
+        if self.later_pair {
+            self.count("conflict through a later pair of a congruence");
         }
     }
 
@@ -314,7 +356,8 @@ impl Watcher {
             let EqLeaf::Interface(TheoryJust { tag, .. }) = leaf else {
                 continue;
             };
-            for (s, r) in self.reasons[tag as usize].clone() {
+            for (place, (s, r)) in self.reasons[tag as usize].clone().into_iter().enumerate() {
+                self.later_pair |= place > 0 && s != r;
                 depth = depth.max(1 + self.depth(s, r, seen));
             }
         }

@@ -1,0 +1,25 @@
+//! The published solver behind the questions of the scope document 01, and scripts for it.
+
+mod building;
+mod clash_topics;
+pub mod compare;
+mod congruence_topics;
+mod damage;
+pub mod generate;
+mod limits;
+mod mark_topics;
+mod offence;
+mod plans;
+mod reacting;
+pub mod records;
+mod ring_topics;
+pub mod rng;
+pub mod run;
+pub mod script;
+mod search;
+pub mod session;
+mod shortcuts;
+mod signature;
+pub mod statistic;
+mod topics;
+pub mod writer;
