@@ -1,11 +1,13 @@
 -- Lemmas about the lent tables. TableStores, WorkStores, SplitStores, RingStores: the laws of stores at each table; Flags: sets of terms
--- as flags; Frames: what stores in some regions leave; Roles: the kind of a term's mark, and the applications of the definition.
+-- as flags; Frames: what stores in some regions leave; Announcing: a mark and its block; Roles: the kind of a term's mark, and the
+-- applications of the definition.
 pub mod TableStores
 pub mod WorkStores
 pub mod SplitStores
 pub mod RingStores
 pub mod Flags
 pub mod Frames
+pub mod Announcing
 pub mod Roles
 -- Registering: an empty table, the registry; Collecting: collection; Entries: the entries of the level record; Recording: one more;
 -- Levels: push and pop.
@@ -14,10 +16,12 @@ pub mod Collecting
 pub mod Entries
 pub mod Recording
 pub mod Levels
--- Working: the work table of a check; Beginning: a check begins; AppNumbers: the marked applications by their numbers.
+-- Working: the work table of a check; Beginning: a check begins; AppNumbers: the marked applications by their numbers;
+-- MarksOnly: the solver's marks without a work table.
 pub mod Working
 pub mod Beginning
 pub mod AppNumbers
+pub mod MarksOnly
 -- Growing: what a table that grows at its end keeps; Unfitting: what does not fit does not fit later; Minting: terms made and marked,
 -- lemmas handed out; Splits: the answer table of a split; Trying: a rule that is tried for each of a list.
 pub mod Growing
@@ -26,7 +30,8 @@ pub mod Minting
 pub mod Splits
 pub mod Trying
 -- The rules. ConstructorClash, Clashing: the two clashes; Asserting: assert; Selected, Injecting: injectivity; Chains, Collapsing,
--- TesterLemmas, Once, TestsOnce: collapse and the tester lemma; Instantiating: guarded instantiation; Splitting: exhaustiveness and unknown.
+-- TesterLemmas, Once, TestsOnce: collapse and the tester lemma; Instantiating: guarded instantiation; Splitting: exhaustiveness and
+-- unknown.
 pub mod ConstructorClash
 pub mod Clashing
 pub mod Asserting
@@ -46,5 +51,6 @@ pub mod Rings
 pub mod RingSteps
 pub mod RingWalks
 pub mod RingLeaves
--- Checking: a whole check.
+-- Checking: a whole check; Watching: one where no constructor application is marked and no tester was asserted.
 pub mod Checking
+pub mod Watching

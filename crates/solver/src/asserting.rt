@@ -1,12 +1,10 @@
 // Asserting a literal (DtSolver::assert).
 use crate::answer::TCheck;
-use crate::clashes::tester_conflict;
+use crate::clashes::assert_conflict;
 use crate::layout::TESTER_APP;
 use crate::levels::record_tester;
 use crate::records::atom;
 use crate::roles::term_kind;
-use crate::work::WORK_SIZE;
-use crate::work::begin;
 use core::ids::Lit;
 use core::ids::TermId;
 ghost use Rattle.solver.specs.Memory.Asserting.{TesterAssertable, AssertsTester, Assertable, Asserts};
@@ -16,9 +14,7 @@ fn assert_tester(t: &[u32], e: &[u32], s: &mut [u32], l: Lit, x: TermId, out: &m
     requires { ⌜ TesterAssertable (now t) (now e) (now s) (x .0) (now out) ⌝ }
     ensures { λ r. ⌜ AssertsTester (now (t .entry)) (now (e .entry)) (now (s .entry)) (l .0) (x .0) r (now (s .exit)) (now (out .exit)) ⌝ }
 {
-    let mut w = [0u32; WORK_SIZE];
-    begin(t, e, s, &mut w);
-    let r = tester_conflict(t, e, &w, l, x, out);
+    let r = assert_conflict(t, e, s, l, x, out);
     record_tester(s, x, l);
     r
 }

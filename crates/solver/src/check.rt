@@ -5,27 +5,29 @@ use crate::collapse::collapse_lemma;
 use crate::collapse::tester_lemma;
 use crate::constructor_clash::constructor_clash;
 use crate::exhaustiveness::exhaustiveness_split;
+use crate::exhaustiveness::split_watched;
 use crate::injectivity::instantiate_injectivity_selectors;
 use crate::instantiation::instantiate_constructor;
-use crate::layout::MARK;
+use crate::records::has_app;
+use crate::records::has_lasting;
+use crate::records::put_mark;
 use crate::ring::ring;
 use crate::work::W_MARK;
 use crate::work::WORK_SIZE;
 use crate::work::begin;
 use core::context::term_count;
 use core::context::truncate;
-use core::limits::MAX_TERMS;
 use core::table::get_at;
-use core::table::put_at;
 ghost use mathlib.Core.Path.{_≡_};
 ghost use Prim.Native.Nat.{_≤_};
 ghost use lib.ListN.{length};
+ghost use Rattle.core.specs.Memory.Table.{context, ContextSound};
 ghost use Rattle.theory.specs.Memory.Answer.{answer-size};
 ghost use Rattle.solver.specs.Check.{before-ring};
 ghost use Rattle.solver.specs.Memory.Table.{StateSound};
 ghost use Rattle.solver.specs.Memory.Work.{CheckSound};
 ghost use Rattle.solver.specs.Memory.Answer.{Tried};
-ghost use Rattle.solver.specs.Memory.Checks.{passes, has-room, from-instantiation, from-tester-lemma, from-collapse, from-injectivity, from-tester-clash, Underway, Beginnable, ChecksFully, MarksFit, KeepsMarks, Checks};
+ghost use Rattle.solver.specs.Memory.Checks.{passes, has-room, from-instantiation, from-tester-lemma, from-collapse, from-injectivity, from-tester-clash, Underway, Beginnable, ChecksFully, MarksFit, KeepsMarks, ChecksKept, Checks};
 
 // Does a rule pass on to the next?
 fn passes(r: TCheck) -> bool
@@ -173,16 +175,41 @@ fn full_check(t: &mut [u32], e: &[u32], s: &mut [u32], w: &mut [u32], out: &mut 
     ring(t, e, w, out)
 }
 
-// The marks of the work table become the solver's.
-fn keep_marks(s: &mut [u32], w: &[u32])
-    requires { ⌜ MarksFit (now s) (now w) ⌝ }
-    ensures { λ _. ⌜ KeepsMarks (now (s .entry)) (now (w .entry)) (now (s .exit)) ⌝ }
+// The marks of the work table become the solver's. Behind the last term neither has any.
+fn keep_marks(t: &[u32], s: &mut [u32], w: &[u32])
+    requires { ⌜ ContextSound (now t) × MarksFit (now s) (now w) ⌝ }
+    ensures { λ _. ⌜ KeepsMarks (length (context (now (t .entry)) .terms)) (now (s .entry)) (now (w .entry)) (now (s .exit)) ⌝ }
 {
+    let n = term_count(t);
     let mut x = 0;
-    while x < MAX_TERMS {
-        put_at(s, MARK, x, get_at(w, W_MARK, x));
+    while x < n {
+        put_mark(s, x, get_at(w, W_MARK, x));
         x += 1;
     }
+}
+
+// A full check with a work table; its marks are kept if its terms fit.
+fn check_classes(t: &mut [u32], e: &[u32], s: &mut [u32], out: &mut [u32]) -> TCheck
+    requires { ⌜ StateSound (now t) (now e) (now s) × (answer-size ≤ length (now out)) ⌝ }
+    ensures { λ r. ⌜ ChecksKept (now (t .entry)) (now (e .entry)) (now (s .entry)) r (now (t .exit)) (now (s .exit)) (now (out .exit)) ⌝ }
+{
+    let mut w = [0u32; WORK_SIZE];
+    let r = full_check(t, e, s, &mut w, out);
+    if has_room(r) {
+        keep_marks(t, s, &w);
+    }
+    r
+}
+
+// A full check. Where no constructor application is marked and no tester was ever asserted, only the watched terms matter.
+fn check_fully(t: &mut [u32], e: &[u32], s: &mut [u32], out: &mut [u32]) -> TCheck
+    requires { ⌜ StateSound (now t) (now e) (now s) × (answer-size ≤ length (now out)) ⌝ }
+    ensures { λ r. ⌜ ChecksKept (now (t .entry)) (now (e .entry)) (now (s .entry)) r (now (t .exit)) (now (s .exit)) (now (out .exit)) ⌝ }
+{
+    if !has_app(s) && !has_lasting(t, s) {
+        return split_watched(t, s, out);
+    }
+    check_classes(t, e, s, out)
 }
 
 // A check; one that is not full does nothing. If the terms that it makes do not fit, they are given back, and its marks are dropped
@@ -195,12 +222,10 @@ pub fn check(t: &mut [u32], e: &[u32], s: &mut [u32], full: bool, out: &mut [u32
         return TCheck::Sat;
     }
     let n = term_count(t);
-    let mut w = [0u32; WORK_SIZE];
-    let r = full_check(t, e, s, &mut w, out);
+    let r = check_fully(t, e, s, out);
     if has_room(r) {
-        keep_marks(s, &w);
-    } else {
-        truncate(t, n);
+        return r;
     }
+    truncate(t, n);
     r
 }

@@ -5,6 +5,7 @@ use crate::layout::REC_ATOM;
 use crate::layout::REC_LIT;
 use crate::layout::RECORDS;
 use crate::work::CtorOf;
+use crate::work::ctor_now;
 use crate::work::ctor_of_class;
 use core::context::children;
 use core::context::dt_role;
@@ -23,25 +24,17 @@ ghost use Prim.Native.Nat.{_≤_};
 ghost use lib.ListN.{length};
 ghost use Rattle.theory.specs.Memory.Answer.{answer-size};
 ghost use Rattle.solver.specs.Rules.{tester-clash};
-ghost use Rattle.solver.specs.Memory.Work.{CheckSound};
+ghost use Rattle.solver.specs.Memory.Work.{marks-only, CheckSound};
 ghost use Rattle.solver.specs.Memory.Answer.{Tried};
-ghost use Rattle.solver.specs.Memory.Testing.{DisagreeAsked, Disagrees, TesterAsked, TesterConflict};
+ghost use Rattle.solver.specs.Memory.Testing.{DisagreeAsked, Disagrees, AgainstAsked, Against, TesterAsked, TesterConflict, AssertAsked};
 
-// The literal says that the term is built by the constructor c: the leaves are the literal, then those of the term's equality with the
-// lowest application of its class.
-fn disagrees(
-    t: &[u32],
-    e: &[u32],
-    w: &[u32],
-    l: Lit,
-    c: SymbolId,
-    arg: TermId,
-    out: &mut [u32],
-) -> TCheck
-    requires { ⌜ DisagreeAsked (now t) (now e) (now w) (arg .0) (now out) ⌝ }
-    ensures { λ r. ⌜ Disagrees (now (t .entry)) (now (e .entry)) (now (w .entry)) (l .0) (c .0) (arg .0) r (now (out .exit)) ⌝ }
+// The literal says that the term is built by the constructor c; found is the lowest application of its class. The leaves are the
+// literal, then those of the term's equality with that application.
+fn disagrees(e: &[u32], l: Lit, c: SymbolId, arg: TermId, found: CtorOf, out: &mut [u32]) -> TCheck
+    requires { ⌜ DisagreeAsked (now e) (arg .0) found (now out) ⌝ }
+    ensures { λ r. ⌜ Disagrees (now (e .entry)) (l .0) (c .0) (arg .0) found r (now (out .exit)) ⌝ }
 {
-    match ctor_of_class(t, e, w, arg) {
+    match found {
         CtorOf::Nothing => TCheck::Sat,
         CtorOf::At(f, app) => {
             if f.0 == c.0 {
@@ -55,28 +48,55 @@ fn disagrees(
     }
 }
 
-// The conflict of an asserted tester with the lowest marked constructor application of its term's class, or `Sat`.
-pub fn tester_conflict(
+// A tester application with its argument, against what is found in the argument's class.
+fn tester_against(
     t: &[u32],
     e: &[u32],
-    w: &[u32],
     l: Lit,
     x: TermId,
+    arg: TermId,
+    found: CtorOf,
     out: &mut [u32],
 ) -> TCheck
-    requires { ⌜ TesterAsked (now t) (now e) (now w) (x .0) (now out) ⌝ }
-    ensures { λ r. ⌜ TesterConflict (now (t .entry)) (now (e .entry)) (now (w .entry)) (l .0) (x .0) r (now (out .exit)) ⌝ }
+    requires { ⌜ AgainstAsked (now t) (now e) (x .0) (arg .0) found (now out) ⌝ }
+    ensures { λ r. ⌜ Against (now (t .entry)) (now (e .entry)) (l .0) (x .0) (arg .0) found r (now (out .exit)) ⌝ }
 {
-    let arg = TermId(children(t, x)[0]);
     match op(t, x) {
         Op::Eq => TCheck::Sat,
         Op::Uninterpreted(f) => match dt_role(t, f) {
-            DtRole::Tester(c) => disagrees(t, e, w, l, c, arg, out),
+            DtRole::Tester(c) => disagrees(e, l, c, arg, found, out),
             DtRole::Constructor => TCheck::Sat,
             DtRole::Selector(_, _) => TCheck::Sat,
             DtRole::Function => TCheck::Sat,
         },
     }
+}
+
+// The conflict of an asserted tester with the lowest marked constructor application of its term's class, or `Sat`.
+fn tester_conflict(t: &[u32], e: &[u32], w: &[u32], l: Lit, x: TermId, out: &mut [u32]) -> TCheck
+    requires { ⌜ TesterAsked (now t) (now e) (now w) (x .0) (now out) ⌝ }
+    ensures { λ r. ⌜ TesterConflict (now (t .entry)) (now (e .entry)) (now (w .entry)) (l .0) (x .0) r (now (out .exit)) ⌝ }
+{
+    let arg = TermId(children(t, x)[0]);
+    let found = ctor_of_class(t, e, w, arg);
+    tester_against(t, e, l, x, arg, found, out)
+}
+
+// The same by the marks of the solver's table, outside a check.
+pub fn assert_conflict(
+    t: &[u32],
+    e: &[u32],
+    s: &[u32],
+    l: Lit,
+    x: TermId,
+    out: &mut [u32],
+) -> TCheck
+    requires { ⌜ AssertAsked (now t) (now e) (now s) (x .0) (now out) ⌝ }
+    ensures { λ r. ⌜ TesterConflict (now (t .entry)) (now (e .entry)) (marks-only (now (s .entry))) (l .0) (x .0) r (now (out .exit)) ⌝ }
+{
+    let arg = TermId(children(t, x)[0]);
+    let found = ctor_now(t, e, s, arg);
+    tester_against(t, e, l, x, arg, found, out)
 }
 
 // The first entry of the level record that has a conflict.

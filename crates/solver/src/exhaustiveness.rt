@@ -5,6 +5,7 @@ use crate::answer::clear_split;
 use crate::answer::push_tester;
 use crate::layout::DT_FUN_APP;
 use crate::layout::DT_SEL_APP;
+use crate::layout::MARK;
 use crate::layout::SPLIT;
 use crate::work::CtorOf;
 use crate::work::W_MARK;
@@ -22,16 +23,21 @@ use core::ids::TermId;
 use core::table::get_at;
 use core::table::put_at;
 ghost use mathlib.Core.Path.{_≡_};
+ghost use mathlib.Core.Bool.{_||_};
 ghost use Prim.Native.Nat.{_≤_, _<_};
+ghost use lib.Dec.{eqb};
 ghost use lib.ListN.{length};
+ghost use Rattle.core.specs.Limits.{max-terms, table-words};
 ghost use Rattle.core.specs.Formed.{Formed};
+ghost use Rattle.core.specs.Memory.Words.{at};
 ghost use Rattle.core.specs.Memory.Table.{context, ContextSound};
 ghost use Rattle.theory.specs.Memory.Answer.{answer-size};
 ghost use Rattle.solver.specs.Rules.{phase, then, exhaustiveness-split, unknown-fence};
-ghost use Rattle.solver.specs.Memory.Table.{SolverSound};
+ghost use Rattle.solver.specs.Memory.Table.{MARK, SolverSound};
 ghost use Rattle.solver.specs.Memory.Work.{ClassAsked, CheckSound};
 ghost use Rattle.solver.specs.Memory.Answer.{phase-meaning, Tried};
-ghost use Rattle.solver.specs.Memory.Splitting.{is-undetermined, Passed, Testable, MakesTester, Splittable, MakesTesters, SplitsOn};
+ghost use Rattle.solver.specs.Memory.Checks.{WatchedAsked, ChecksWatched};
+ghost use Rattle.solver.specs.Memory.Splitting.{is-undetermined, Passed, Watches, Testable, MakesTester, Splittable, MakesTesters, SplitsOn};
 
 // What the watched terms ask whose classes have no marked constructor application: a split on the lowest that was not split on; where
 // all were, there is no answer yet.
@@ -58,6 +64,15 @@ fn is_undetermined(t: &[u32], e: &[u32], w: &[u32], x: usize) -> bool
     }
 }
 
+// Is x a watched term, where no constructor application is marked?
+fn is_watched(s: &[u32], x: usize) -> bool
+    requires { ⌜ (table-words ≤ length (now s)) × (x < max-terms) ⌝ }
+    ensures { λ r. ⌜ r ≡ (eqb (at (now (s .entry)) MARK x) 3 || eqb (at (now (s .entry)) MARK x) 5) ⌝ }
+{
+    let kind = get_at(s, MARK, x);
+    kind == DT_SEL_APP || kind == DT_FUN_APP
+}
+
 // One pass over the watched terms, ascending.
 fn has_undetermined_class(t: &[u32], e: &[u32], s: &[u32], w: &[u32]) -> Undetermined
     requires { ⌜ CheckSound (now t) (now e) (now s) (now w) ⌝ }
@@ -68,6 +83,30 @@ fn has_undetermined_class(t: &[u32], e: &[u32], s: &[u32], w: &[u32]) -> Undeter
     let mut x = 0;
     while x < n {
         if is_undetermined(t, e, w, x) {
+            if get_at(s, SPLIT, x) == 0 {
+                return Undetermined::Split(TermId(x as u32));
+            }
+            unknown = true;
+        }
+        x += 1;
+    }
+    if unknown {
+        Undetermined::Unknown
+    } else {
+        Undetermined::Nothing
+    }
+}
+
+// The same where no constructor application is marked, by the marks of the solver's table: no class has one.
+fn has_watched_term(t: &[u32], s: &[u32]) -> Undetermined
+    requires { ⌜ ContextSound (now t) × (table-words ≤ length (now s)) ⌝ }
+    ensures { λ r. ⌜ Watches (now (t .entry)) (now (s .entry)) r ⌝ }
+{
+    let n = term_count(t);
+    let mut unknown = false;
+    let mut x = 0;
+    while x < n {
+        if is_watched(s, x) {
             if get_at(s, SPLIT, x) == 0 {
                 return Undetermined::Split(TermId(x as u32));
             }
@@ -156,6 +195,18 @@ pub fn exhaustiveness_split(
         r (now (t .exit)) (now (s .exit)) (now (w .entry)) (now (out .exit)) ⌝ }
 {
     match has_undetermined_class(t, e, s, w) {
+        Undetermined::Split(x) => split_on(t, s, x, out),
+        Undetermined::Unknown => TCheck::Unknown,
+        Undetermined::Nothing => TCheck::Sat,
+    }
+}
+
+// The whole check where no constructor application is marked and no tester was asserted: nothing else applies.
+pub fn split_watched(t: &mut [u32], s: &mut [u32], out: &mut [u32]) -> TCheck
+    requires { ⌜ WatchedAsked (now t) (now s) (now out) ⌝ }
+    ensures { λ r. ⌜ ChecksWatched (now (t .entry)) (now (s .entry)) r (now (t .exit)) (now (s .exit)) (now (out .exit)) ⌝ }
+{
+    match has_watched_term(t, s) {
         Undetermined::Split(x) => split_on(t, s, x, out),
         Undetermined::Unknown => TCheck::Unknown,
         Undetermined::Nothing => TCheck::Sat,

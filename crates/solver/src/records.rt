@@ -1,25 +1,31 @@
 // The solver's table between checks: an empty one, the registry of variables, and collection (DtSolver::collect, new_var).
+use crate::layout::BLOCK;
+use crate::layout::BLOCK_TERMS;
+use crate::layout::BLOCKS;
 use crate::layout::COLLECTED;
 use crate::layout::COUNTS;
+use crate::layout::CTOR_APP;
+use crate::layout::LASTING;
 use crate::layout::MARK;
 use crate::layout::REGISTRY_SIZE;
 use crate::roles::term_kind;
 use core::context::children;
+use core::context::term_count;
 use core::ids::TermId;
 use core::ids::Var;
 use core::table::get_at;
 use core::table::put_at;
 use theory::atom;
 ghost use mathlib.Core.Path.{_≡_};
-ghost use mathlib.Core.Bool.{true};
+ghost use mathlib.Core.Bool.{true, false};
 ghost use Prim.Native.Nat.{_≤_, _<_};
 ghost use lib.ListN.{length};
 ghost use Rattle.core.specs.Limits.{max-terms, table-words};
-ghost use Rattle.core.specs.Memory.Table.{context};
+ghost use Rattle.core.specs.Memory.Table.{context, ContextSound};
 ghost use Rattle.theory.specs.Atom.{is-registered, atom};
 ghost use Rattle.theory.specs.Memory.Registry.{atoms};
 ghost use Rattle.solver.specs.Memory.Table.{registry, SolverSound};
-ghost use Rattle.solver.specs.Memory.Recording.{Wiped, SolverCleared, MayRegister, Registers, Collecting, Collects, CollectsChildren, CollectsVar};
+ghost use Rattle.solver.specs.Memory.Recording.{with-mark, NoneAnnounced, NoneLasting, Wiped, SolverCleared, MayRegister, Registers, Collecting, Collects, CollectsChildren, CollectsVar};
 
 // The count of the level record and the flags of all terms stand side by side, from COUNTS on.
 const FLAG_WORDS: usize = 6208;
@@ -71,6 +77,50 @@ pub fn register(s: &mut [u32], v: Var, x: TermId)
     atom::register(&mut s[..REGISTRY_SIZE], v, x);
 }
 
+// ---- marks
+
+// Sets the mark of a term; a constructor application is announced in its block.
+pub fn put_mark(s: &mut [u32], x: usize, kind: usize)
+    requires { ⌜ (table-words ≤ length (now s)) × (x < max-terms) × (kind < 4294967296) ⌝ }
+    ensures { λ _. ⌜ now (s .exit) ≡ with-mark (now (s .entry)) x kind ⌝ }
+{
+    put_at(s, MARK, x, kind);
+    if kind == CTOR_APP {
+        put_at(s, BLOCK, x / BLOCK_TERMS, 1);
+    }
+}
+
+// May a constructor application be marked?
+pub fn has_app(s: &[u32]) -> bool
+    requires { ⌜ table-words ≤ length (now s) ⌝ }
+    ensures { λ r. ⌜ (r ≡ false → NoneAnnounced (now (s .entry))) ⌝ }
+{
+    let mut b = 0;
+    while b < BLOCKS {
+        if get_at(s, BLOCK, b) != 0 {
+            return true;
+        }
+        b += 1;
+    }
+    false
+}
+
+// Does a term stand in the lasting record?
+pub fn has_lasting(t: &[u32], s: &[u32]) -> bool
+    requires { ⌜ ContextSound (now t) × (table-words ≤ length (now s)) ⌝ }
+    ensures { λ r. ⌜ (r ≡ false → NoneLasting (now (t .entry)) (now (s .entry))) ⌝ }
+{
+    let n = term_count(t);
+    let mut x = 0;
+    while x < n {
+        if get_at(s, LASTING, x) != 0 {
+            return true;
+        }
+        x += 1;
+    }
+    false
+}
+
 // ---- collection
 
 fn collect_children(t: &[u32], s: &mut [u32], x: usize)
@@ -93,7 +143,7 @@ fn collect(t: &[u32], s: &mut [u32], x: usize)
     if get_at(s, COLLECTED, x) == 0 {
         collect_children(t, s, x);
         let kind = term_kind(t, TermId(x as u32));
-        put_at(s, MARK, x, kind);
+        put_mark(s, x, kind);
         put_at(s, COLLECTED, x, 1);
     }
 }

@@ -1,4 +1,7 @@
 // The work table of a check (specs/Memory/Work.antt): marks, roots, and for each class its marked constructor applications.
+use crate::layout::BLOCK;
+use crate::layout::BLOCK_TERMS;
+use crate::layout::BLOCKS;
 use crate::layout::CTOR_APP;
 use crate::layout::MARK;
 use crate::roles::term_kind;
@@ -16,8 +19,8 @@ ghost use lib.ListN.{length};
 ghost use Rattle.core.specs.Limits.{max-terms};
 ghost use Rattle.theory.specs.EqEngine.{find};
 ghost use Rattle.theory.specs.Memory.Table.{merges};
-ghost use Rattle.solver.specs.Memory.Table.{StateSound};
-ghost use Rattle.solver.specs.Memory.Work.{ClassAsked, CtorOfClass, Markable, Lowered, Marked, Blank, Begins, Copyable, MarksCopied, Linkable, Linked, linked, work-size};
+ghost use Rattle.solver.specs.Memory.Table.{blocks, Announced, StateSound};
+ghost use Rattle.solver.specs.Memory.Work.{ClassAsked, CtorOfClass, NameAsked, NamesApp, marks-only, MarksAsked, LowestInBlock, LowestMarked, NowAsked, Markable, Lowered, Marked, Blank, Begins, Copyable, MarksCopied, Linkable, Linked, linked, work-size};
 
 // The regions: for each term its mark; one more than the root of its class, where it is known; for each root one more than the lowest
 // marked constructor application of its class; for each such application one more than the next of its class.
@@ -50,13 +53,11 @@ pub fn root_of(t: &[u32], e: &[u32], w: &[u32], x: usize) -> usize
     word - 1
 }
 
-// The lowest marked constructor application in a term's class, with its constructor, if any.
-pub fn ctor_of_class(t: &[u32], e: &[u32], w: &[u32], x: TermId) -> CtorOf
-    requires { ⌜ ClassAsked (now t) (now e) (now w) (x .0) ⌝ }
-    ensures { λ r. ⌜ CtorOfClass (now (t .entry)) (now (e .entry)) (now (w .entry)) (x .0) r ⌝ }
+// The constructor application that a word stands for, if any.
+fn app_of(t: &[u32], word: usize) -> CtorOf
+    requires { ⌜ NameAsked (now t) word ⌝ }
+    ensures { λ r. ⌜ NamesApp (now (t .entry)) word r ⌝ }
 {
-    let root = root_of(t, e, w, x.0 as usize);
-    let word = get_at(w, LOWEST, root);
     if word == 0 {
         return CtorOf::Nothing;
     }
@@ -66,6 +67,65 @@ pub fn ctor_of_class(t: &[u32], e: &[u32], w: &[u32], x: TermId) -> CtorOf
         Op::Uninterpreted(f) => CtorOf::At(f, app),
     }
 }
+
+// The lowest marked constructor application in a term's class, with its constructor, if any.
+pub fn ctor_of_class(t: &[u32], e: &[u32], w: &[u32], x: TermId) -> CtorOf
+    requires { ⌜ ClassAsked (now t) (now e) (now w) (x .0) ⌝ }
+    ensures { λ r. ⌜ CtorOfClass (now (t .entry)) (now (e .entry)) (now (w .entry)) (x .0) r ⌝ }
+{
+    let root = root_of(t, e, w, x.0 as usize);
+    app_of(t, get_at(w, LOWEST, root))
+}
+
+// ---- without a work table
+
+// One more than the lowest marked constructor application of a block that has a root; 0 if there is none.
+fn lowest_in_block(e: &[u32], s: &[u32], b: usize, root: TermId) -> usize
+    requires { ⌜ MarksAsked (now e) (now s) × (b < blocks) ⌝ }
+    ensures { λ r. ⌜ LowestInBlock (now (e .entry)) (now (s .entry)) b (root .0) r ⌝ }
+{
+    let mut i = 0;
+    while i < BLOCK_TERMS {
+        let x = b * BLOCK_TERMS + i;
+        if get_at(s, MARK, x) == CTOR_APP {
+            let other = find(e, TermId(x as u32));
+            if other.0 == root.0 {
+                return x + 1;
+            }
+        }
+        i += 1;
+    }
+    0
+}
+
+// The same of all terms; a block where none is marked is passed over.
+fn lowest_marked(e: &[u32], s: &[u32], root: TermId) -> usize
+    requires { ⌜ MarksAsked (now e) (now s) × Announced (now s) ⌝ }
+    ensures { λ r. ⌜ LowestMarked (now (e .entry)) (now (s .entry)) (root .0) r ⌝ }
+{
+    let mut b = 0;
+    while b < BLOCKS {
+        if get_at(s, BLOCK, b) != 0 {
+            let word = lowest_in_block(e, s, b, root);
+            if word != 0 {
+                return word;
+            }
+        }
+        b += 1;
+    }
+    0
+}
+
+// As `ctor_of_class`, by the marks of the solver's table: for one question a work table does not pay.
+pub fn ctor_now(t: &[u32], e: &[u32], s: &[u32], x: TermId) -> CtorOf
+    requires { ⌜ NowAsked (now t) (now e) (now s) (x .0) ⌝ }
+    ensures { λ r. ⌜ CtorOfClass (now (t .entry)) (now (e .entry)) (marks-only (now (s .entry))) (x .0) r ⌝ }
+{
+    let root = find(e, x);
+    app_of(t, lowest_marked(e, s, root))
+}
+
+// ---- marking
 
 // A marked constructor application is the lowest of its class, unless there is a lower one.
 fn lower(t: &[u32], e: &[u32], w: &mut [u32], x: usize)

@@ -72,20 +72,20 @@ copying-done z l =
 
 -- ---- the pass down
 
-module _ {c e w : List ℕ} (z : Linkable c e w) (x j : ℕ) (l : j < max-terms) where
+module _ (c e w : List ℕ) (marks : MarksAre (context c) w W-MARK) (x j : ℕ) (l : j < max-terms) where
   -- of a marked constructor application the class decides
-  linked-here : at w W-MARK j ≡ 1 → listed (context c) (merges e) x (has w W-MARK) j ≡ eqb (find (merges e) x) (find (merges e) j)
+  pub linked-here : at w W-MARK j ≡ 1 → listed (context c) (merges e) x (has w W-MARK) j ≡ eqb (find (merges e) x) (find (merges e) j)
   unfolding is-set
-  linked-here m = ap (λ (v : ℕ). is-set v && matches (merges e) x (ctor-app (context c) j)) m ∙ go (z .marks j l)
+  linked-here m = ap (λ (v : ℕ). is-set v && matches (merges e) x (ctor-app (context c) j)) m ∙ go (marks j l)
     where
       go : (at w W-MARK j ≡ 0) ⊎ (at w W-MARK j ≡ term-kind (context c) j) →
           matches (merges e) x (ctor-app (context c) j) ≡ eqb (find (merges e) x) (find (merges e) j)
       go (inl p) = absurd (omega arith)
       go (inr p) = kind-matches (context c) (merges e) j x (sym p ∙ m)
 
-  not-here : (at w W-MARK j ≡ 1 → ⊥) → listed (context c) (merges e) x (has w W-MARK) j ≡ false
+  pub not-here : (at w W-MARK j ≡ 1 → ⊥) → listed (context c) (merges e) x (has w W-MARK) j ≡ false
   unfolding is-set
-  not-here d = go (z .marks j l)
+  not-here d = go (marks j l)
     where
       none : (b : Bool) → (b && false) ≡ false
       none true = refl
@@ -107,7 +107,7 @@ pub record Linking (c e w₀ w : List ℕ) (i : ℕ) : Type 0 where
   pub kept : Kept work-room (ROOT ∷ LOWEST ∷ NEXT ∷ []) w₀ w
 
 -- behind the last term there is no mark
-unmarked : (cx : Context) (w : List ℕ) (b : ℕ) → MarksAre cx w b → (x : ℕ) → length (cx .terms) ≤ x → x < max-terms → has w b x ≡ false
+pub unmarked : (cx : Context) (w : List ℕ) (b : ℕ) → MarksAre cx w b → (x : ℕ) → length (cx .terms) ≤ x → x < max-terms → has w b x ≡ false
 unfolding is-set
 unmarked cx w b m x l h = go (m x h)
   where
@@ -226,12 +226,12 @@ module _ {c e w₀ w w₁ : List ℕ} {i root mark : ℕ} (z : Linking c e w₀ 
   pub linking-app : {u : List ℕ} → mark ≡ 1 → u ≡ linked w₁ (i - 1) root → Linking c e w₀ u (i - 1)
   linking-app {u} q s =
       turned-next true z turn (subst (λ (x : ℕ). Turned w u (i - 1) x true) r (turned-app (z .wide) room root-node p s))
-      (λ x. linked-here (z .asked) x (i - 1) room (sym first-mark ∙ q)) (λ k. refl)
+      (λ x. linked-here c e w₀ (z .asked .marks) x (i - 1) room (sym first-mark ∙ q)) (λ k. refl)
 
   pub linking-other : (mark ≡ 1 → ⊥) → Linking c e w₀ w₁ (i - 1)
   linking-other d =
       turned-next false z turn (subst (λ (x : ℕ). Turned w w₁ (i - 1) x false) r (turned-root (z .wide) room p))
-      (λ x. not-here (z .asked) x (i - 1) room (λ k. d (first-mark ∙ k))) (λ k. absurd (d (first-mark ∙ k)))
+      (λ x. not-here c e w₀ (z .asked .marks) x (i - 1) room (λ k. d (first-mark ∙ k))) (λ k. absurd (d (first-mark ∙ k)))
 
 pub linking-done : {c e w₀ w : List ℕ} {i : ℕ} → Linking c e w₀ w i → i ≤ 0 → Linked c e w₀ w
 linking-done {c} {e} {w₀} {w} {i} z l = record {

@@ -1,16 +1,15 @@
 -- A check from its rules: a rule that passes is followed by the next, one that answers ends it, and a term that does not fit ends it as
 -- well, since terms are never taken back within a check.
-use Rattle.core.proofs.Kit.{ℕ, zero, suc, _+_, _≤_, _<_, _≡_, refl, sym, ap, _∙_, subst, Bool, true, false, true≢false, false≢true, List, [], _∷_, Option, none, some, arith, length, _⊎_, ⊎-elim, not, not-false, below-more, le-leb}
+use Rattle.core.proofs.Kit.{ℕ, zero, suc, _+_, _≤_, _<_, _≡_, refl, sym, ap, _∙_, subst, Bool, true, false, true≢false, false≢true, List, [], _∷_, Option, none, some, arith, length, _⊎_, ⊎-elim, not, not-false, below-more, le-leb, decLt}
 use borrow.Author.Tests.{not-true}
 use lib.Seq.{take-at}
 use Rattle.core.specs.Limits.{max-terms, max-places}
 use Rattle.core.specs.Context.{Context, terms-fit, places, cut-terms}
 use Rattle.core.specs.Formed.{Formed, Signed, Extends}
-use Rattle.core.specs.Memory.Words.{at, put, Kept}
+use Rattle.core.specs.Memory.Words.{at, Kept}
 use Rattle.core.specs.Memory.Table.{context, ContextSound}
 use Rattle.core.proofs.Memory.Terms.{places-are}
 use Rattle.core.specs.Lists.{In}
-use Rattle.core.proofs.Memory.Stores.{length-put, earlier}
 use Rattle.theory.specs.Atom.{Registered}
 use Rattle.theory.specs.Memory.Table.{merges, level}
 use Rattle.theory.specs.Memory.Registry.{atoms}
@@ -20,13 +19,16 @@ use Rattle.solver.specs.Rules.{Ruled, pass, answered, go-on, then}
 use Rattle.solver.specs.Check.{before-ring, or-ring, full-check, check}
 use Rattle.solver.specs.declared.answer.TCheck as TCheck
 use Rattle.solver.specs.declared.answer.TCheck.the-variants.{Sat, Conflict, Split, Unknown, NoRoom}
-use Rattle.solver.specs.Memory.Table.{COUNTS, RECORDS, MARK, COLLECTED, LASTING, EMITTED, SPLIT, REC-ATOM, solver-room, records#, registry, is-set, flagged-from, term-kind, MarksAre, state, state-with, dt-with, CollectedSound, StateSound}
+use Rattle.solver.specs.Memory.Table.{COUNTS, RECORDS, BLOCK, MARK, COLLECTED, LASTING, EMITTED, SPLIT, REC-ATOM, solver-room, records#, registry, is-set, flagged-from, term-kind, MarksAre, Announced, state, state-with, dt-with, CollectedSound, StateSound}
+use Rattle.solver.specs.Memory.Recording.{with-mark}
 use Rattle.solver.specs.Memory.Work.{W-MARK, state-at, Begins, ChainSound, CheckSound}
 use Rattle.solver.specs.Memory.Answer.{answer-meaning, Outcome, Tried}
-use Rattle.solver.specs.Memory.Checks.{passes, has-room, Answered, ChecksFully, Rings, MarksFit, KeepsMarks, Checks}
+use Rattle.solver.specs.Memory.Checks.{passes, has-room, Answered, ChecksFully, Rings, MarksFit, KeepsMarks, ChecksKept, Checks}
 use Rattle.solver.proofs.Basics.{none-some, by-test}
 use Rattle.solver.proofs.Terms.{extends-then, extends-length}
-use Rattle.solver.proofs.Memory.TableStores.{same, kept-none, kept-put}
+use Rattle.solver.proofs.Memory.TableStores.{kept-none}
+use Rattle.solver.proofs.Memory.Announcing.{mark-long, mark-same, mark-other, mark-kept, mark-announced}
+use Rattle.solver.proofs.Memory.Beginning.{unmarked}
 use Rattle.solver.proofs.Memory.Flags.{flagged-same}
 use Rattle.solver.proofs.Memory.Frames.{registry-kept, flagged-kept, level-record-kept, solver-kept}
 use Rattle.solver.proofs.Memory.Growing.{chain-grows}
@@ -189,36 +191,53 @@ fully-walked {c} {e} {s} {w} {c₁} {s₁} {w₁} {o₁} {o} {r} {q} b test take
 pub record Copying (s₀ w s : List ℕ) (x : ℕ) : Type 0 where
   pub fit : MarksFit s w
   pub within : x ≤ max-terms
-  pub kept : Kept solver-room (MARK ∷ []) s₀ s
+  pub kept : Kept solver-room (BLOCK ∷ MARK ∷ []) s₀ s
   pub copied : (y : ℕ) → y < x → at s MARK y ≡ at w W-MARK y
+  pub behind : (y : ℕ) → y < max-terms → x ≤ y → at s MARK y ≡ at s₀ MARK y
+  pub announced : Announced s₀ → Announced s
 
 pub copying-first : {s w : List ℕ} → MarksFit s w → Copying s w s 0
-copying-first {s} f = record { fit = f; within = omega arith; kept = kept-none (MARK ∷ []) s; copied = λ y h. absurd (omega arith) }
+copying-first {s} f = record {
+  fit = f;
+  within = omega arith;
+  kept = kept-none (BLOCK ∷ MARK ∷ []) s;
+  copied = λ y h. absurd (omega arith);
+  behind = λ y g h. refl;
+  announced = λ z. z;
+}
 
-pub copying-next : {s₀ w s u : List ℕ} {x v : ℕ} → Copying s₀ w s x → x < max-terms → v ≡ at w W-MARK x → u ≡ put s MARK x v →
+pub copying-next : {s₀ w s u : List ℕ} {x v : ℕ} → Copying s₀ w s x → x < max-terms → v ≡ at w W-MARK x → u ≡ with-mark s x v →
     Copying s₀ w u (x + 1)
 copying-next {s₀} {w} {s} {u} {x} {v} q h e p =
-    let l = length-put s MARK x v in
-    let n = ap length p in
-    let long = q .fit .table in
-    record {
-      fit = record { table = omega arith; work = q .fit .work };
+    let l = q .fit .table in
+    rw p (record {
+      fit = record { table = mark-long s x v h l; work = q .fit .work };
       within = omega arith;
-      kept = rw p (kept-put (MARK ∷ []) s₀ s MARK x v tt h (q .kept));
-      copied = λ y g. below-more (λ (j : ℕ). at u MARK j ≡ at w W-MARK j) x (λ j k. ap (λ (t : List ℕ). at t MARK j) p
-          ∙ earlier s MARK x j v k ∙ q .copied j k)
-          (ap (λ (t : List ℕ). at t MARK x) p ∙ same s MARK x v tt long h ∙ e) y g;
-    }
+      kept = mark-kept s x v h (BLOCK ∷ MARK ∷ []) s₀ tt tt (q .kept);
+      copied =
+          below-more (λ (j : ℕ). at (with-mark s x v) MARK j ≡ at w W-MARK j) x
+          (λ j k. mark-other s x v h l j (omega arith) (omega arith) ∙ q .copied j k) (mark-same s x v h l ∙ e);
+      behind = λ y g k. mark-other s x v h l y g (omega arith) ∙ q .behind y g (omega arith);
+      announced = λ z. mark-announced s x v h l (q .announced z);
+    })
 
-pub copying-done : {s₀ w s : List ℕ} {x : ℕ} → Copying s₀ w s x → max-terms ≤ x → KeepsMarks s₀ w s
+copying-all : {s₀ w s : List ℕ} {n x : ℕ} → Copying s₀ w s x → n ≤ x → KeepsMarks n s₀ w s
 unfolding state-with dt-with is-set
-copying-done {s₀} {w} {s} {x} q h = record { sound = λ c e z. state-sound z; view = λ c e lv z. same-state lv z }
+copying-all {s₀} {w} {s} {n} {x} q h = record { sound = λ c e z m. state-sound z m; view = λ c e lv z m. same-state lv z m }
   where
-    marked : (y : ℕ) → y < max-terms → at s MARK y ≡ at w W-MARK y
-    marked y g = let k = q .within in q .copied y (omega arith)
+    -- behind the last term neither table has a mark
+    marked : {c e : List ℕ} → CheckSound c e s₀ w → n ≡ length (context c .terms) → (y : ℕ) → y < max-terms → at s MARK y ≡ at w W-MARK y
+    marked {c} {e} z m y g = go (decLt y x)
+      where
+        go : Dec (y < x) → at s MARK y ≡ at w W-MARK y
+        go (yes l) = q .copied y l
+        go (no l) =
+            q .behind y g (omega arith)
+            ∙ unset (at s₀ MARK y) (unmarked (context c) s₀ MARK (z .state .marks) y (omega arith) g)
+            ∙ sym (unset (at w W-MARK y) (unmarked (context c) w W-MARK (z .work .marks) y (omega arith) g))
 
-    state-sound : {c e : List ℕ} → CheckSound c e s₀ w → StateSound c e s
-    state-sound {c} {e} z =
+    state-sound : {c e : List ℕ} → CheckSound c e s₀ w → n ≡ length (context c .terms) → StateSound c e s
+    state-sound {c} {e} z m =
         let old = z .state in
         let k = q .kept in
         let fit = old .solver .records-fit in
@@ -231,7 +250,8 @@ copying-done {s₀} {w} {s} {x} q h = record { sound = λ c e z. state-sound z; 
           solver = solver-kept k tt tt tt tt (old .solver);
           registered = subst (λ (t : List ℕ). (x : Registered) → In x (atoms t) → x .atom < length (context c .terms))
               (sym (registry-kept k tt (old .solver .long))) (old .registered);
-          marks = λ y g. subst (λ (v : ℕ). (v ≡ 0) ⊎ (v ≡ term-kind (context c) y)) (sym (marked y g)) (z .work .marks y g);
+          marks = λ y g. subst (λ (v : ℕ). (v ≡ 0) ⊎ (v ≡ term-kind (context c) y)) (sym (marked z m y g)) (z .work .marks y g);
+          announced = q .announced (old .announced);
           collected = λ y g e′. collected y g (old .collected y g (sym (ap is-set (k .rest COLLECTED y tt g)) ∙ e′));
           lasting = λ y g e′. old .lasting y g (sym (ap is-set (k .rest LASTING y tt g)) ∙ e′);
           records = λ i g. ap (term-kind (context c)) (k .rest REC-ATOM i tt (omega arith)) ∙ old .records i (omega arith);
@@ -239,8 +259,8 @@ copying-done {s₀} {w} {s} {x} q h = record { sound = λ c e z. state-sound z; 
       where
         -- a collected term has its mark in the work table too
         same-mark : (y : ℕ) → y < max-terms → at s₀ MARK y ≡ term-kind (context c) y → at w W-MARK y ≡ term-kind (context c) y
-        same-mark y g m = by-test (is-set (at s₀ MARK y)) (λ t. z .more y g t ∙ m)
-            (λ f. ⊎-elim (λ n. n ∙ sym (unset (at s₀ MARK y) f) ∙ m) (λ n. n) (z .work .marks y g))
+        same-mark y g k = by-test (is-set (at s₀ MARK y)) (λ t. z .more y g t ∙ k)
+            (λ f. ⊎-elim (λ j. j ∙ sym (unset (at s₀ MARK y) f) ∙ k) (λ j. j) (z .work .marks y g))
 
         collected : (y : ℕ) → y < max-terms → CollectedSound (context c) s₀ y → CollectedSound (context c) s y
         collected y g r =
@@ -248,19 +268,19 @@ copying-done {s₀} {w} {s} {x} q h = record { sound = λ c e z. state-sound z; 
             let terms = z .state .core .term-count in
             record {
               within = r .within;
-              mark = marked y g ∙ same-mark y g (r .mark);
+              mark = marked z m y g ∙ same-mark y g (r .mark);
               below = λ x i.
                   let x-lower = z .state .formed .lower y (r .within) x i in
                   ap is-set (q .kept .rest COLLECTED x tt (omega arith)) ∙ r .below x i;
             }
 
-    same-state : {c e : List ℕ} (lv : ℕ → ℕ) → CheckSound c e s₀ w → state c e s lv ≡ state-at c e s₀ w lv
-    same-state {c} {e} lv z =
+    same-state : {c e : List ℕ} (lv : ℕ → ℕ) → CheckSound c e s₀ w → n ≡ length (context c .terms) → state c e s lv ≡ state-at c e s₀ w lv
+    same-state {c} {e} lv z p =
         let k = q .kept in
         let old = z .state .solver in
         let fit = old .records-fit in
         let r = registry-kept k tt (old .long) in
-        let m = flagged-same w s W-MARK MARK 0 (λ y l g. ap is-set (marked y g)) in
+        let m = flagged-same w s W-MARK MARK 0 (λ y l g. ap is-set (marked z p y g)) in
         let es = level-record-kept k lv fit (k .rest COUNTS RECORDS tt (omega arith)) tt tt in
         let la = flagged-kept k LASTING 0 tt refl in
         let em = flagged-kept k EMITTED 0 tt refl in
@@ -272,6 +292,10 @@ copying-done {s₀} {w} {s} {x} q h = record { sound = λ c e z. state-sound z; 
           level = level e;
           dt = record { marks = m j; level-record = es j; lasting = la j; emitted = em j; split-done = sp j };
         }
+
+pub copying-done : (c : List ℕ) {s₀ w s : List ℕ} {n x : ℕ} → (n ≡ length (context c .terms)) × (n ≤ max-terms) → Copying s₀ w s x → n ≤ x →
+    KeepsMarks (length (context c .terms)) s₀ w s
+copying-done c {s₀} {w} {s} (e, f) q h = subst (λ (k : ℕ). KeepsMarks k s₀ w s) e (copying-all q h)
 
 -- ---- a check
 
@@ -296,13 +320,13 @@ check-idle {full} {c} {e} {s} {o} n z =
 -- a check that fits
 pub check-kept : {full : Bool} {c e s c₁ s₁ w s₂ o : List ℕ} {r : TCheck.TCheck} {b : Bool} → not full ≡ false →
     ChecksFully c e s r c₁ s₁ w o →
-    b ≡ has-room r → b ≡ true → KeepsMarks s₁ w s₂ → Checks full c e s r c₁ s₂ o
+    b ≡ has-room r → b ≡ true → KeepsMarks (length (context c₁ .terms)) s₁ w s₂ → Checks full c e s r c₁ s₂ o
 unfolding check state-with
 check-kept {full} {c} {e} {s} {c₁} {s₁} {w} {s₂} {o} {r} n x test taken k =
     subst (λ (b : Bool). Checks b c e s r c₁ s₂ o) (sym (not-false full n)) (let h = sym test ∙ taken in record {
-      sound = k .sound c₁ e (x .sound);
+      sound = k .sound c₁ e (x .sound) refl;
       answer = λ lv. rw (fits lv) (x .outcome lv .answer h);
-      view = λ lv. rw (fits lv) (k .view c₁ e lv (x .sound) ∙ sym (x .outcome lv .state h));
+      view = λ lv. rw (fits lv) (k .view c₁ e lv (x .sound) refl ∙ sym (x .outcome lv .state h));
       readable = x .readable;
     })
   where
@@ -310,6 +334,20 @@ check-kept {full} {c} {e} {s} {c₁} {s₁} {w} {s₂} {o} {r} n x test taken k 
     fits lv =
         let h = sym test ∙ taken in
         ap (λ (S : State). terms-fit (S .terms)) (x .outcome lv .state h) ∙ fits-now c₁ (x .sound .state .core)
+
+-- one with a work table, by whether it fits
+module _ {c e s c₁ s₁ w o : List ℕ} {r : TCheck.TCheck} {b : Bool} (x : ChecksFully c e s r c₁ s₁ w o) (test : b ≡ has-room r) where
+  pub classes-kept : {s₂ : List ℕ} → b ≡ true → KeepsMarks (length (context c₁ .terms)) s₁ w s₂ → ChecksKept c e s r c₁ s₂ o
+  classes-kept taken k = record {
+    fits = λ h. check-kept refl x test taken k;
+    refused = λ h. absurd (true≢false (sym taken ∙ test ∙ h));
+  }
+
+  pub classes-refused : b ≡ false → ChecksKept c e s r c₁ s₁ o
+  classes-refused left = record {
+    fits = λ h. absurd (false≢true (sym left ∙ test ∙ h));
+    refused = λ h. (w, x);
+  }
 
 -- the first terms of a table that has grown
 cut-back : (a b : Context) → Extends a b → cut-terms (length (a .terms)) b ≡ a
@@ -330,6 +368,7 @@ moved {c} {d} {e} {s} y q z =
       solver = z .solver;
       registered = subst (λ (cx : Context). (r : Registered) → In r (atoms (registry s)) → r .atom < length (cx .terms)) p (z .registered);
       marks = subst (λ (cx : Context). MarksAre cx s MARK) p (z .marks);
+      announced = z .announced;
       collected = subst (λ (cx : Context). (x : ℕ) → x < max-terms → is-set (at s COLLECTED x) ≡ true →
           CollectedSound cx s x) p (z .collected);
       lasting = subst (λ (cx : Context). (x : ℕ) → x < max-terms → is-set (at s LASTING x) ≡ true → term-kind cx x ≡ 4) p (z .lasting);
@@ -374,3 +413,17 @@ check-refused {full} {c} {e} {s} {c₁} {s₁} {w} {c₂} {o} {r} {n} is-full z 
 pub terms-left : {c e s c₁ s₁ w o : List ℕ} {r : TCheck.TCheck} {n : ℕ} → n ≡ length (context c .terms) → ChecksFully c e s r c₁ s₁ w o →
     n ≤ length (context c₁ .terms)
 terms-left {c} {c₁ = c₁} m x = let l = extends-length (context c) (context c₁) (x .extends) in omega arith
+
+-- a full check, by whether it fits
+module _ {c e s c₁ s₁ o : List ℕ} {r : TCheck.TCheck} {b : Bool} (x : ChecksKept c e s r c₁ s₁ o) (test : b ≡ has-room r) where
+  pub check-fits : {full : Bool} → not full ≡ false → b ≡ true → Checks full c e s r c₁ s₁ o
+  check-fits {full} n taken = subst (λ (t : Bool). Checks t c e s r c₁ s₁ o) (sym (not-false full n)) (x .fits (sym test ∙ taken))
+
+  module _ {n : ℕ} (m : n ≡ length (context c .terms)) (left : b ≡ false) where
+    -- its terms may be given back
+    pub check-left : ContextSound c₁ × (n ≤ length (context c₁ .terms))
+    check-left = let (w, y) = x .refused (sym test ∙ left) in (y .sound .state .core, terms-left m y)
+
+    pub check-cut : {full : Bool} {c₂ : List ℕ} → not full ≡ false → StateSound c e s → ContextSound c₂ →
+        context c₂ ≡ cut-terms n (context c₁) → Checks full c e s r c₂ s₁ o
+    check-cut f z y v = let (w, k) = x .refused (sym test ∙ left) in check-refused f z m k test left y v

@@ -1,11 +1,13 @@
 -- Tester clash. The class's constructor is that of the work table, and the leaves of a conflict are the literal and then what an
 -- explanation appends to it. The loop over the level record: what the rest of the entries gives is what all of them give.
 use Rattle.core.proofs.Kit.{ℕ, suc, _+_, _-_, _≤_, _<_, _≡_, refl, sym, ap, ap₂, _∙_, subst, inl, Bool, true, false, cond, List, [], _∷_, _++_, map, none, some, Option, add-one, arith, eq-eqb, ne-eqb, eqb, length, getD}
+use Rattle.core.specs.Limits.{max-terms}
 use Rattle.core.specs.Lists.{In, any, range}
 use Rattle.core.specs.Term as Term
 use Rattle.core.specs.Context.{CtorApp, TesterApp, tester-app, children, symbol}
 use Rattle.core.specs.Memory.Words.{at, counted}
-use Rattle.core.specs.Memory.Table.{context}
+use Rattle.core.specs.Formed.{Formed, Signed}
+use Rattle.core.specs.Memory.Table.{context, ContextSound}
 use Rattle.core.specs.Memory.Codes.{op-meaning, role-meaning, OpAt, RoleAt}
 use Rattle.core.specs.declared.ids.SymbolId as SymbolId
 use Rattle.core.specs.declared.ids.TermId as TermId
@@ -26,9 +28,9 @@ use Rattle.solver.specs.Rules.{Ruled, pass, answered, go-on, then, try-e
 use Rattle.solver.specs.declared.answer.TCheck as TCheck
 use Rattle.solver.specs.declared.work.CtorOf as CtorOf
 use Rattle.solver.specs.Memory.Table.{REC-ATOM, REC-LIT, records#, is-set, term-kind, asserted-at, level-record, dt-with, state-with}
-use Rattle.solver.specs.Memory.Work.{state-at, apps-from, first-in-class, ctor-meaning, ClassAsked, CtorOfClass, CheckSound}
+use Rattle.solver.specs.Memory.Work.{state-at, apps-from, first-in-class, ctor-meaning, marks-only, ClassAsked, CtorOfClass, NowAsked, CheckSound}
 use Rattle.solver.specs.Memory.Answer.{Readable, Tried}
-use Rattle.solver.specs.Memory.Testing.{ConflictIs, DisagreeAsked, Disagrees, TesterAsked, TesterConflict}
+use Rattle.solver.specs.Memory.Testing.{ConflictIs, DisagreeAsked, Disagrees, AgainstAsked, Against, TesterAsked, TesterConflict, AssertAsked}
 use Rattle.solver.proofs.Basics.{first-some}
 use Rattle.solver.proofs.Terms.{extends-self}
 use Rattle.solver.proofs.Apps.{op-is}
@@ -51,11 +53,11 @@ by-class {c} {e} {w} z s lv l x p =
     ap (disagrees (state-at c e s w lv) l x)
     (ap (ctor-of-class (state-at c e s w lv)) p ∙ class-ctor c e s w lv _ ∙ sym (z .is))
 
-pub no-class-ctor : {c e w o : List ℕ} {l ctor arg : ℕ} {k : CtorOf.CtorOf} → CtorOfClass c e w arg k → k ≡ CtorOf.the-variants.Nothing →
-    Disagrees c e w l ctor arg TCheck.the-variants.Sat o
+pub no-class-ctor : {e o : List ℕ} {l ctor arg : ℕ} {k : CtorOf.CtorOf} → k ≡ CtorOf.the-variants.Nothing →
+    Disagrees e l ctor arg k TCheck.the-variants.Sat o
 unfolding ctor-meaning disagrees
-no-class-ctor {c} {e} {w} {l = l} z q = record {
-  conflict = λ s lv x p r.
+no-class-ctor {e} {l = l} q = record {
+  conflict = λ c s w lv x p r z.
       by-class z s lv l x r ∙ ap (λ (v : CtorOf.CtorOf). disagrees (state-at c e s w lv) l x (ctor-meaning (context c) v)) q;
   readable = tt;
 }
@@ -64,49 +66,35 @@ no-class-ctor {c} {e} {w} {l = l} z q = record {
 abbrev app-of : List ℕ → SymbolId.SymbolId → TermId.TermId → CtorApp
 app-of c f y = record { app = y .0; ctor = f .0; fields = children (context c) (y .0) }
 
-module _ {c e w : List ℕ} {arg : ℕ} {k : CtorOf.CtorOf} {f : SymbolId.SymbolId} {y : TermId.TermId} (z : CtorOfClass c e w arg k)
-    (q : k ≡ CtorOf.the-variants.At f y) where
-  by-app : (l ctor : ℕ) (s : List ℕ) (lv : ℕ → ℕ) (x : TesterApp) → x .ctor ≡ ctor → x .arg ≡ arg → (b : Bool) → eqb (f .0) ctor ≡ b →
+module _ {e : List ℕ} {arg : ℕ} {k : CtorOf.CtorOf} {f : SymbolId.SymbolId} {y : TermId.TermId} (q : k ≡ CtorOf.the-variants.At f y) where
+  by-app : (l ctor : ℕ) (c s w : List ℕ) (lv : ℕ → ℕ) (x : TesterApp) → x .ctor ≡ ctor → x .arg ≡ arg → CtorOfClass c e w arg k →
+      (b : Bool) → eqb (f .0) ctor ≡ b →
       tester-conflict (state-at c e s w lv) l x ≡ cond b none (some (firsts (AssertedLeaf l ∷ explain (merges e) arg (y .0))))
   unfolding ctor-meaning disagrees tester-leaves state-with
-  by-app l ctor s lv x p r b h =
+  by-app l ctor c s w lv x p r z b h =
       by-class z s lv l x r
       ∙ ap (λ (v : CtorOf.CtorOf). disagrees (state-at c e s w lv) l x (ctor-meaning (context c) v)) q
       ∙ ap₂ (λ (d a : ℕ). cond (eqb (f .0) d) none (some (firsts (AssertedLeaf l ∷ explain (merges e) a (y .0))))) p r
       ∙ ap (λ (v : Bool). cond v none (some (firsts (AssertedLeaf l ∷ explain (merges e) arg (y .0))))) h
 
-  pub same-ctor : {o : List ℕ} {l ctor : ℕ} → f .0 ≡ ctor → Disagrees c e w l ctor arg TCheck.the-variants.Sat o
+  pub same-ctor : {o : List ℕ} {l ctor : ℕ} → f .0 ≡ ctor → Disagrees e l ctor arg k TCheck.the-variants.Sat o
   same-ctor {l = l} {ctor = ctor} h =
-      record { conflict = λ s lv x p r. by-app l ctor s lv x p r true (eq-eqb (f .0) ctor h); readable = tt }
-
-  named : ctor-meaning (context c) k ≡ some (app-of c f y)
-  unfolding ctor-meaning
-  named = ap (ctor-meaning (context c)) q
+      record { conflict = λ c s w lv x p r z. by-app l ctor c s w lv x p r z true (eq-eqb (f .0) ctor h); readable = tt }
 
   -- the application is in the class
-  pub may-explain : {o₁ o₂ : List ℕ} {leaf : EqLeaf} → ClassAsked c e w arg → Cleared o₁ → Pushed o₁ o₂ leaf → Explainable e arg (y .0) o₂
-  unfolding first-in-class
-  may-explain {o₁} {o₂} a g p =
-      let (i, t) =
-      first-some (λ (b : CtorApp). are-equal (merges e) arg (b .app)) (apps-from (context c) w 0) (app-of c f y) (sym (z .is) ∙ named) in
-      let n = z .within (app-of c f y) named in
-      let m = a .core .term-count in
-      let h = a .core .terms-fit in
-      record {
-        sound = a .engine;
-        first = a .is-node;
-        second = omega arith;
-        equal = T-true (are-equal (merges e) arg (y .0)) t;
-        answer = first-sound (merges e) g p;
-      }
+  pub may-explain : {o o₁ o₂ : List ℕ} {leaf : EqLeaf} → DisagreeAsked e arg k o → Cleared o₁ → Pushed o₁ o₂ leaf →
+      Explainable e arg (y .0) o₂
+  may-explain a g p =
+      let (n, t) = a .equal f y q in
+      record { sound = a .engine; first = a .first; second = n; equal = t; answer = first-sound (merges e) g p }
 
   -- the literal, then what the explanation appends
   pub other-ctor : {o₁ o₂ o₃ : List ℕ} {l : Lit.Lit} {ctor : ℕ} → (f .0 ≡ ctor → ⊥) → Cleared o₁ →
       Pushed o₁ o₂ (leaf-meaning (GivenLeaf.the-variants.Asserted l)) → Explains e arg (y .0) o₂ o₃ →
-      Disagrees c e w (l .0) ctor arg TCheck.the-variants.Conflict o₃
+      Disagrees e (l .0) ctor arg k TCheck.the-variants.Conflict o₃
   unfolding leaf-meaning firsts firsts-after any
   other-ctor {o₁} {o₂} {o₃} {l} {ctor} d g u x = record {
-    conflict = λ s lv v i j. by-app (l .0) ctor s lv v i j false (ne-eqb (f .0) ctor d) ∙ ap some (sym listed);
+    conflict = λ c s w lv v i j z. by-app (l .0) ctor c s w lv v i j z false (ne-eqb (f .0) ctor d) ∙ ap some (sym listed);
     readable = x .sound .words;
   }
     where
@@ -118,51 +106,67 @@ module _ {c e w : List ℕ} {arg : ℕ} {k : CtorOf.CtorOf} {f : SymbolId.Symbol
 
 -- ---- a tester application
 
-module _ {c e w o : List ℕ} {x : ℕ} (z : TesterAsked c e w x o) where
-  tested : TesterAt (context c) (z .formed) (z .signed) x
-  tested = kind-tester (context c) (z .formed) (z .signed) x (z .tester)
+-- an application found in a class is a term, and in it
+pub found-equal : {c e w : List ℕ} {arg : ℕ} {k : CtorOf.CtorOf} → ContextSound c → CtorOfClass c e w arg k →
+    (f : SymbolId.SymbolId) (y : TermId.TermId) → k ≡ CtorOf.the-variants.At f y →
+    (y .0 < max-terms) × (are-equal (merges e) arg (y .0) ≡ true)
+unfolding first-in-class ctor-meaning
+found-equal {c} {e} {w} {arg} {k} core z f y q =
+    let named : ctor-meaning (context c) k ≡ some (app-of c f y) = ap (ctor-meaning (context c)) q in
+    let (i, t) =
+    first-some (λ (b : CtorApp). are-equal (merges e) arg (b .app)) (apps-from (context c) w 0) (app-of c f y) (sym (z .is) ∙ named) in
+    let n = z .within (app-of c f y) named in
+    let m = core .term-count in
+    let h = core .terms-fit in
+    (omega arith, T-true (are-equal (merges e) arg (y .0)) t)
+
+-- by its kind a term is an application of a tester to one argument
+module _ (c : List ℕ) (x : ℕ) (core : ContextSound c) (formed : Formed (context c)) (signed : Signed (context c))
+    (kind : term-kind (context c) x ≡ 4) where
+  tested : TesterAt (context c) formed signed x
+  tested = kind-tester (context c) formed signed x kind
 
   pub tester-within : x < length (context c .terms)
   unfolding is-set
-  tester-within = kind-within (context c) x (ap is-set (z .tester))
+  tester-within = kind-within (context c) x (ap is-set kind)
 
-  -- its one argument, read from a list of them
   module _ {args : List ℕ} (q : args ≡ children (context c) x) where
-    arg-is : args ≡ tested .2 ∷ []
-    arg-is = q ∙ tested .5
-
     pub one-arg : 0 < length args
-    one-arg = let n = ap length arg-is in omega arith
+    one-arg = let n = ap length (q ∙ tested .5) in omega arith
 
-    pub disagree-asked : DisagreeAsked c e w (getD args 0 0) o
-    disagree-asked =
-        let i : In (tested .2) (children (context c) x) = subst (In (tested .2)) (sym (tested .5)) (inl refl) in
-        let below = z .formed .lower x tester-within (tested .2) i in
-        let m = z .core .term-count in
-        let h = z .core .terms-fit in
+    pub arg-is : children (context c) x ≡ getD args 0 0 ∷ []
+    arg-is = tested .5 ∙ ap (λ (v : ℕ). v ∷ []) (sym (ap (λ (xs : List ℕ). getD xs 0 0) (q ∙ tested .5)))
+
+    -- it is a term
+    pub arg-within : getD args 0 0 < max-terms
+    arg-within =
+        let i : In (getD args 0 0) (children (context c) x) = subst (In (getD args 0 0)) (sym arg-is) (inl refl) in
+        let below = formed .lower x tester-within (getD args 0 0) i in
+        let m = core .term-count in
+        let h = core .terms-fit in
         let l = tester-within in
-        let a = ap (λ (xs : List ℕ). getD xs 0 0) arg-is in
-        record {
-          asked = record { core = z .core; signed = z .signed; engine = z .engine; work = z .work; is-node = omega arith };
-          long = z .long;
-        }
+        omega arith
+
+module _ {c e o : List ℕ} {x arg : ℕ} {k : CtorOf.CtorOf} (z : AgainstAsked c e x arg k o) where
+  by-kind : TesterAt (context c) (z .formed) (z .signed) x
+  by-kind = tested c x (z .core) (z .formed) (z .signed) (z .tester)
 
   pub tester-no-equation : {r : Op.Op} → OpAt c x r → r ≡ Op.the-variants.Eq → ⊥
   unfolding op-meaning
   tester-no-equation a p =
-      let n = ap op-meaning (sym p) ∙ a .is ∙ tested .3 in
+      let n = ap op-meaning (sym p) ∙ a .is ∙ by-kind .3 in
       let k : _≡_ {A = ℕ} 0 1 = cc in
       omega arith
 
   -- the role of its symbol
   module _ {r : Op.Op} {f : SymbolId.SymbolId} {ρ : DtRole.DtRole} (a : OpAt c x r) (p : r ≡ Op.the-variants.Uninterpreted f)
       (b : RoleAt c (f .0) ρ) where
-    role-is : role-meaning ρ ≡ Term.Tester (tested .1)
+    role-is : role-meaning ρ ≡ Term.Tester (by-kind .1)
     unfolding op-meaning
     role-is =
         b .is
-        ∙ ap (λ (g : ℕ). symbol (context c) g .role) (op-is (f .0) (tested .0) (ap op-meaning (sym p) ∙ a .is ∙ tested .3))
-        ∙ tested .4
+        ∙ ap (λ (g : ℕ). symbol (context c) g .role) (op-is (f .0) (by-kind .0) (ap op-meaning (sym p) ∙ a .is ∙ by-kind .3))
+        ∙ by-kind .4
 
     pub tester-no-constructor : ρ ≡ DtRole.the-variants.Constructor → ⊥
     unfolding role-meaning
@@ -176,17 +180,83 @@ module _ {c e w o : List ℕ} {x : ℕ} (z : TesterAsked c e w x o) where
     unfolding role-meaning
     tester-no-selector d = let n = ap role-meaning (sym d) ∙ role-is in let k : _≡_ {A = ℕ} 0 1 = cc in omega arith
 
-    pub tester-answers : {args u : List ℕ} {l : ℕ} {d : SymbolId.SymbolId} {t : TCheck.TCheck} → args ≡ children (context c) x →
-        ρ ≡ DtRole.the-variants.Tester d → Disagrees c e w l (d .0) (getD args 0 0) t u → TesterConflict c e w l x t u
+    pub tester-answers : {u : List ℕ} {l : ℕ} {d : SymbolId.SymbolId} {t : TCheck.TCheck} →
+        ρ ≡ DtRole.the-variants.Tester d → Disagrees e l (d .0) arg k t u → Against c e l x arg k t u
     unfolding role-meaning
-    tester-answers {args} {u} {l} {d} q h y = record {
-      app = record { app = x; tester = tested .0; ctor = tested .1; arg = tested .2 };
-      is-tester = tested .6;
-      conflict = λ s lv.
-          y .conflict s lv (record { app = x; tester = tested .0; ctor = tested .1; arg = tested .2 })
-          (tester-of (tested .1) (d .0) (sym role-is ∙ ap role-meaning h)) (sym (ap (λ (xs : List ℕ). getD xs 0 0) (arg-is q)));
+    tester-answers {u} {l} {d} h y = record {
+      app = record { app = x; tester = by-kind .0; ctor = by-kind .1; arg = by-kind .2 };
+      is-tester = by-kind .6;
+      conflict = λ s w lv q.
+          y .conflict c s w lv (record { app = x; tester = by-kind .0; ctor = by-kind .1; arg = by-kind .2 })
+          (tester-of (by-kind .1) (d .0) (sym role-is ∙ ap role-meaning h)) same q;
       readable = y .readable;
     }
+      where
+        same : by-kind .2 ≡ arg
+        same = ap (λ (xs : List ℕ). getD xs 0 0) (sym (by-kind .5) ∙ z .arg-is)
+
+-- in a check, by the work table
+pub check-against : {c e w o args : List ℕ} {x : ℕ} {k : CtorOf.CtorOf} → TesterAsked c e w x o → args ≡ children (context c) x →
+    CtorOfClass c e w (getD args 0 0) k → AgainstAsked c e x (getD args 0 0) k o
+check-against {c} {x = x} z q f = record {
+  core = z .core;
+  formed = z .formed;
+  signed = z .signed;
+  tester = z .tester;
+  arg-is = arg-is c x (z .core) (z .formed) (z .signed) (z .tester) q;
+  found = record {
+    engine = z .engine;
+    first = arg-within c x (z .core) (z .formed) (z .signed) (z .tester) q;
+    equal = found-equal (z .core) f;
+    long = z .long;
+  };
+}
+
+pub class-asked : {c e w o args : List ℕ} {x : ℕ} → TesterAsked c e w x o → args ≡ children (context c) x →
+    ClassAsked c e w (getD args 0 0)
+class-asked {c} {x = x} z q = record {
+  core = z .core;
+  signed = z .signed;
+  engine = z .engine;
+  work = z .work;
+  is-node = arg-within c x (z .core) (z .formed) (z .signed) (z .tester) q;
+}
+
+-- outside a check, by the marks of the solver's table
+pub assert-against : {c e s o args : List ℕ} {x : ℕ} {k : CtorOf.CtorOf} → AssertAsked c e s x o → args ≡ children (context c) x →
+    CtorOfClass c e (marks-only s) (getD args 0 0) k → AgainstAsked c e x (getD args 0 0) k o
+assert-against {c} {x = x} z q f = record {
+  core = z .core;
+  formed = z .formed;
+  signed = z .signed;
+  tester = z .tester;
+  arg-is = arg-is c x (z .core) (z .formed) (z .signed) (z .tester) q;
+  found = record {
+    engine = z .tables .engine;
+    first = arg-within c x (z .core) (z .formed) (z .signed) (z .tester) q;
+    equal = found-equal (z .core) f;
+    long = z .long;
+  };
+}
+
+pub now-asked : {c e s o args : List ℕ} {x : ℕ} → AssertAsked c e s x o → args ≡ children (context c) x → NowAsked c e s (getD args 0 0)
+now-asked {c} {x = x} z q = record {
+  core = z .core;
+  tables = z .tables;
+  marks = z .marks;
+  announced = z .announced;
+  is-node = arg-within c x (z .core) (z .formed) (z .signed) (z .tester) q;
+}
+
+-- the conflict that was found is that of the class
+pub against-class : {c e w o : List ℕ} {l x arg : ℕ} {k : CtorOf.CtorOf} {r : TCheck.TCheck} → CtorOfClass c e w arg k →
+    Against c e l x arg k r o → TesterConflict c e w l x r o
+against-class {w = w} f y = record {
+  app = y .app;
+  is-tester = y .is-tester;
+  conflict = λ s lv. y .conflict s w lv f;
+  readable = y .readable;
+}
 
 -- ---- the level record
 

@@ -1,22 +1,25 @@
 -- Collection: from one table to the next only terms below the collected one are marked, and no mark is taken back. A collected term has
 -- its children collected, so everything below it has its mark: the marks are those of `new-var`.
-use Rattle.core.proofs.Kit.{ℕ, zero, suc, _+_, _≤_, _<_, _≡_, refl, sym, ap, _∙_, subst, _⊎_, inl, inr, Bool, true, cond, false≢true, List, [], _∷_, arith, ℕ-discrete, below-more, T, ne-eqb, length, getD}
-use Rattle.core.specs.Limits.{max-terms}
+use Rattle.core.proofs.Kit.{ℕ, zero, suc, _+_, _/_, _≤_, _<_, _≡_, refl, sym, ap, _∙_, subst, _⊎_, inl, inr, Bool, true, cond, false≢true, List, [], _∷_, arith, ℕ-discrete, below-more, T, length, getD}
+use Rattle.core.specs.Limits.{max-terms, table-words}
 use Rattle.core.specs.Lists.{In, mem, keep}
 use Rattle.core.specs.Context.{children}
 use Rattle.core.specs.Formed.{Beneath}
 use Rattle.core.specs.Memory.Words.{at, put, Kept}
 use Rattle.core.specs.Memory.Table.{context}
+use Rattle.core.proofs.Memory.Stores.{other-place}
 use Rattle.core.proofs.Lists.{T-true, true-T, keep-in}
 use Rattle.theory.specs.Atom.{Registered}
 use Rattle.theory.specs.Memory.Registry.{atoms}
 use Rattle.solver.specs.State.{with-marks, with-dt}
 use Rattle.solver.specs.Records.{relevant, collect, new-var}
-use Rattle.solver.specs.Memory.Table.{COUNTS, RECORDS, MARK, COLLECTED, LASTING, EMITTED, SPLIT, REC-ATOM, solver-room, records#, is-set, flagged-from, term-kind, state, state-with, dt-with, SolverSound, CollectedSound, StateSound}
-use Rattle.solver.specs.Memory.Recording.{Collecting, Spreads, Collects, CollectsChildren, CollectsVar}
+use Rattle.solver.specs.Memory.Table.{COUNTS, RECORDS, BLOCK, block-terms, MARK, COLLECTED, LASTING, EMITTED, SPLIT, REC-ATOM, solver-room, records#, is-set, flagged-from, term-kind, state, state-with, dt-with, SolverSound, CollectedSound, StateSound}
+use Rattle.solver.specs.Memory.Recording.{with-mark, Collecting, Spreads, Collects, CollectsChildren, CollectsVar}
 use Rattle.solver.proofs.Basics.{mem-in, in-mem, by-test}
 use Rattle.solver.proofs.Collection.{children-lower, new-var-marks}
-use Rattle.solver.proofs.Memory.TableStores.{stores, kept-put}
+use Rattle.solver.proofs.Memory.TableStores.{other, stores, kept-none, kept-put}
+use Rattle.solver.proofs.Memory.Announcing as Announcing
+use Rattle.solver.proofs.Memory.Announcing.{mark-long, mark-same, mark-kept, mark-announced}
 use Rattle.solver.proofs.Memory.Flags.{has, members, members-same, mem-members, insert-all, flagged-in, in-flagged}
 use Rattle.solver.proofs.Memory.Frames.{registry-kept, flagged-kept, level-record-kept, solver-kept}
 use Rattle.solver.proofs.Memory.Roles.{kind-within, kind-relevant}
@@ -43,6 +46,7 @@ collecting z = record {
   signed = z .signed;
   solver = z .solver;
   marks = z .marks;
+  announced = z .announced;
   collected = z .collected;
 }
 
@@ -129,25 +133,46 @@ collect-known {s = s} {x = x} {w = w} z e n = record { spreads = spreads-none x 
 
 -- one whose children have been collected: it gets its mark, and is collected
 module _ {c s t t₁ u : List ℕ} {x k : ℕ} (z : Collecting c s) (w : x < length (context c .terms)) (a : CollectsChildren c s x t)
-    (kind : k ≡ term-kind (context c) x) (e₁ : t₁ ≡ put t MARK x k) (e₂ : u ≡ put t₁ COLLECTED x 1) where
+    (kind : k ≡ term-kind (context c) x) (e₁ : t₁ ≡ with-mark t x k) (e₂ : u ≡ put t₁ COLLECTED x 1) where
   room : x < max-terms
   room = let n = few z in omega arith
 
+  wide : table-words ≤ length t
+  wide = a .spreads .tables .solver .long
+
+  -- the flag of x changes no mark
+  mark-then : (y : ℕ) → y < max-terms → at u MARK y ≡ at (with-mark t x k) MARK y
+  mark-then y h =
+      ap (λ (v : List ℕ). at v MARK y) e₂ ∙ other t₁ MARK COLLECTED y x 1 tt h room ∙ ap (λ (v : List ℕ). at v MARK y) e₁
+
   mark-here : at u MARK x ≡ term-kind (context c) x
-  mark-here = let l = a .spreads .tables .solver .long in let r = room in search (e₂, e₁, stores) ∙ kind
+  mark-here = mark-then x room ∙ mark-same t x k room wide ∙ kind
 
   mark-other : (y : ℕ) → y < max-terms → (y ≡ x → ⊥) → at u MARK y ≡ at t MARK y
-  mark-other y h d = let l = a .spreads .tables .solver .long in let r = room in search (e₂, e₁, ne-eqb y x d, stores)
+  mark-other y h d = mark-then y h ∙ Announcing.mark-other t x k room wide y h d
 
   flag-word : at u COLLECTED x ≡ 1
-  flag-word = let l = a .spreads .tables .solver .long in let r = room in search (e₂, e₁, stores)
+  flag-word =
+      let l : table-words ≤ length t₁ = subst (λ (v : List ℕ). table-words ≤ length v) (sym e₁) (mark-long t x k room wide) in
+      let r = room in
+      search (e₂, stores)
 
   flag-here : is-set (at u COLLECTED x) ≡ true
   unfolding is-set
   flag-here = ap is-set flag-word
 
+  -- the table but for the marks and the flags
+  all-kept : Kept solver-room (BLOCK ∷ MARK ∷ COLLECTED ∷ []) s u
+  all-kept =
+      let r = room in
+      subst (Kept solver-room (BLOCK ∷ MARK ∷ COLLECTED ∷ []) s) (sym (e₂ ∙ ap (λ (v : List ℕ). put v COLLECTED x 1) e₁))
+      (kept-put (BLOCK ∷ MARK ∷ COLLECTED ∷ []) s (with-mark t x k) COLLECTED x 1 tt r
+      (mark-kept t x k r (BLOCK ∷ MARK ∷ COLLECTED ∷ []) s tt tt (a .spreads .kept)))
+
   flag-other : (y : ℕ) → y < max-terms → (y ≡ x → ⊥) → at u COLLECTED y ≡ at t COLLECTED y
-  flag-other y h d = let l = a .spreads .tables .solver .long in let r = room in search (e₂, e₁, ne-eqb y x d, stores)
+  flag-other y h d =
+      ap (λ (v : List ℕ). at v COLLECTED y) e₂ ∙ other-place t₁ COLLECTED x y 1 d ∙ ap (λ (v : List ℕ). at v COLLECTED y) e₁
+      ∙ mark-kept t x k room (BLOCK ∷ MARK ∷ []) t tt tt (kept-none (BLOCK ∷ MARK ∷ []) t) .rest COLLECTED y tt h
 
   flags-stay : (y : ℕ) → y < max-terms → is-set (at t COLLECTED y) ≡ true → is-set (at u COLLECTED y) ≡ true
   flags-stay y h q = go (ℕ-discrete y x)
@@ -155,13 +180,6 @@ module _ {c s t t₁ u : List ℕ} {x k : ℕ} (z : Collecting c s) (w : x < len
       go : Dec (y ≡ x) → is-set (at u COLLECTED y) ≡ true
       go (yes e) = subst (λ (v : ℕ). is-set (at u COLLECTED v) ≡ true) (sym e) flag-here
       go (no d) = ap is-set (flag-other y h d) ∙ q
-
-  all-kept : Kept solver-room (MARK ∷ COLLECTED ∷ []) s u
-  all-kept =
-      let r = room in
-      subst (Kept solver-room (MARK ∷ COLLECTED ∷ []) s) (sym (e₂ ∙ ap (λ (t′ : List ℕ). put t′ COLLECTED x 1) e₁))
-      (kept-put (MARK ∷ COLLECTED ∷ []) s (put t MARK x k) COLLECTED x 1 tt r
-      (kept-put (MARK ∷ COLLECTED ∷ []) s t MARK x k tt r (a .spreads .kept)))
 
   -- what was collected before is so still
   still : (y : ℕ) → y < max-terms → (y ≡ x → ⊥) → CollectedSound (context c) t y → CollectedSound (context c) u y
@@ -178,6 +196,7 @@ module _ {c s t t₁ u : List ℕ} {x k : ℕ} (z : Collecting c s) (w : x < len
     signed = z .signed;
     solver = solver-kept all-kept tt tt tt tt (z .solver);
     marks = λ y h. mark y h (ℕ-discrete y x);
+    announced = λ y h q. announced y h (sym (mark-then y h) ∙ q);
     collected = λ y h q. sound y h q (ℕ-discrete y x);
   }
     where
@@ -185,6 +204,14 @@ module _ {c s t t₁ u : List ℕ} {x k : ℕ} (z : Collecting c s) (w : x < len
       mark y h (yes e) = inr (subst (λ (v : ℕ). at u MARK v ≡ term-kind (context c) v) (sym e) mark-here)
       mark y h (no d) =
           subst (λ (v : ℕ). (v ≡ 0) ⊎ (v ≡ term-kind (context c) y)) (sym (mark-other y h d)) (a .spreads .tables .marks y h)
+
+      -- the flag of x changes no block
+      announced : (y : ℕ) → y < max-terms → at (with-mark t x k) MARK y ≡ 1 → is-set (at u BLOCK (y / block-terms)) ≡ true
+      announced y h q =
+          ap (λ (v : List ℕ). is-set (at v BLOCK (y / block-terms))) e₂
+          ∙ ap is-set (other t₁ BLOCK COLLECTED (y / block-terms) x 1 tt (omega arith) room)
+          ∙ ap (λ (v : List ℕ). is-set (at v BLOCK (y / block-terms))) e₁
+          ∙ mark-announced t x k room wide (a .spreads .tables .announced) y h q
 
       own : CollectedSound (context c) u x
       own = record {
@@ -223,7 +250,7 @@ module _ {c s t t₁ u : List ℕ} {x k : ℕ} (z : Collecting c s) (w : x < len
 
 -- ---- the state that the tables mean
 
-module _ {s u : List ℕ} (k : Kept solver-room (MARK ∷ COLLECTED ∷ []) s u) where
+module _ {s u : List ℕ} (k : Kept solver-room (BLOCK ∷ MARK ∷ COLLECTED ∷ []) s u) where
   -- but for its marks
   same-state : (c e : List ℕ) (lv : ℕ → ℕ) (ms : List ℕ) → SolverSound s → state-with c e u lv ms ≡ state-with c e s lv ms
   unfolding state-with dt-with
@@ -250,6 +277,7 @@ spreads-sound {c} {e} {s} {u} a z =
       registered = subst (λ (t : List ℕ). (r : Registered) → In r (atoms t) → r .atom < length (context c .terms))
           (sym (registry-kept k tt (z .solver .long))) (z .registered);
       marks = a .tables .marks;
+      announced = a .tables .announced;
       collected = a .tables .collected;
       lasting = λ x h q. z .lasting x h (sym (ap is-set (k .rest LASTING x tt h)) ∙ q);
       records = λ i h. ap (term-kind (context c)) (k .rest REC-ATOM i tt (omega arith)) ∙ z .records i (omega arith);

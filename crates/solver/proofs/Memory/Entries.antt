@@ -14,7 +14,7 @@ use Rattle.theory.proofs.Members.{Apart, in-left, in-right, in-any, apart-lengt
 use Rattle.solver.specs.State.{AssertedTester, with-dt, with-level-record, with-lasting}
 use Rattle.solver.specs.Memory.Table.{COUNTS, RECORDS, MARK, COLLECTED, LASTING, EMITTED, SPLIT, RECORDED, REC-ATOM, REC-LIT, solver-room, records#, is-set, flagged, term-kind, asserted-at, level-record, dt-with, state-with, state, SolverSound, CollectedSound, StateSound}
 use Rattle.solver.specs.Memory.Levels.{RecordsSound, Dropped, NewEntry, Entered}
-use Rattle.solver.proofs.Memory.Frames.{registry-kept, flagged-kept}
+use Rattle.solver.proofs.Memory.Frames.{registry-kept, flagged-kept, announced-kept}
 use Rattle.solver.proofs.Memory.Growing.{kind-within}
 use Rattle.solver.proofs.Memory.TableStores.{kept-none, stores}
 
@@ -329,6 +329,7 @@ module _ {c e s u : List ℕ} (z : StateSound c e s) (k : Kept solver-room recor
         subst (λ (t : List ℕ). (x : Registered) → In x (atoms t) → x .atom < length (context c .terms))
         (sym (registry-kept k tt (z .solver .long))) (z .registered);
     marks = λ x h. subst (λ (v : ℕ). (v ≡ 0) ⊎ (v ≡ term-kind (context c) x)) (sym (k .rest MARK x tt h)) (z .marks x h);
+    announced = announced-kept k tt tt (z .announced);
     collected = λ x h q. still-collected x h (z .collected x h (sym (ap is-set (k .rest COLLECTED x tt h)) ∙ q));
     lasting = l;
     records = r;

@@ -1,5 +1,5 @@
 -- What stores in some regions leave of the registry, of a set of flags and of the level record.
-use Rattle.core.proofs.Kit.{ℕ, _≤_, _<_, _≡_, sym, ap, _∙_, subst, _⊎_, List, T, eqb, arith, length, getD, ext-getD, getD-take, length-take-le, zero-add}
+use Rattle.core.proofs.Kit.{ℕ, _/_, _≤_, _<_, _≡_, sym, ap, _∙_, subst, _⊎_, List, T, eqb, arith, length, getD, ext-getD, getD-take, length-take-le, zero-add}
 use Rattle.core.specs.Limits.{max-terms, table-words}
 use Rattle.core.specs.Lists.{In, Apart, any}
 use Rattle.core.specs.Memory.Words.{at, counted, clear-of, Kept}
@@ -7,7 +7,7 @@ use Rattle.core.specs.Memory.Table.{context}
 use Rattle.core.proofs.Memory.Counted.{counted-same}
 use Rattle.theory.specs.Atom.{Registered}
 use Rattle.theory.specs.Memory.Registry.{registry-size, atoms, RegistrySound}
-use Rattle.solver.specs.Memory.Table.{REGISTRY, COUNTS, RECORDS, MARK, COLLECTED, LASTING, RECORDED, REC-ATOM, REC-LIT, solver-room, records#, registry, is-set, flagged-from, term-kind, asserted-at, level-record, SolverSound, CollectedSound, StateSound}
+use Rattle.solver.specs.Memory.Table.{REGISTRY, COUNTS, RECORDS, BLOCK, block-terms, MARK, COLLECTED, LASTING, RECORDED, REC-ATOM, REC-LIT, solver-room, records#, registry, is-set, flagged-from, term-kind, asserted-at, level-record, Announced, SolverSound, CollectedSound, StateSound}
 use Rattle.solver.proofs.Memory.Flags.{flagged-same}
 
 module _ {ws s u : List ℕ} (k : Kept solver-room ws s u) where
@@ -64,11 +64,16 @@ module _ {ws s u : List ℕ} (k : Kept solver-room ws s u) where
             ap is-set (k .rest RECORDED x c h) ∙ z .recorded x h ∙ ap (any (eqb x)) (sym same);
       }
 
+  pub announced-kept : T (clear-of solver-room BLOCK ws) → T (clear-of solver-room MARK ws) → Announced s → Announced u
+  announced-kept b m z x h q =
+      ap is-set (k .rest BLOCK (x / block-terms) b (omega arith)) ∙ z x h (sym (k .rest MARK x m h) ∙ q)
+
   -- and so do the three tables, by the marks, what is collected and the lasting record as well
   pub state-kept : {c e : List ℕ} → T (clear-of solver-room REGISTRY ws) → T (clear-of solver-room COUNTS ws) →
-      T (clear-of solver-room MARK ws) → T (clear-of solver-room COLLECTED ws) → T (clear-of solver-room LASTING ws) →
-      T (clear-of solver-room RECORDED ws) → T (clear-of solver-room REC-ATOM ws) → StateSound c e s → StateSound c e u
-  state-kept {c} {e} r n m d l f a z =
+      T (clear-of solver-room BLOCK ws) → T (clear-of solver-room MARK ws) → T (clear-of solver-room COLLECTED ws) →
+      T (clear-of solver-room LASTING ws) → T (clear-of solver-room RECORDED ws) → T (clear-of solver-room REC-ATOM ws) →
+      StateSound c e s → StateSound c e u
+  state-kept {c} {e} r n b m d l f a z =
       let fit = z .solver .records-fit in
       let count : records# u ≡ records# s = k .rest COUNTS RECORDS n (omega arith) in
       record {
@@ -80,6 +85,7 @@ module _ {ws s u : List ℕ} (k : Kept solver-room ws s u) where
         registered = subst (λ (t : List ℕ). (x : Registered) → In x (atoms t) → x .atom < length (context c .terms))
             (sym (registry-kept r (z .solver .long))) (z .registered);
         marks = λ x h. subst (λ (v : ℕ). (v ≡ 0) ⊎ (v ≡ term-kind (context c) x)) (sym (k .rest MARK x m h)) (z .marks x h);
+        announced = announced-kept b m (z .announced);
         collected = λ x h q. still x h (z .collected x h (sym (ap is-set (k .rest COLLECTED x d h)) ∙ q));
         lasting = λ x h q. z .lasting x h (sym (ap is-set (k .rest LASTING x l h)) ∙ q);
         records = λ i h. ap (term-kind (context c)) (k .rest REC-ATOM i a (omega arith)) ∙ z .records i (omega arith);

@@ -114,6 +114,7 @@ module _ (c c′ : List ℕ) (ex : Extends (context c) (context c′)) (sound : 
     solver = S .solver;
     registered = λ r i. let l = extends-length (context c) (context c′) ex in let h = S .registered r i in omega arith;
     marks = marks-kept (context c) (context c′) s MARK ex (S .marks);
+    announced = S .announced;
     collected = λ x l h. collected-grows s x (S .collected x l h);
     lasting = λ x l h. tester-stays x (S .lasting x l h);
     records = λ i l. tester-stays (at s REC-ATOM i) (S .records i l);

@@ -268,7 +268,7 @@ module _ (s : List ℕ) {x : ℕ} {s′ : List ℕ} (z : SolverSound s) (l : x <
 
   check-noted : (c e w : List ℕ) → CheckSound c e s w → CheckSound c e s′ w
   check-noted c e w C = record {
-    state = state-kept others-kept tt tt tt tt tt tt tt (C .state);
+    state = state-kept others-kept tt tt tt tt tt tt tt tt (C .state);
     work = C .work;
     more = λ y h q. C .more y h (sym (ap is-set (others-kept .rest MARK y tt h)) ∙ q) ∙ sym (others-kept .rest MARK y tt h);
   }

@@ -20,7 +20,7 @@ use Rattle.solver.specs.Memory.Table.{REGISTRY, COUNTS, RECORDS, MARK, C
 use Rattle.solver.specs.Memory.Recording.{flag-words, Wiped, SolverCleared, MayRegister, Registers}
 use Rattle.solver.proofs.Signature.{empty-signed}
 use Rattle.solver.proofs.Memory.Flags.{has, in-flagged, flagged-none}
-use Rattle.solver.proofs.Memory.Frames.{flagged-kept, level-record-kept}
+use Rattle.solver.proofs.Memory.Frames.{flagged-kept, level-record-kept, announced-kept}
 
 -- ---- the registry's part put back
 
@@ -112,6 +112,7 @@ module _ {c e s u : List ℕ} (k : Kept solver-room (REGISTRY ∷ []) s u) (z : 
         solver = solver-with k (z .solver) g;
         registered = b;
         marks = λ x h. subst (λ (v : ℕ). (v ≡ 0) ⊎ (v ≡ term-kind (context c) x)) (sym (k .rest MARK x tt h)) (z .marks x h);
+        announced = announced-kept k tt tt (z .announced);
         collected = λ x h q. still x h (z .collected x h (sym (ap is-set (k .rest COLLECTED x tt h)) ∙ q));
         lasting = λ x h q. z .lasting x h (sym (ap is-set (k .rest LASTING x tt h)) ∙ q);
         records = λ i h. ap (term-kind (context c)) (k .rest REC-ATOM i tt (omega arith)) ∙ z .records i (omega arith);
@@ -260,6 +261,7 @@ not-set (suc k) e = absurd (true≢false e)
 
 module _ {c e u : List ℕ} (core : ContextSound c) (empty : context c ≡ empty-context) (engine : Engine e [] 0) (z : SolverCleared u) where
   pub cleared-sound : StateSound c e u
+  unfolding is-set
   cleared-sound =
       let n = z .records in
       record {
@@ -270,6 +272,7 @@ module _ {c e u : List ℕ} (core : ContextSound c) (empty : context c ≡ empty
         solver = z .sound;
         registered = λ r i. absurd (subst (λ (rs : List Registered). In r rs) (z .atoms) i);
         marks = λ x h. inl (not-set (at u MARK x) (unflagged u MARK x (z .marks) h));
+        announced = λ x h q. absurd (true≢false (sym (ap is-set q) ∙ unflagged u MARK x (z .marks) h));
         collected = λ x h q. absurd (true≢false (sym q ∙ unflagged u COLLECTED x (z .collected) h));
         lasting = λ x h q. absurd (true≢false (sym q ∙ unflagged u LASTING x (z .lasting) h));
         records = λ i h. absurd (omega arith);

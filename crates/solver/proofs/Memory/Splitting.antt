@@ -599,7 +599,7 @@ module _ {s : List ℕ} (z : SolverSound s) {x : ℕ} (l : x < max-terms) where
 
   check-flagged : {c e w : List ℕ} → CheckSound c e s w → CheckSound c e flagged-split w
   check-flagged {c} {e} {w} C = record {
-    state = state-kept kept tt tt tt tt tt tt tt (C .state);
+    state = state-kept kept tt tt tt tt tt tt tt tt (C .state);
     work = C .work;
     more = λ y h q.
         let k = kept .rest MARK y tt h in
@@ -646,6 +646,7 @@ module _ {c : List ℕ} {x : ℕ} {p s : List ℕ} (y : Splittable c x p) (z : S
         unchanged = λ n. absurd (n refl);
         readable = M .listed q .sound;
       };
+      marks = λ y h. kept z small .rest MARK y tt h;
       answers = λ i. let k : _≡_ {A = ℕ} 0 1 = cc in omega arith;
     })
 
@@ -663,6 +664,7 @@ module _ {c : List ℕ} {x : ℕ} {p s : List ℕ} (y : Splittable c x p) (z : S
         unchanged = λ n. refl;
         readable = tt;
       };
+      marks = λ y h. refl;
       answers = λ i. let k : _≡_ {A = ℕ} 0 1 = cc in omega arith;
     }
 

@@ -20,7 +20,7 @@ use Rattle.theory.proofs.Sizes.{find-within}
 use Rattle.theory.proofs.Memory.Log.{merges-within}
 use Rattle.solver.specs.declared.work.CtorOf as CtorOf
 use Rattle.solver.specs.Memory.Table.{is-set, flagged-from, term-kind, MarksAre}
-use Rattle.solver.specs.Memory.Work.{W-MARK, ROOT, LOWEST, apps-from, first-in-class, app-word, lower-word, work-room, work-size, ctor-meaning, ClassAsked, CtorOfClass, Lowered, Markable, Marked}
+use Rattle.solver.specs.Memory.Work.{W-MARK, ROOT, LOWEST, apps-from, first-in-class, app-word, lower-word, work-room, work-size, ctor-meaning, ClassAsked, CtorOfClass, NameAsked, NamesApp, Lowered, Markable, Marked}
 use Rattle.solver.proofs.Basics.{by-test, none-some, some-is, first-some, gather-in}
 use Rattle.solver.proofs.Apps.{IsCtor, ctor-app-is, op-is, app-within}
 use Rattle.solver.proofs.Memory.Roles.{kind-ctor, kind-no-ctor, kind-within}
@@ -253,10 +253,12 @@ app-made : {k f : ℕ} {fs : List ℕ} (a : CtorApp) → k ≡ a .app → f ≡ 
     record { app = k; ctor = f; fields = fs } ≡ a
 app-made a p q r = rw (p, q, r)
 
-module _ {c e w : List ℕ} {x root word : ℕ} (z : ClassAsked c e w x) (p : root ≡ find (merges e) x) (q : word ≡ at w LOWEST root) where
-  abbrev is-word : word ≡ class-word (context c) (merges e) w x 0
-  is-word = q ∙ ap (at w LOWEST) p ∙ z .work .lowest x (z .is-node)
+-- the word of a class
+pub root-word : {c e w : List ℕ} {x root word : ℕ} → ClassAsked c e w x → root ≡ find (merges e) x → word ≡ at w LOWEST root →
+    word ≡ class-word (context c) (merges e) w x 0
+root-word {w = w} {x = x} z p q = q ∙ ap (at w LOWEST) p ∙ z .work .lowest x (z .is-node)
 
+module _ (c e w : List ℕ) (x word : ℕ) (is-word : word ≡ class-word (context c) (merges e) w x 0) where
   pub no-ctor : word ≡ 0 → CtorOfClass c e w x CtorOf.the-variants.Nothing
   unfolding ctor-meaning
   no-ctor d = record {
@@ -297,6 +299,26 @@ module _ {c e w : List ℕ} {x root word : ℕ} (z : ClassAsked c e w x) (p : ro
 
       same : record { app = y .0; ctor = f .0; fields = children (context c) (y .0) } ≡ a .app
       same = app-made (a .app) (n ∙ sym (a .ctor .app)) ctor-is (ap (children (context c)) n ∙ a .ctor .args)
+
+-- what a word names, by the code's three ways
+module _ (c : List ℕ) (word : ℕ) where
+  pub names-none : word ≡ 0 → NamesApp c word CtorOf.the-variants.Nothing
+  names-none d = record { names = λ e w x q. no-ctor c e w x word q d }
+
+  pub names-equation : {o : Op.Op} → (word ≡ 0 → ⊥) → OpAt c (word - 1) o → o ≡ Op.the-variants.Eq →
+      NamesApp c word CtorOf.the-variants.Nothing
+  names-equation d r s = record { names = λ e w x q. absurd (no-equation c e w x word q d r s) }
+
+  pub names-ctor : {o : Op.Op} {f : SymbolId.SymbolId} {y : TermId.TermId} → (word ≡ 0 → ⊥) → OpAt c (word - 1) o →
+      o ≡ Op.the-variants.Uninterpreted f → y .0 ≡ word - 1 → NamesApp c word (CtorOf.the-variants.At f y)
+  names-ctor d r s n = record { names = λ e w x q. the-ctor c e w x word q d r s n }
+
+module _ {c e w : List ℕ} {x root word : ℕ} (z : ClassAsked c e w x) (p : root ≡ find (merges e) x) (q : word ≡ at w LOWEST root) where
+  pub class-named : NameAsked c word
+  class-named = record { core = z .core; within = lowest-within c e w x word (root-word z p q) }
+
+  pub class-answer : {r : CtorOf.CtorOf} → NamesApp c word r → CtorOfClass c e w x r
+  class-answer a = a .names e w x (root-word z p q)
 
 -- ---- the lowest of a class lowered
 

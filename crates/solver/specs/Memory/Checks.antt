@@ -1,22 +1,24 @@
 -- What a check promises.
-use Prim.Native.Nat.{ℕ, _≤_}
+use Prim.Native.Nat.{ℕ, _≤_, _<_}
 use mathlib.Core.Path.{_≡_}
 use mathlib.Core.Bool.{Bool, true, false, cond}
 use mathlib.Core.List.{List}
 use mathlib.Core.Option.{none, some}
 use lib.ListN.{length}
-use Rattle.core.specs.Limits.{table-words}
+use Rattle.core.specs.Limits.{max-terms, table-words}
 use Rattle.core.specs.Context.{terms-fit}
-use Rattle.core.specs.Formed.{Extends}
-use Rattle.core.specs.Memory.Table.{context}
+use Rattle.core.specs.Formed.{Formed, Signed, Extends}
+use Rattle.core.specs.Memory.Words.{at}
+use Rattle.core.specs.Memory.Table.{context, ContextSound}
 use Rattle.theory.specs.Memory.Answer.{answer-size}
 use Rattle.solver.specs.State.{State}
 use Rattle.solver.specs.Rules.{Ruled, pass, then, tester-clash, instantiate-injectivity-selectors, collapse-lemma, tester-lemma, instantiate-constructor, exhaustiveness-split, unknown-fence}
 use Rattle.solver.specs.Ring.{constructor-graph-find-cycle}
 use Rattle.solver.specs.Check.{Checked, ring-answer, check, full-check}
 use Rattle.solver.specs.declared.answer.TCheck as TCheck
-use Rattle.solver.specs.Memory.Table.{state, StateSound}
-use Rattle.solver.specs.Memory.Work.{Blank, work-size, state-at, ChainSound, CheckSound}
+use Rattle.solver.specs.Memory.Table.{MARK, state, SolverSound, StateSound}
+use Rattle.solver.specs.Memory.Recording.{NoneAnnounced, NoneLasting}
+use Rattle.solver.specs.Memory.Work.{Blank, work-size, marks-only, state-at, ChainSound, CheckSound}
 use Rattle.solver.specs.Memory.Answer.{answer-meaning, Readable}
 use Rattle.solver.specs.Memory.Making.{Making}
 
@@ -99,10 +101,23 @@ pub record MarksFit (s w : List ℕ) : Type 0 where
   pub table : table-words ≤ length s
   pub work : work-size ≤ length w
 
--- the marks of the work table are the solver's now
-pub record KeepsMarks (s w s′ : List ℕ) : Type 0 where
-  pub sound : (c e : List ℕ) → CheckSound c e s w → StateSound c e s′
-  pub view : (c e : List ℕ) (lv : ℕ → ℕ) → CheckSound c e s w → state c e s′ lv ≡ state-at c e s w lv
+-- the marks of the work table are the solver's now; n terms are there
+pub record KeepsMarks (n : ℕ) (s w s′ : List ℕ) : Type 0 where
+  pub sound : (c e : List ℕ) → CheckSound c e s w → n ≡ length (context c .terms) → StateSound c e s′
+  pub view : (c e : List ℕ) (lv : ℕ → ℕ) → CheckSound c e s w → n ≡ length (context c .terms) → state c e s′ lv ≡ state-at c e s w lv
+
+-- the watched terms may be split on
+pub record WatchedAsked (c s o : List ℕ) : Type 0 where
+  pub core : ContextSound c
+  pub formed : Formed (context c)
+  pub signed : Signed (context c)
+  pub solver : SolverSound s
+  pub long : answer-size ≤ length o
+
+-- a full check where no constructor application is marked and no tester was asserted: no mark is set
+pub record ChecksWatched (c s : List ℕ) (r : TCheck.TCheck) (c′ s′ o : List ℕ) : Type 0 where
+  pub fully : (e : List ℕ) → StateSound c e s → NoneAnnounced s → NoneLasting c s → ChecksFully c e s r c′ s′ (marks-only s) o
+  pub marks : (x : ℕ) → x < max-terms → at s′ MARK x ≡ at s MARK x
 
 -- A check: its answer and its state are the definition's if they fit, else it is refused and nothing changes.
 pub record Checks (full : Bool) (c e s : List ℕ) (r : TCheck.TCheck) (c′ s′ o : List ℕ) : Type 0 where
@@ -113,3 +128,8 @@ pub record Checks (full : Bool) (c e s : List ℕ) (r : TCheck.TCheck) (c′ s�
   pub view : (lv : ℕ → ℕ) →
       state c′ e s′ lv ≡ cond (terms-fit (check full (state c e s lv) .state .terms)) (check full (state c e s lv) .state) (state c e s lv)
   pub readable : Readable r o
+
+-- A full check; with no room the terms made are still there.
+pub record ChecksKept (c e s : List ℕ) (r : TCheck.TCheck) (c′ s′ o : List ℕ) : Type 0 where
+  pub fits : has-room r ≡ true → Checks true c e s r c′ s′ o
+  pub refused : has-room r ≡ false → (w : List ℕ) × ChecksFully c e s r c′ s′ w o

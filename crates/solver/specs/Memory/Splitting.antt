@@ -6,6 +6,7 @@ use mathlib.Core.Bool.{Bool, true, false, not, _&&_}
 use mathlib.Core.List.{List, [], foldl, map}
 use mathlib.Core.Option.{none, some}
 use lib.ListN.{length}
+use Rattle.core.specs.Limits.{max-terms}
 use Rattle.core.specs.Lists.{first}
 use Rattle.core.specs.Context.{builds, sort-of, is-datatype-sort, dt-constructors, terms-fit}
 use Rattle.core.specs.Formed.{Formed, Signed, Extends}
@@ -18,8 +19,10 @@ use Rattle.solver.specs.Records.{is-some}
 use Rattle.solver.specs.Rules.{Phase, Testers, make-tester, phase, split-on, to-split, has-undetermined-class}
 use Rattle.solver.specs.declared.answer.TCheck as TCheck
 use Rattle.solver.specs.declared.exhaustiveness.Undetermined as Undetermined
-use Rattle.solver.specs.Memory.Table.{is-set}
-use Rattle.solver.specs.Memory.Work.{W-MARK, state-at, apps-from, first-in-class, CheckSound}
+use Rattle.core.specs.declared.ids.TermId.{TermId}
+use Rattle.solver.specs.Memory.Table.{MARK, is-set, StateSound}
+use Rattle.solver.specs.Memory.Recording.{NoneAnnounced}
+use Rattle.solver.specs.Memory.Work.{W-MARK, state-at, apps-from, first-in-class, marks-only, CheckSound}
 use Rattle.solver.specs.Memory.Answer.{split-atoms, split-guard, split-phases, SplitSound, TesterRoom, TesterPushed, Tried}
 
 -- ---- watched terms
@@ -42,6 +45,11 @@ Found Undetermined.the-variants.Nothing s = (first (to-split s) (watched-dt-term
 
 pub record Passed (c e s w : List ℕ) (r : Undetermined.Undetermined) : Type 0 where
   pub is : (lv : ℕ → ℕ) → Found r (state-at c e s w lv)
+
+-- the watched terms where no constructor application is marked: their classes have none
+pub record Watches (c s : List ℕ) (r : Undetermined.Undetermined) : Type 0 where
+  pub within : (x : TermId) → r ≡ Undetermined.the-variants.Split x → x .0 < length (context c .terms)
+  pub passed : (e : List ℕ) → StateSound c e s → NoneAnnounced s → Passed c e s (marks-only s) r
 
 -- ---- a split
 
@@ -98,4 +106,5 @@ pub record MakesTesters (c : List ℕ) (x : ℕ) (r : Bool) (c′ o : List ℕ) 
 
 pub record SplitsOn (c s : List ℕ) (x : ℕ) (r : TCheck.TCheck) (c′ s′ o : List ℕ) : Type 0 where
   pub tried : (e w : List ℕ) → CheckSound c e s w → Tried (λ z. split-on z x) c e s w r c′ s′ w o
+  pub marks : (y : ℕ) → y < max-terms → at s′ MARK y ≡ at s MARK y
   pub answers : r ≡ TCheck.the-variants.Sat → ⊥

@@ -1,5 +1,5 @@
 -- The lent table of this layer: where each part stands, what a table means, and when the three tables fit together.
-use Prim.Native.Nat.{ℕ, zero, suc, _-_, _≤_, _<_}
+use Prim.Native.Nat.{ℕ, zero, suc, _-_, _/_, _≤_, _<_}
 use mathlib.Core.Path.{_≡_}
 use mathlib.Core.Logic.{_⊎_}
 use mathlib.Core.Bool.{Bool, true, false, cond, _||_}
@@ -32,6 +32,16 @@ COUNTS = 3136
 abbrev pub RECORDS : ℕ
 RECORDS = 0
 
+-- for each block of terms: whether a constructor application may be marked in it
+abbrev pub BLOCK : ℕ
+BLOCK = 3168
+
+abbrev pub blocks : ℕ
+blocks = 32
+
+abbrev pub block-terms : ℕ
+block-terms = 32
+
 -- for each term: what it was marked as, or 0; whether it was collected, whether it stands in the lasting record, was handed out,
 -- was split on, stands in the level record
 abbrev pub MARK : ℕ
@@ -63,7 +73,8 @@ REC-LIT = 10368
 abbrev pub layout : List (ℕ × ℕ)
 layout =
     (REGISTRY, registry-size)
-    ∷ (COUNTS, 64)
+    ∷ (COUNTS, 32)
+    ∷ (BLOCK, blocks)
     ∷ (MARK, max-terms)
     ∷ (COLLECTED, max-terms)
     ∷ (LASTING, max-terms)
@@ -123,6 +134,10 @@ watched-kind k = eqb k 1 || eqb k 3 || eqb k 5
 abbrev pub MarksAre : Context → List ℕ → ℕ → Type 0
 MarksAre cx t b = (x : ℕ) → x < max-terms → (at t b x ≡ 0) ⊎ (at t b x ≡ term-kind cx x)
 
+-- a marked constructor application is announced in its block
+abbrev pub Announced : List ℕ → Type 0
+Announced s = (x : ℕ) → x < max-terms → at s MARK x ≡ 1 → is-set (at s BLOCK (x / block-terms)) ≡ true
+
 -- ---- what a table means
 
 -- The level that an entry of the level record came at is known by the caller's mark counts: `lv` gives it for entry i.
@@ -181,6 +196,7 @@ pub record StateSound (c e s : List ℕ) : Type 0 where
   pub solver : SolverSound s
   pub registered : (r : Registered) → In r (atoms (registry s)) → r .atom < length (context c .terms)
   pub marks : MarksAre (context c) s MARK
+  pub announced : Announced s
   pub collected : (x : ℕ) → x < max-terms → is-set (at s COLLECTED x) ≡ true → CollectedSound (context c) s x
   -- the atoms of both records are tester applications
   pub lasting : (x : ℕ) → x < max-terms → is-set (at s LASTING x) ≡ true → term-kind (context c) x ≡ 4

@@ -1,6 +1,6 @@
 -- The work table of a check, a local array: the marks, the root of each term, and for each class its marked constructor
 -- applications, ascending. A check works on these marks, so that a check that does not fit has none to take back.
-use Prim.Native.Nat.{ℕ, zero, suc, _+_, _≤_, _<_}
+use Prim.Native.Nat.{ℕ, zero, suc, _+_, _-_, _*_, _≤_, _<_}
 use mathlib.Core.Path.{_≡_}
 use mathlib.Core.Logic.{_⊎_}
 use mathlib.Core.Bool.{true, cond}
@@ -12,13 +12,13 @@ use Rattle.core.specs.Limits.{max-terms, table-words}
 use Rattle.core.specs.Lists.{first, gather, insert}
 use Rattle.core.specs.Context.{Context, CtorApp, ctor-app, children}
 use Rattle.core.specs.Formed.{Signed}
-use Rattle.core.specs.Memory.Words.{at, put, room-in, Kept}
+use Rattle.core.specs.Memory.Words.{at, put, room-in, counted, Kept}
 use Rattle.core.specs.Memory.Table.{context, ContextSound}
 use Rattle.theory.specs.EqEngine.{Merge, find, are-equal}
 use Rattle.theory.specs.Memory.Table.{merges, EngineSound}
 use Rattle.solver.specs.State.{State}
 use Rattle.solver.specs.declared.work.CtorOf as CtorOf
-use Rattle.solver.specs.Memory.Table.{MARK, term-kind, is-set, flagged-from, MarksAre, state-with, StateSound}
+use Rattle.solver.specs.Memory.Table.{MARK, block-terms, term-kind, is-set, flagged-from, MarksAre, Announced, state-with, StateSound}
 
 -- ---- the layout
 
@@ -115,6 +115,47 @@ pub record CtorOfClass (c e w : List ℕ) (x : ℕ) (r : CtorOf.CtorOf) : Type 0
   pub is : ctor-meaning (context c) r ≡ first-in-class (merges e) x (apps-from (context c) w 0)
   pub within : (a : CtorApp) → ctor-meaning (context c) r ≡ some a → a .app < length (context c .terms)
   pub declared : (a : CtorApp) → ctor-meaning (context c) r ≡ some a → a .ctor < length (context c .symbols)
+
+-- The word may stand for a term; if it stands for the first application of a class, its answer is that of `ctor_of_class`.
+pub record NameAsked (c : List ℕ) (word : ℕ) : Type 0 where
+  pub core : ContextSound c
+  pub within : (word ≡ 0 → ⊥) → word - 1 < length (context c .terms)
+
+pub record NamesApp (c : List ℕ) (word : ℕ) (r : CtorOf.CtorOf) : Type 0 where
+  pub names : (e w : List ℕ) (x : ℕ) → word ≡ app-word (first-in-class (merges e) x (apps-from (context c) w 0)) → CtorOfClass c e w x r
+
+-- ---- the solver's marks without a work table
+
+-- a work table that has these marks and nothing else: no function makes it, but what the definition asks of marks is asked of it
+unfoldable pub marks-only : List ℕ → List ℕ
+marks-only s = counted (λ i. cond (ltb i max-terms) (at s MARK i) 0) work-size
+
+-- the word for the first application from term i on that is in the class of x
+abbrev pub word-from : List ℕ → List ℕ → List ℕ → ℕ → ℕ → ℕ
+word-from c e s x i = app-word (first-in-class (merges e) x (apps-from (context c) (marks-only s) i))
+
+-- tables that may be asked for the marked applications of a class
+pub record MarksAsked (e s : List ℕ) : Type 0 where
+  pub engine : EngineSound e
+  pub long : table-words ≤ length s
+
+-- the first application of block b in the class of a root, or 0: then those from this block on are those behind it
+pub record LowestInBlock (e s : List ℕ) (b root word : ℕ) : Type 0 where
+  pub is : (c : List ℕ) (x : ℕ) → MarksAre (context c) s MARK → root ≡ find (merges e) x →
+      word-from c e s x (b * block-terms) ≡ cond (eqb word 0) (word-from c e s x (b * block-terms + block-terms)) word
+
+pub record LowestMarked (e s : List ℕ) (root word : ℕ) : Type 0 where
+  pub is : (c : List ℕ) (x : ℕ) → MarksAre (context c) s MARK → root ≡ find (merges e) x → word ≡ word-from c e s x 0
+
+-- a term whose class is asked outside a check
+pub record NowAsked (c e s : List ℕ) (x : ℕ) : Type 0 where
+  pub core : ContextSound c
+  pub tables : MarksAsked e s
+  pub marks : MarksAre (context c) s MARK
+  pub announced : Announced s
+  pub is-node : x < max-terms
+
+-- ---- a check begins
 
 -- a work table where nothing stands yet
 pub record Blank (w : List ℕ) : Type 0 where

@@ -1,21 +1,31 @@
 -- The marks below x are copied.
-use Rattle.core.proofs.Kit.{_-_, needs}
-use Rattle.core.specs.Limits.{max-terms}
+use Rattle.core.proofs.Kit.{_-_, needs, arith}
 use Rattle.solver.proofs.Memory.Checking.{Copying, copying-first, copying-next, copying-done}
 use Rattle.solver.proofs.check.keep_marks.Statement.{statement}
 use Rattle.solver.proofs.check.keep_marks.Tie as tie
 
 abbrev Inv-loop : tie.InvT-loop
-Inv-loop s₀ w x₀ s x = Copying s₀ w s x
+Inv-loop t s₀ w n x₀ s x = Copying s₀ w s x
 
 abbrev μ-loop : tie.MeasureT-loop
-μ-loop s₀ w x₀ s x = max-terms - x
+μ-loop t s₀ w n x₀ s x = n - x
 
 loop-again : tie.Need-loop-again Inv-loop μ-loop
-loop-again c = search copying-next
+loop-again c =
+    let stored = c .before .before in
+    let read = stored .before in
+    let turn = read .before .before in
+    let small = turn .before .before .term-count .ensures .1 in
+    let below = turn .loop-test .taken in
+    copying-next (turn .before .loop .inv) (omega arith) (read .get-at .ensures .0) (stored .put-mark .ensures)
+
+returns : tie.Need-returns Inv-loop μ-loop
+returns c =
+    let turn = c .before in
+    copying-done _ (turn .before .term-count .ensures) (turn .loop .inv) (c .loop-test .left)
 
 pub keep-marks-spec : {M : Type 1} → statement M
 keep-marks-spec =
     tie.close
-    (tie.spec Inv-loop μ-loop (λ c. search copying-first) (λ c κs. search needs) (λ c κs. search needs) (λ c. search needs)
-    (λ c. search needs) loop-again (λ c. search needs) (λ c. search copying-done))
+    (tie.spec Inv-loop μ-loop (λ c κs. search needs) (λ c. search copying-first) (λ c κs. search needs) (λ c κs. search needs)
+    (λ c. search needs) (λ c. search needs) loop-again (λ c. search needs) returns)

@@ -1,78 +1,37 @@
--- A term of its kind is an application of a tester to one argument.
+-- The class of its argument by the work table.
 use Rattle.core.proofs.Kit.{needs}
-use Rattle.core.proofs.Memory.Codes.{symbol-below}
-use Rattle.solver.proofs.Memory.Clashing.{tester-within, one-arg, disagree-asked, tester-no-equation, tester-no-constructor, tester-no-function, tester-no-selector, tester-answers}
+use Rattle.solver.proofs.Memory.Clashing.{tester-within, one-arg, class-asked, check-against, against-class}
 use Rattle.solver.proofs.clashes.tester_conflict.Statement.{statement}
 use Rattle.solver.proofs.clashes.tester_conflict.Tie as tie
 
 children-requires : tie.Need-children-requires
-children-requires c κs = let entry = c .before .before .before .before in (entry .pre .core, tester-within (entry .pre))
+children-requires c κs =
+    let z = c .before .before .before .before .pre in
+    (z .core, tester-within _ _ (z .core) (z .formed) (z .signed) (z .tester))
 
-shared-slice-read-t12 : tie.Need-shared-slice-read-t12
-shared-slice-read-t12 c =
-    let entry = c .before .before .before .before .before .before in
-    one-arg (entry .pre) (c .before .children .ensures)
+shared-slice-read-t11 : tie.Need-shared-slice-read-t11
+shared-slice-read-t11 c =
+    let z = c .before .before .before .before .before .before .pre in
+    one-arg _ _ (z .core) (z .formed) (z .signed) (z .tester) (c .before .children .ensures)
 
-op-requires : tie.Need-op-requires
-op-requires c κs = let entry = c .before .before .before .before .before .before in (entry .pre .core, tester-within (entry .pre))
+ctor-of-class-requires : tie.Need-ctor-of-class-requires
+ctor-of-class-requires c κs =
+    let z = c .before .before .before .before .before .before .pre in
+    class-asked z (c .before .children .ensures)
 
-dt-role-requires : tie.Need-dt-role-requires
-dt-role-requires c κs = (search needs, search symbol-below)
-
-disagrees-requires : tie.Need-disagrees-requires
-disagrees-requires c κs =
-    let at-children = c .before .before .before .before .before .before .before .before .before .before in
-    let entry = at-children .before .before .before .before .before in
-    disagree-asked (entry .pre) (at-children .children .ensures)
+tester-against-requires : tie.Need-tester-against-requires
+tester-against-requires c κs =
+    let at-class = c .before in
+    let at-children = at-class .before .before in
+    let z = at-children .before .before .before .before .before .pre in
+    check-against z (at-children .children .ensures) (at-class .ctor-of-class .ensures)
 
 returns : tie.Need-returns
 returns c =
-    let at-op = c .before .before in
-    let entry = at-op .before .before .before .before .before .before .before in
-    absurd (tester-no-equation (entry .pre) (at-op .op .ensures) (c .enum-told .given .1))
-
-returns-2 : tie.Need-returns-2
-returns-2 c =
     let at-call = c .before .before in
-    let at-c = at-call .before .before .before in
-    let at-role = at-c .before .before in
-    let at-f = at-role .before .before in
-    let at-op = at-f .before .before in
-    let at-children = at-op .before .before in
-    let entry = at-children .before .before .before .before .before in
-    tester-answers (entry .pre) (at-op .op .ensures) (at-f .f .given .1) (at-role .dt-role .ensures) (at-children .children .ensures)
-    (at-c .c .given .1) (at-call .disagrees .ensures)
-
-returns-3 : tie.Need-returns-3
-returns-3 c =
-    let at-role = c .before .before in
-    let at-f = at-role .before .before in
-    let at-op = at-f .before .before in
-    let entry = at-op .before .before .before .before .before .before .before in
-    absurd (tester-no-constructor (entry .pre) (at-op .op .ensures) (at-f .f .given .1) (at-role .dt-role .ensures)
-    (c .enum-told2 .given .1))
-
-returns-4 : tie.Need-returns-4
-returns-4 c =
-    let at-role = c .before .before in
-    let at-f = at-role .before .before in
-    let at-op = at-f .before .before in
-    let entry = at-op .before .before .before .before .before .before .before in
-    absurd (tester-no-selector (entry .pre) (at-op .op .ensures) (at-f .f .given .1) (at-role .dt-role .ensures) (c .enum-told3 .given .1))
-
-returns-5 : tie.Need-returns-5
-returns-5 c =
-    let at-role = c .before .before in
-    let at-f = at-role .before .before in
-    let at-op = at-f .before .before in
-    let entry = at-op .before .before .before .before .before .before .before in
-    absurd (tester-no-function (entry .pre) (at-op .op .ensures) (at-f .f .given .1) (at-role .dt-role .ensures) (c .enum-told4 .given .1))
+    against-class (at-call .before .before .ctor-of-class .ensures) (at-call .tester-against .ensures)
 
 pub tester-conflict-spec : {M : Type 1} → statement M
 tester-conflict-spec =
     tie.close
-    (tie.spec children-requires shared-slice-read-t12 op-requires (λ c. search needs) (λ c. search needs) dt-role-requires
-    (λ c. search needs)
-    disagrees-requires (λ c. search needs) (λ c. search needs) (λ c. search needs) returns
-    (λ c. search needs) returns-2 returns-3 returns-4
-    returns-5)
+    (tie.spec children-requires shared-slice-read-t11 ctor-of-class-requires tester-against-requires (λ c. search needs) returns)

@@ -7,6 +7,7 @@ use Rattle.core.proofs.context.children.Reads as children
 use Rattle.core.proofs.table.get_at.Reads as get-at
 use Rattle.core.proofs.table.put_at.Reads as put-at
 use Rattle.solver.proofs.roles.term_kind.Reads as term-kind
+use Rattle.solver.proofs.records.put_mark.Reads as put-mark
 use Rattle.solver.proofs.records.collect.Reads as collect
 use Rattle.solver.proofs.records.collect.Kinds as collect-kinds
 use Rattle.solver.proofs.records.+collect+collect_children.Lts-collect as collect-lts
@@ -45,6 +46,8 @@ pub +collect+collect-children-spec : {M : Type 1} → statement M
       collect-children.Post,
       term-kind.Asked,
       term-kind.Learnt,
+      put-mark.Asked,
+      put-mark.Learnt,
       put-at.Asked,
       put-at.Learnt,
     )
@@ -57,13 +60,13 @@ pub +collect+collect-children-spec : {M : Type 1} → statement M
     (λ c κs. search needs)
     (λ c. search needs)
     (λ c.
-    let at-put2 = c .before .before in
-    let at-put = at-put2 .before .before .before .before in
-    let at-kind = at-put .before .before in
+    let at-flag = c .before .before in
+    let at-mark = at-flag .before .before .before .before in
+    let at-kind = at-mark .before .before in
     let at-children = at-kind .before .before .before in
     let start = at-children .before .before .before .before .before .before .before in
     collect-done (start .pre .1 .0) (start .pre .1 .1) (at-children .collect-children .ensures) (at-kind .term-kind .ensures .0)
-    (at-put .put-at .ensures) (at-put2 .put-at2 .ensures))
+    (at-mark .put-mark .ensures) (at-flag .put-at .ensures))
     (λ c. search needs)
     (λ c. collect-known (c .before .before .before .before .before .pre .1 .0) (c .before .get-at .ensures .0) (c .if1 .left)))
     λ t. collect-children-lts.spec (children.Asked, children.Learnt, collect-below t, collect.Post)
