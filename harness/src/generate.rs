@@ -17,6 +17,8 @@ pub enum Kind {
     Limits,
     Damaged,
     Any,
+    /// A search that goes on until a limit is near; for the benchmark.
+    Long,
 }
 
 impl Kind {
@@ -30,6 +32,7 @@ impl Kind {
             "limits" => Some(Kind::Limits),
             "damaged" => Some(Kind::Damaged),
             "any" => Some(Kind::Any),
+            "long" => Some(Kind::Long),
             _ => None,
         }
     }
@@ -44,6 +47,7 @@ fn script_of(kind: Kind, rng: &mut Rng) -> Vec<u8> {
     match kind {
         Kind::Search => like_a_search(rng, 0),
         Kind::Reacting => reacting::reacting(rng).script,
+        Kind::Long => search::long_search(rng).script,
         Kind::Refused => like_a_search(rng, 20),
         Kind::Limits => limits::limits(rng),
         Kind::Damaged => {

@@ -39,6 +39,23 @@ pub fn search(rng: &mut Rng, size: Size, refused_percent: usize) -> Writer {
     search.w
 }
 
+/// A search that goes on until a limit is near: it decides at a level of its own, closes under congruence and checks.
+pub fn long_search(rng: &mut Rng) -> Writer {
+    let mut search = Search::start(rng, Size::Large, 0);
+    let (terms, atoms) = (search.rng.between(20, 120), search.rng.between(8, 50));
+    search.make_terms(terms);
+    search.make_atoms(atoms);
+    while search.room() {
+        search.push();
+        search.decide();
+        if search.rng.chance(30) {
+            search.close_congruences();
+        }
+        search.check();
+    }
+    search.w
+}
+
 /// A small script on one topic, with a few random steps after it.
 pub fn on_topic(rng: &mut Rng, topic: Plan) -> Writer {
     let mut search = Search::over(rng, Size::Small, 0, true);

@@ -8,6 +8,7 @@ use crate::exhaustiveness::exhaustiveness_split;
 use crate::exhaustiveness::split_watched;
 use crate::injectivity::instantiate_injectivity_selectors;
 use crate::instantiation::instantiate_constructor;
+use crate::layout::MARK;
 use crate::records::has_app;
 use crate::records::has_lasting;
 use crate::records::put_mark;
@@ -183,7 +184,10 @@ fn keep_marks(t: &[u32], s: &mut [u32], w: &[u32])
     let n = term_count(t);
     let mut x = 0;
     while x < n {
-        put_mark(s, x, get_at(w, W_MARK, x));
+        let kind = get_at(w, W_MARK, x);
+        if get_at(s, MARK, x) != kind {
+            put_mark(s, x, kind);
+        }
         x += 1;
     }
 }

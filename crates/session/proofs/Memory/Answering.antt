@@ -30,6 +30,7 @@ engine-changes S E = record {
   solver = S .solver;
   registered = S .registered;
   marks = S .marks;
+  announced = S .announced;
   collected = S .collected;
   lasting = S .lasting;
   records = S .records;

@@ -18,7 +18,7 @@ use Rattle.solver.specs.State.{with-terms}
 use Rattle.solver.specs.Memory.Table.{MARK, COLLECTED, LASTING, state-with, StateSound}
 use Rattle.solver.proofs.Basics.{by-test}
 use Rattle.solver.proofs.Signature.{sort-signed, fun-signed, ctor-signed}
-use Rattle.solver.proofs.Memory.Registering.{unflagged, not-set}
+use Rattle.solver.proofs.Memory.Registering.{cleared-announced, unflagged, not-set}
 use Rattle.session.specs.Line.{Command, DeclareSort, DeclareCtor, DeclareFun}
 use Rattle.session.specs.Answer as Answer
 use Rattle.session.specs.Session.{before-close, exist, agree, sort-exists, questions, perform, first-no, done, Performed}
@@ -49,6 +49,7 @@ unclosed-sound {c} {e} {s} core signed engine u =
       solver = z .sound;
       registered = λ r i. absurd (subst (λ (rs : List Registered). In r rs) (z .atoms) i);
       marks = λ x h. inl (not-set (at s MARK x) (unflagged s MARK x (z .marks) h));
+      announced = cleared-announced s z;
       collected = λ x h q. absurd (true≢false (sym q ∙ unflagged s COLLECTED x (z .collected) h));
       lasting = λ x h q. absurd (true≢false (sym q ∙ unflagged s LASTING x (z .lasting) h));
       records = λ i h. absurd (omega arith);

@@ -221,6 +221,18 @@ copying-next {s₀} {w} {s} {u} {x} {v} q h e p =
       announced = λ z. mark-announced s x v h l (q .announced z);
     })
 
+-- the mark is there already
+pub copying-same : {s₀ w s : List ℕ} {x k v : ℕ} → Copying s₀ w s x → x < max-terms → v ≡ at w W-MARK x → k ≡ at s MARK x → k ≡ v →
+    Copying s₀ w s (x + 1)
+copying-same {s₀} {w} {s} {x} q h e m d = record {
+  fit = q .fit;
+  within = omega arith;
+  kept = q .kept;
+  copied = below-more (λ (j : ℕ). at s MARK j ≡ at w W-MARK j) x (q .copied) (sym m ∙ d ∙ e);
+  behind = λ y g k. q .behind y g (omega arith);
+  announced = q .announced;
+}
+
 copying-all : {s₀ w s : List ℕ} {n x : ℕ} → Copying s₀ w s x → n ≤ x → KeepsMarks n s₀ w s
 unfolding state-with dt-with is-set
 copying-all {s₀} {w} {s} {n} {x} q h = record { sound = λ c e z m. state-sound z m; view = λ c e lv z m. same-state lv z m }

@@ -16,7 +16,7 @@ use Rattle.theory.specs.Memory.Registry.{registry-size, atoms, RegistrySound}
 use Rattle.theory.specs.Memory.Table.{Engine}
 use Rattle.theory.proofs.Members.{in-either}
 use Rattle.solver.specs.State.{empty-state, with-atoms}
-use Rattle.solver.specs.Memory.Table.{REGISTRY, COUNTS, RECORDS, MARK, COLLECTED, LASTING, EMITTED, SPLIT, RECORDED, REC-ATOM, solver-room, records#, registry, is-set, flagged, term-kind, asserted-at, level-record, dt-with, state-with, state, SolverSound, CollectedSound, StateSound}
+use Rattle.solver.specs.Memory.Table.{REGISTRY, COUNTS, RECORDS, MARK, COLLECTED, LASTING, EMITTED, SPLIT, RECORDED, REC-ATOM, solver-room, records#, registry, is-set, flagged, term-kind, asserted-at, level-record, dt-with, state-with, state, SolverSound, CollectedSound, Announced, StateSound}
 use Rattle.solver.specs.Memory.Recording.{flag-words, Wiped, SolverCleared, MayRegister, Registers}
 use Rattle.solver.proofs.Signature.{empty-signed}
 use Rattle.solver.proofs.Memory.Flags.{has, in-flagged, flagged-none}
@@ -259,9 +259,13 @@ unfolding is-set
 not-set zero e = refl
 not-set (suc k) e = absurd (true≢false e)
 
+-- no mark, nothing to announce
+pub cleared-announced : (u : List ℕ) → SolverCleared u → Announced u
+unfolding is-set
+cleared-announced u z x h q = absurd (true≢false (sym (ap is-set q) ∙ unflagged u MARK x (z .marks) h))
+
 module _ {c e u : List ℕ} (core : ContextSound c) (empty : context c ≡ empty-context) (engine : Engine e [] 0) (z : SolverCleared u) where
   pub cleared-sound : StateSound c e u
-  unfolding is-set
   cleared-sound =
       let n = z .records in
       record {
@@ -272,7 +276,7 @@ module _ {c e u : List ℕ} (core : ContextSound c) (empty : context c ≡ empty
         solver = z .sound;
         registered = λ r i. absurd (subst (λ (rs : List Registered). In r rs) (z .atoms) i);
         marks = λ x h. inl (not-set (at u MARK x) (unflagged u MARK x (z .marks) h));
-        announced = λ x h q. absurd (true≢false (sym (ap is-set q) ∙ unflagged u MARK x (z .marks) h));
+        announced = cleared-announced u z;
         collected = λ x h q. absurd (true≢false (sym q ∙ unflagged u COLLECTED x (z .collected) h));
         lasting = λ x h q. absurd (true≢false (sym q ∙ unflagged u LASTING x (z .lasting) h));
         records = λ i h. absurd (omega arith);
