@@ -15,6 +15,7 @@ ghost use lib.Dec.{eqb};
 ghost use lib.ListN.{length, take};
 ghost use Rattle.core.specs.Lists.{first, same-list};
 ghost use Rattle.session.specs.Line as Line;
+ghost use Rattle.session.specs.Memory.Lines.{KeyRoom};
 ghost use Rattle.session.specs.Memory.Commands.{max-numbers, key-meaning, list-key, one-key, pair-key, others, by-known, by-numbers, NumbersStand, OthersStand, ReadsAs, ReadsLine};
 
 // A line that reads, or that does not. Where a line has a list of numbers behind its first, it is held how many: they stand in the
@@ -36,6 +37,9 @@ pub enum Command {
     Pop(u32),
     Check(bool),
 }
+
+// Bytes of the longest keys and the equals sign behind them.
+const KEY_ROOM: usize = 7;
 
 // ---- keys
 
@@ -261,13 +265,24 @@ fn by_value(k: Key, v: &[u8], numbers: &mut [u32]) -> Command
 
 // ---- the line
 
+// How many bytes of a line are looked at for the equals sign: no key has more than six.
+fn key_room(line: &[u8]) -> usize
+    ensures { λ r. ⌜ KeyRoom (now (line .entry)) r ⌝ }
+{
+    if line.len() < KEY_ROOM {
+        return line.len();
+    }
+    KEY_ROOM
+}
+
 // Question 3: does a line read? Its numbers go to the table.
 pub fn read_line(line: &[u8], numbers: &mut [u32]) -> Command
     requires { ⌜ max-numbers ≤ length (now numbers) ⌝ }
     ensures { λ r. ⌜ ReadsLine (now (line .entry)) r (now (numbers .exit)) ⌝ }
 {
-    let at = first_byte(line, 0, b'=');
-    if at == line.len() {
+    let head = key_room(line);
+    let at = first_byte(&line[..head], 0, b'=');
+    if at == head {
         return Command::Unreadable;
     }
     let k = read_key(&line[..at]);

@@ -1,10 +1,12 @@
 -- The first of a byte in a text: what lines, parts and key=value are before and behind it.
-use Rattle.core.proofs.Kit.{ℕ, zero, suc, _+_, _-_, _≤_, _<_, _≡_, refl, sym, ap, ap₂, _∙_, subst, Bool, true, false, cond, List, [], _∷_, none, some, add-one, arith, decLt, eq-eqb, eqb, length, getD, take, drop, length-drop, drop-of-length-le, getD-drop, take-all}
+use Rattle.core.proofs.Kit.{ℕ, zero, suc, _+_, _-_, _≤_, _<_, _≡_, refl, sym, ap, ap₂, _∙_, subst, Bool, true, false, cond, List, [], _∷_, Option, none, some, add-one, arith, decLt, eq-eqb, eqb, length, getD, take, drop, length-drop, drop-of-length-le, getD-take, getD-drop, length-take-le, take-all}
 use lib.Seq.{drop-drop, take-nil, drop-nil}
 use Rattle.core.proofs.Memory.Searching.{Searched}
-use Rattle.session.specs.Text.{LF, equals, cons-first, parts, lines}
-use Rattle.session.specs.Line.{after-byte, key-and-value}
-use Rattle.session.specs.Memory.Lines.{FirstByte, LineEnd}
+use Rattle.core.specs.Lists.{first, same-list}
+use Rattle.core.proofs.Lists.{same-list-not}
+use Rattle.session.specs.Text.{LF, equals, bytes, cons-first, parts, lines}
+use Rattle.session.specs.Line.{Key, SortKey, CtorKey, FunKey, CloseKey, TermKey, EqKey, VarKey, EquateKey, CongKey, IfaceKey, AssertKey, PushKey, PopKey, CheckKey, key-text, keys, after-byte, key-and-value, known, read-parts, read-line}
+use Rattle.session.specs.Memory.Lines.{FirstByte, LineEnd, KeyRoom}
 
 -- ---- the search
 
@@ -145,3 +147,103 @@ unfolding key-and-value after-byte
 no-key [] k f h = refl
 no-key (x ∷ s) zero f h = absurd (omega arith)
 no-key (x ∷ s) (suc k) f h = rw (other-first equals x s k f, no-key s k (behind-first equals x s k f) (omega arith))
+
+-- ---- the first bytes of a line
+
+-- a key, if there is one, has n bytes or more
+unfoldable LongKey : ℕ → Option (List ℕ × List ℕ) → Type 0
+LongKey n none = Unit {0}
+LongKey n (some (k, v)) = n ≤ length k
+
+longer : (n x : ℕ) (o : Option (List ℕ × List ℕ)) → LongKey n o → LongKey (suc n) (after-byte x o)
+unfolding LongKey after-byte
+longer n x none l = tt
+longer n x (some (k, v)) l = omega arith
+
+any-key : (o : Option (List ℕ × List ℕ)) → LongKey 0 o
+unfolding LongKey
+any-key none = tt
+any-key (some (k, v)) = omega arith
+
+key-behind : (n : ℕ) (s : List ℕ) → n ≤ length s → ((i : ℕ) → i < n → eqb (getD s i 0) equals ≡ false) → LongKey n (key-and-value s)
+unfolding key-and-value
+key-behind zero s l h = any-key (key-and-value s)
+key-behind (suc n) [] l h = absurd (omega arith)
+key-behind (suc n) (x ∷ s) l h =
+    rw (h 0 (omega arith)) (longer n x (key-and-value s) (key-behind n s (omega arith) (λ i m. h (suc i) (omega arith))))
+
+-- no key has more than six bytes
+key-short : (k : Key) → length (key-text k) ≤ 6
+unfolding key-text bytes
+key-short SortKey = omega arith
+key-short CtorKey = omega arith
+key-short FunKey = omega arith
+key-short CloseKey = omega arith
+key-short TermKey = omega arith
+key-short EqKey = omega arith
+key-short VarKey = omega arith
+key-short EquateKey = omega arith
+key-short CongKey = omega arith
+key-short IfaceKey = omega arith
+key-short AssertKey = omega arith
+key-short PushKey = omega arith
+key-short PopKey = omega arith
+key-short CheckKey = omega arith
+
+other-key : (text : List ℕ) → 7 ≤ length text → (k : Key) → same-list text (key-text k) ≡ false
+other-key text l k = same-list-not text (key-text k) (λ e. let m = ap length e in omega (arith, key-short k))
+
+unknown-key : (text : List ℕ) → 7 ≤ length text → (ks : List Key) → first (λ k. same-list text (key-text k)) ks ≡ none
+unfolding first
+unknown-key text l [] = refl
+unknown-key text l (k ∷ ks) = rw (other-key text l k, unknown-key text l ks)
+
+long-unread : (o : Option (List ℕ × List ℕ)) → LongKey 7 o → read-parts o ≡ none
+unfolding LongKey read-parts known
+long-unread none l = refl
+long-unread (some (k, v)) l = rw (unknown-key k l keys)
+
+module _ {s : List ℕ} {r k : ℕ} (z : KeyRoom s r) (f : FirstByte equals (take r s) 0 k) where
+  pub head-within : k ≤ length s
+  head-within = let e = length-take-le r s (z .within) in let w = f .within in let h = z .within in omega arith
+
+  pub head-before : (k ≡ r → ⊥) → k < length s
+  head-before n = let e = length-take-le r s (z .within) in let w = f .within in let h = z .within in omega arith
+
+  none-before : (i : ℕ) → i < k → k ≤ r → eqb (getD s i 0) equals ≡ false
+  none-before i l h = ap (λ (x : ℕ). eqb x equals) (sym (getD-take r s i 0 (omega arith))) ∙ f .inside i (omega arith) l
+
+  -- an equals sign there is the line's first
+  pub head-parted : (k ≡ r → ⊥) → key-and-value s ≡ some (take k s, take (length s - (k + 1)) (drop (k + 1) s))
+  head-parted n =
+      let e = length-take-le r s (z .within) in
+      let w = f .within in
+      let h = z .within in
+      key-parted s k
+      (record {
+        after = omega arith;
+        within = omega arith;
+        inside = λ i l m. none-before i m (omega arith);
+        ends = λ l. sym (getD-take r s k 0 (omega arith)) ∙ f .ends (omega arith);
+      })
+      (omega arith)
+
+  -- without one the line does not read
+  pub head-unread : k ≡ r → read-line s ≡ none
+  unfolding read-line read-parts
+  head-unread e = go (decLt r (length s))
+    where
+      go : Dec (r < length s) → read-line s ≡ none
+      go (yes h) =
+          let seven = z .enough h in
+          long-unread (key-and-value s) (key-behind 7 s (omega arith) (λ i l. none-before i (omega arith) (omega arith)))
+      go (no h) =
+          let w = z .within in
+          let all : FirstByte equals s 0 k =
+          record {
+            after = omega arith;
+            within = omega arith;
+            inside = λ i l m. none-before i m (omega arith);
+            ends = λ l. absurd (omega arith);
+          } in
+          rw (no-key s k all (omega arith))
