@@ -13,17 +13,15 @@ use solver::answer::split_phase;
 use theory::types::EqLeaf;
 use theory::types::leaf;
 use theory::types::leaf_count;
-ghost use Prim.Native.Nat.{_≤_};
 ghost use mathlib.Core.Path.{_≡_};
 ghost use mathlib.Core.List.{_++_};
-ghost use lib.ListN.{length};
 ghost use Rattle.theory.specs.Types.{InterfaceLeaf};
 ghost use Rattle.theory.specs.Memory.Answer.{leaf-meaning, leaves, LeavesSound};
 ghost use Rattle.solver.specs.Rules.{Conflict};
 ghost use Rattle.solver.specs.Memory.Answer.{phase-meaning, split-of, SplitSound};
 ghost use Rattle.session.specs.Text.{decimal};
 ghost use Rattle.session.specs.Answer.{question, leaf-text, phase-text, check-text, answer-text};
-ghost use Rattle.session.specs.Memory.Answers.{refusal-meaning, answer-meaning, max-line, Room, Written, parting, leaves-text, atoms-text, guards-text, phases-text, MayPrint, Unended, Prints};
+ghost use Rattle.session.specs.Memory.Answers.{refusal-meaning, answer-meaning, Printable, Room, Written, parting, leaves-text, atoms-text, guards-text, phases-text, line-text, Bound};
 
 // A no to one of the questions of a line.
 pub enum Refusal {
@@ -48,6 +46,9 @@ pub enum Answer {
     Unknown,
     Refused(Refusal),
 }
+
+// A name, one number and the LF have at most so many bytes.
+const SHORT_LINE: usize = 19;
 
 // ---- the parts of an answer
 
@@ -176,28 +177,28 @@ fn write_phases(o: &[u32], buf: &mut [u8], at: usize) -> usize
 
 // ---- an answer
 
-// A name and a number, at the start of the table.
-fn write_named(buf: &mut [u8], name: &[u8], n: u32) -> usize
-    requires { ⌜ Room (now buf) 0 (now name ++ decimal n) ⌝ }
-    ensures { λ r. ⌜ Written (now (buf .entry)) 0 (now (name .entry) ++ decimal n) (now (buf .exit)) r ⌝ }
+// A name and a number.
+fn write_named(buf: &mut [u8], at: usize, name: &[u8], n: u32) -> usize
+    requires { ⌜ Room (now buf) at (now name ++ decimal n) ⌝ }
+    ensures { λ r. ⌜ Written (now (buf .entry)) at (now (name .entry) ++ decimal n) (now (buf .exit)) r ⌝ }
 {
-    let at = write_text(buf, 0, name);
-    write_decimal(buf, at, n)
+    let number = write_text(buf, at, name);
+    write_decimal(buf, number, n)
 }
 
-fn write_conflict(o: &[u32], buf: &mut [u8]) -> usize
-    requires { ⌜ LeavesSound (now o) × (max-line ≤ length (now buf)) ⌝ }
-    ensures { λ r. ⌜ Unended (now (buf .entry)) (check-text (Conflict (leaves (now (o .entry))))) (now (buf .exit)) r ⌝ }
+fn write_conflict(o: &[u32], buf: &mut [u8], at: usize) -> usize
+    requires { ⌜ LeavesSound (now o) × Room (now buf) at (check-text (Conflict (leaves (now o)))) ⌝ }
+    ensures { λ r. ⌜ Written (now (buf .entry)) at (check-text (Conflict (leaves (now (o .entry))))) (now (buf .exit)) r ⌝ }
 {
-    let at = write_text(buf, 0, b"conflict=");
-    write_leaves(o, buf, at)
+    let leaves = write_text(buf, at, b"conflict=");
+    write_leaves(o, buf, leaves)
 }
 
-fn write_split(o: &[u32], buf: &mut [u8]) -> usize
-    requires { ⌜ SplitSound (now o) × (max-line ≤ length (now buf)) ⌝ }
-    ensures { λ r. ⌜ Unended (now (buf .entry)) (check-text (split-of (now (o .entry)))) (now (buf .exit)) r ⌝ }
+fn write_split(o: &[u32], buf: &mut [u8], at: usize) -> usize
+    requires { ⌜ SplitSound (now o) × Room (now buf) at (check-text (split-of (now o))) ⌝ }
+    ensures { λ r. ⌜ Written (now (buf .entry)) at (check-text (split-of (now (o .entry)))) (now (buf .exit)) r ⌝ }
 {
-    let atoms = write_text(buf, 0, b"split=");
+    let atoms = write_text(buf, at, b"split=");
     let first = write_atoms(o, buf, atoms);
     let guards = write_byte(buf, first, b';');
     let second = write_guards(o, buf, guards);
@@ -206,26 +207,60 @@ fn write_split(o: &[u32], buf: &mut [u8]) -> usize
 }
 
 // The answer without its LF.
-fn write_unended(a: Answer, o: &[u32], buf: &mut [u8]) -> usize
-    requires { ⌜ MayPrint a (now o) (now buf) ⌝ }
-    ensures { λ r. ⌜ Unended (now (buf .entry)) (answer-text (answer-meaning a (now (o .entry)))) (now (buf .exit)) r ⌝ }
+fn write_unended(a: Answer, o: &[u32], buf: &mut [u8], at: usize) -> usize
+    requires { ⌜ Printable a (now o) × Room (now buf) at (answer-text (answer-meaning a (now o))) ⌝ }
+    ensures { λ r. ⌜ Written (now (buf .entry)) at (answer-text (answer-meaning a (now (o .entry)))) (now (buf .exit)) r ⌝ }
 {
     match a {
-        Answer::Ok => write_text(buf, 0, b"ok=1"),
-        Answer::TermIs(t) => write_named(buf, b"term=", t.0),
-        Answer::Sat => write_text(buf, 0, b"sat=1"),
-        Answer::Conflict => write_conflict(o, buf),
-        Answer::Split => write_split(o, buf),
-        Answer::Unknown => write_text(buf, 0, b"unknown=1"),
-        Answer::Refused(r) => write_named(buf, b"refused=", number(r)),
+        Answer::Ok => write_text(buf, at, b"ok=1"),
+        Answer::TermIs(t) => write_named(buf, at, b"term=", t.0),
+        Answer::Sat => write_text(buf, at, b"sat=1"),
+        Answer::Conflict => write_conflict(o, buf, at),
+        Answer::Split => write_split(o, buf, at),
+        Answer::Unknown => write_text(buf, at, b"unknown=1"),
+        Answer::Refused(r) => write_named(buf, at, b"refused=", number(r)),
     }
 }
 
-// The answer line, with its LF, stands at the start of the table of bytes; given is how long it is.
-pub fn write_answer(a: Answer, o: &[u32], buf: &mut [u8]) -> usize
-    requires { ⌜ MayPrint a (now o) (now buf) ⌝ }
-    ensures { λ r. ⌜ Prints a (now (o .entry)) (now (buf .entry)) r (now (buf .exit)) ⌝ }
+// The answer line, with its LF.
+pub fn write_answer(a: Answer, o: &[u32], buf: &mut [u8], at: usize) -> usize
+    requires { ⌜ Printable a (now o) × Room (now buf) at (line-text a (now o)) ⌝ }
+    ensures { λ r. ⌜ Written (now (buf .entry)) at (line-text a (now (o .entry))) (now (buf .exit)) r ⌝ }
 {
-    let end = write_unended(a, o, buf);
+    let end = write_unended(a, o, buf, at);
     write_byte(buf, end, b'\n')
+}
+
+// ---- how long it can be
+
+// `conflict=`, leaves of at most 17 bytes with a comma between two, and the LF.
+fn conflict_bound(o: &[u32]) -> usize
+    requires { ⌜ LeavesSound (now o) ⌝ }
+    ensures { λ r. ⌜ Bound (check-text (Conflict (leaves (now (o .entry))))) r ⌝ }
+{
+    10 + 18 * leaf_count(o)
+}
+
+// `split=`, atoms of at most 10 bytes and phases of one with a comma between two, one guard, two `;` and the LF.
+fn split_bound(o: &[u32]) -> usize
+    requires { ⌜ SplitSound (now o) ⌝ }
+    ensures { λ r. ⌜ Bound (check-text (split-of (now (o .entry)))) r ⌝ }
+{
+    19 + 11 * atom_count(o) + 2 * phase_count(o)
+}
+
+// The answer line has at most so many bytes: found without writing it.
+pub fn line_bound(a: Answer, o: &[u32]) -> usize
+    requires { ⌜ Printable a (now o) ⌝ }
+    ensures { λ r. ⌜ Bound (answer-text (answer-meaning a (now (o .entry)))) r ⌝ }
+{
+    match a {
+        Answer::Ok => SHORT_LINE,
+        Answer::TermIs(t) => SHORT_LINE,
+        Answer::Sat => SHORT_LINE,
+        Answer::Conflict => conflict_bound(o),
+        Answer::Split => split_bound(o),
+        Answer::Unknown => SHORT_LINE,
+        Answer::Refused(_) => SHORT_LINE,
+    }
 }

@@ -1,4 +1,6 @@
 // The run: questions 1, 2 and 12, the counts, and what lent memory holds at the end (specs/Run.antt, specs/Promise.antt).
+use crate::answer::Answer;
+use crate::answer::line_bound;
 use crate::answer::write_answer;
 use crate::reader::line_end;
 use crate::session::step;
@@ -7,17 +9,26 @@ use core::context as context;
 use core::limits::MAX_LEVELS;
 use solver::records as records;
 use theory::eq_engine as engine;
+ghost use Prim.Native.Nat.{_≤_};
 ghost use mathlib.Core.Path.{_≡_};
+ghost use lib.ListN.{length};
 ghost use Rattle.session.specs.Run.{result-number, zeros};
 ghost use Rattle.session.specs.Promise.{ending-meaning, Runs};
 ghost use Rattle.session.specs.Memory.Sessions.{beside};
-ghost use Rattle.session.specs.Memory.Running.{TablesLong, EmptyTables, Answerable, AnswersLine, MayRun, RunsLines, MayStart, Zeroed, RunsStarted};
+ghost use Rattle.session.specs.Memory.Answers.{Printable, line-text};
+ghost use Rattle.session.specs.Memory.Running.{TablesLong, EmptyTables, Puts, MayPutTight, Answerable, AnswersLine, MayRun, RunsLines, MayStart, Zeroed, RunsStarted};
 
 // How a run ends.
 pub enum Ending {
     Complete,
     ShortTable,
     LongScript,
+    Full,
+}
+
+// Where an answer line ends in the output, or that it does not fit there.
+pub enum Placed {
+    Ends(usize),
     Full,
 }
 
@@ -57,7 +68,31 @@ impl Ending {
 
 // ---- the lines
 
-// Answers a line; its answer line, with the LF, stands at the start of `text`: so many bytes.
+// Where little output is left, the answer line goes to a table of its own first: the output gets it only if it fits whole.
+fn put_tight(a: Answer, answer: &[u32], output: &mut [u8], written: usize) -> Placed
+    requires { ⌜ MayPutTight a (now answer) (now output) written ⌝ }
+    ensures { λ r. ⌜ Puts r (now (output .entry)) written (line-text a (now (answer .entry))) (now (output .exit)) ⌝ }
+{
+    let mut text = [0u8; MAX_LINE];
+    let n = write_answer(a, answer, &mut text, 0);
+    if n > output.len() - written {
+        return Placed::Full;
+    }
+    Placed::Ends(write_text(output, written, &text[..n]))
+}
+
+// An answer line that fits in any case is written where it stays.
+fn put_answer(a: Answer, answer: &[u32], output: &mut [u8], written: usize) -> Placed
+    requires { ⌜ Printable a (now answer) × (written ≤ length (now output)) ⌝ }
+    ensures { λ r. ⌜ Puts r (now (output .entry)) written (line-text a (now (answer .entry))) (now (output .exit)) ⌝ }
+{
+    if line_bound(a, answer) <= output.len() - written {
+        return Placed::Ends(write_answer(a, answer, output, written));
+    }
+    put_tight(a, answer, output, written)
+}
+
+// Answers a line; its answer line goes to the output at a place, if it fits.
 fn answer_line(
     c: &mut [u32],
     e: &mut [u32],
@@ -67,25 +102,24 @@ fn answer_line(
     line: &[u8],
     numbers: &mut [u32; MAX_NUMBERS],
     answer: &mut [u32; ANSWER_SIZE],
-    text: &mut [u8; MAX_LINE],
-) -> usize
-    requires { ⌜ Answerable (now c) (now e) (now s) (beside (now e) (now counts) (now closed)) ⌝ }
-    ensures { λ n. ⌜ AnswersLine (now (line .entry)) (now (c .entry)) (now (e .entry)) (now (s .entry))
-        (beside (now (e .entry)) (now (counts .entry)) (now (closed .entry))) n (now (c .exit)) (now (e .exit)) (now (s .exit))
-        (beside (now (e .exit)) (now (counts .exit)) (now (closed .exit))) (now (text .exit)) ⌝ }
+    output: &mut [u8],
+    written: usize,
+) -> Placed
+    requires { ⌜ Answerable (now c) (now e) (now s) (beside (now e) (now counts) (now closed)) × (written ≤ length (now output)) ⌝ }
+    ensures { λ r. ⌜ AnswersLine (now (line .entry)) (now (c .entry)) (now (e .entry)) (now (s .entry))
+        (beside (now (e .entry)) (now (counts .entry)) (now (closed .entry))) r (now (c .exit)) (now (e .exit)) (now (s .exit))
+        (beside (now (e .exit)) (now (counts .exit)) (now (closed .exit))) (now (output .entry)) written (now (output .exit)) ⌝ }
 {
     let a = step(c, e, s, counts, closed, line, numbers, answer);
-    write_answer(a, answer, text)
+    put_answer(a, answer, output, written)
 }
 
-// An answer line goes to `text` first: the output gets it only if it fits whole.
 fn run_lines(script: &[u8], c: &mut [u32], e: &mut [u32], s: &mut [u32], output: &mut [u8]) -> Ran
     requires { ⌜ MayRun (now script) (now c) (now e) (now s) ⌝ }
     ensures { λ r. ⌜ RunsLines (now (script .entry)) (now (output .entry)) r (now (output .exit)) ⌝ }
 {
     let mut numbers = [0u32; MAX_NUMBERS];
     let mut answer = [0u32; ANSWER_SIZE];
-    let mut text = [0u8; MAX_LINE];
     let mut counts = [0u32; MAX_LEVELS];
     let mut closed = false;
     let mut at = 0;
@@ -93,7 +127,7 @@ fn run_lines(script: &[u8], c: &mut [u32], e: &mut [u32], s: &mut [u32], output:
     let mut written = 0;
     while at < script.len() {
         let end = line_end(script, at);
-        let n = answer_line(
+        let placed = answer_line(
             c,
             e,
             s,
@@ -102,16 +136,17 @@ fn run_lines(script: &[u8], c: &mut [u32], e: &mut [u32], s: &mut [u32], output:
             &script[at..end],
             &mut numbers,
             &mut answer,
-            &mut text,
+            output,
+            written,
         );
-        if n > output.len() - written {
+        let Placed::Ends(next) = placed else {
             return Ran {
                 ending: Ending::Full,
                 answered,
                 written,
             };
-        }
-        written = write_text(output, written, &text[..n]);
+        };
+        written = next;
         answered += 1;
         at = end + 1;
     }

@@ -7,14 +7,14 @@ use Rattle.core.specs.Limits.{max-theories}
 use Rattle.core.specs.Lists.{range}
 use Rattle.core.specs.Memory.Words.{at, counted}
 use Rattle.core.specs.declared.ids.Lit.{Lit}
-use Rattle.core.proofs.Memory.Counted.{counted-more}
+use Rattle.core.proofs.Memory.Counted.{counted-length, counted-more}
 use Rattle.theory.specs.Types.{AssertedLeaf, InterfaceLeaf}
 use Rattle.theory.specs.Memory.Answer.{LEAF-KIND, LEAF-VALUE, leaves#, leaf-of, leaf-at, leaves, LeavesSound}
-use Rattle.solver.specs.Rules.{Phase, Positive, NoPhase}
+use Rattle.solver.specs.Rules.{Phase, Positive, NoPhase, Conflict}
 use Rattle.solver.specs.declared.answer.Guard as Guard
-use Rattle.solver.specs.Memory.Answer.{COUNTS, ATOMS, PHASES, GUARDED, GUARD, ATOM, PHASE, phase-of, guard-of, split-atoms, split-guard, split-phases, listed, guard-meaning, SplitSound}
+use Rattle.solver.specs.Memory.Answer.{COUNTS, ATOMS, PHASES, GUARDED, GUARD, ATOM, PHASE, phase-of, guard-of, split-atoms, split-guard, split-phases, listed, split-of, guard-meaning}
 use Rattle.session.specs.Text.{bytes, comma, joined, decimal}
-use Rattle.session.specs.Answer.{leaf-text, phase-text}
+use Rattle.session.specs.Answer.{Refusal, Unreadable, Misplaced, Missing, Disagreeing, Registered, NotEquation, NotCongruent, NotGrounded, NoRoom, question, leaf-text, phase-text, check-text}
 use Rattle.session.specs.Memory.Answers.{parting, leaves-text, atoms-text, guards-text, phases-text}
 use Rattle.session.proofs.Memory.Digits.{decimal-short}
 use Rattle.session.proofs.Memory.Printing.{joined-last}
@@ -67,47 +67,75 @@ module _ {A : Type 0} (text : A → List ℕ) (f : ℕ → A) (k : ℕ) where
 abbrev pub Words : List ℕ → Type 0
 Words o = (i : ℕ) → Fits w32 (getD o i 0)
 
-pub leaves-short : {o : List ℕ} → LeavesSound o → Words o → length (leaves-text o) ≤ 18431
+-- the bytes of a list by its count
+pub leaves-few : {o : List ℕ} → LeavesSound o → Words o → length (leaves-text o) ≤ 18 * length (leaves o) - 1
 unfolding leaves at
-leaves-short {o} z w =
-    let few = z .fit in
+leaves-few {o} z w =
+    let count = counted-length (leaf-at o) (leaves# o) in
     let each : (i : ℕ) → i < leaves# o → length (leaf-text (leaf-at o i)) < 18 =
     λ i h. leaf-short (at o LEAF-KIND i) (at o LEAF-VALUE i) (z .theories i h) (w (LEAF-VALUE + i) .fits) in
     let short = counted-short leaf-text (leaf-at o) 18 (leaves# o) each in
     omega arith
 
-atoms-short : {o : List ℕ} → SplitSound o → Words o → length (atoms-text o) ≤ 5631
+atoms-few : (o : List ℕ) → Words o → length (atoms-text o) ≤ 11 * length (split-atoms o)
 unfolding split-atoms at
-atoms-short {o} z w =
-    let few = z .atoms-fit in
+atoms-few o w =
+    let count = counted-length (at o ATOM) (at o COUNTS ATOMS) in
     let each : (i : ℕ) → i < at o COUNTS ATOMS → length (decimal (at o ATOM i)) < 11 =
     λ i h. let v = w (ATOM + i) in omega (arith, decimal-short 9 (at o ATOM i) (omega arith)) in
     let short = counted-short decimal (at o ATOM) 11 (at o COUNTS ATOMS) each in
     omega arith
 
-guards-short : (o : List ℕ) → Words o → length (guards-text o) ≤ 10
+guards-few : (o : List ℕ) → Words o → length (guards-text o) ≤ 10
 unfolding split-guard at guard-of listed joined
-guards-short o w = go (at o COUNTS GUARDED)
+guards-few o w = go (at o COUNTS GUARDED)
   where
     go : (n : ℕ) → length (joined comma (map decimal (listed (guard-of n (at o COUNTS GUARD))))) ≤ 10
     go zero = omega arith
     go (suc n) = let v = w (COUNTS + GUARD) in decimal-short 9 (at o COUNTS GUARD) (omega arith)
 
-phases-short : {o : List ℕ} → SplitSound o → length (phases-text o) ≤ 1023
+phases-few : (o : List ℕ) → length (phases-text o) ≤ 2 * length (split-phases o)
 unfolding split-phases
-phases-short {o} z =
-    let few = z .phases-fit in
+phases-few o =
     let phase : ℕ → Phase = λ i. phase-of (at o PHASE i) in
+    let count = counted-length phase (at o COUNTS PHASES) in
     let short = counted-short phase-text phase 2 (at o COUNTS PHASES) (λ i h. phase-short (phase i)) in
     omega arith
 
-pub record SplitShort (o : List ℕ) : Type 0 where
-  pub atoms : length (atoms-text o) ≤ 5631
+pub record SplitFew (o : List ℕ) : Type 0 where
+  pub atoms : length (atoms-text o) ≤ 11 * length (split-atoms o)
   pub guards : length (guards-text o) ≤ 10
-  pub phases : length (phases-text o) ≤ 1023
+  pub phases : length (phases-text o) ≤ 2 * length (split-phases o)
 
-pub split-short : {o : List ℕ} → SplitSound o → Words o → SplitShort o
-split-short {o} z w = record { atoms = atoms-short z w; guards = guards-short o w; phases = phases-short z }
+pub split-few : (o : List ℕ) → Words o → SplitFew o
+split-few o w = record { atoms = atoms-few o w; guards = guards-few o w; phases = phases-few o }
+
+-- ---- the texts
+
+pub conflict-length : (o : List ℕ) → length (check-text (Conflict (leaves o))) ≡ 9 + length (leaves-text o)
+unfolding check-text bytes
+conflict-length o = omega arith
+
+pub split-length : (o : List ℕ) →
+    length (check-text (split-of o)) ≡ 8 + length (atoms-text o) + length (guards-text o) + length (phases-text o)
+unfolding check-text split-of bytes
+split-length o = simp length-append (omega arith)
+
+-- the number of a question
+question-low : (r : Refusal) → question r ≤ 11
+unfolding question
+question-low Unreadable = omega arith
+question-low Misplaced = omega arith
+question-low Missing = omega arith
+question-low Disagreeing = omega arith
+question-low Registered = omega arith
+question-low NotEquation = omega arith
+question-low NotCongruent = omega arith
+question-low NotGrounded = omega arith
+question-low NoRoom = omega arith
+
+pub question-short : (r : Refusal) → length (decimal (question r)) ≤ 10
+question-short r = decimal-short 9 (question r) (omega (arith, question-low r))
 
 -- ---- the guard
 

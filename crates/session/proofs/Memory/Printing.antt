@@ -4,7 +4,7 @@ use lib.Seq.{take-suc, take-nil}
 use Rattle.session.specs.Text.{comma, joined}
 use Rattle.session.specs.Answer.{answer-text}
 use Rattle.session.specs.declared.answer.Answer.{Answer}
-use Rattle.session.specs.Memory.Answers.{answer-meaning, Printable, Written, Room, parting, Unended}
+use Rattle.session.specs.Memory.Answers.{answer-meaning, Printable, Written, Room, parting, Bound}
 
 -- ---- one text behind another
 
@@ -121,6 +121,12 @@ module _ {a k : Answer} (o : List ℕ) (e : a ≡ k) where
   pub printable-as : Printable a o → Printable k o
   printable-as = subst (λ (x : Answer). Printable x o) e
 
-  pub unended-as : {b b′ : List ℕ} {r : ℕ} → Unended b (answer-text (answer-meaning k o)) b′ r →
-      Unended b (answer-text (answer-meaning a o)) b′ r
-  unended-as {b} {b′} {r} = subst⁻¹ (λ (x : Answer). Unended b (answer-text (answer-meaning x o)) b′ r) e
+  pub length-as : length (answer-text (answer-meaning a o)) ≡ length (answer-text (answer-meaning k o))
+  length-as = ap (λ (x : Answer). length (answer-text (answer-meaning x o))) e
+
+  pub answer-as : {b b′ : List ℕ} {start r : ℕ} → Written b start (answer-text (answer-meaning k o)) b′ r →
+      Written b start (answer-text (answer-meaning a o)) b′ r
+  answer-as {b} {b′} {start} {r} = subst⁻¹ (λ (x : Answer). Written b start (answer-text (answer-meaning x o)) b′ r) e
+
+  pub bound-as : {r : ℕ} → Bound (answer-text (answer-meaning k o)) r → Bound (answer-text (answer-meaning a o)) r
+  bound-as {r} = subst⁻¹ (λ (x : Answer). Bound (answer-text (answer-meaning x o)) r) e

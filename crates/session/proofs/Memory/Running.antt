@@ -1,6 +1,6 @@
 -- The run: words set to 0, an empty session, and the lines one by one: what the definition makes of all lines from the start is what it
 -- makes of the rest from the present session on, with the lines answered and the bytes written so far in front.
-use Rattle.core.proofs.Kit.{ℕ, suc, _+_, _-_, _≤_, _<_, _≡_, refl, sym, ap, _∙_, _⊎_, inl, inr, ⊎-elim, Bool, true, false, _&&_, leb, List, [], _∷_, _++_, append-assoc, append-nil, zero-add, below-more, arith, le-leb, lt-leb, length, getD, take, drop, set, length-set, length-map, ext-getD, getD-set-same, getD-set-other, length-take-le}
+use Rattle.core.proofs.Kit.{ℕ, suc, _+_, _-_, _≤_, _<_, _≡_, refl, sym, ap, subst, subst⁻¹, _∙_, _⊎_, inl, inr, ⊎-elim, Bool, true, false, _&&_, leb, List, [], _∷_, _++_, append-assoc, append-nil, zero-add, below-more, arith, le-leb, lt-leb, length, getD, take, drop, set, length-set, length-map, ext-getD, getD-set-same, getD-set-other}
 use lib.ListN.{List·getD-map}
 use lib.Seq.{sets-eq, take-at}
 use Rattle.core.proofs.Lists.{and-no}
@@ -9,17 +9,17 @@ use Rattle.core.specs.Context as Context
 use Rattle.solver.proofs.Memory.Levels.{marks-none}
 use Rattle.solver.proofs.Memory.Registering.{cleared-sound, cleared-state}
 use Rattle.solver.specs.Memory.Levels.{entry-level}
-use Rattle.session.specs.Text.{LF, lines}
+use Rattle.session.specs.Text.{lines}
 use Rattle.session.specs.Session as Session
 use Rattle.session.specs.Session.{Performed, empty-session, step}
 use Rattle.session.specs.Run.{Complete, Full, Ran, answers-none, one-more, answer-line, run-lines, tables-suffice, run, output-after, zeros, table-after}
 use Rattle.session.specs.Promise.{ending-meaning, lent, Gives, Runs}
 use Rattle.session.specs.Memory.Lines.{LineEnd}
-use Rattle.session.specs.Answer.{answer-text}
-use Rattle.session.specs.Memory.Answers.{answer-meaning, Written, Room, Prints}
+use Rattle.session.specs.Memory.Answers.{Written, line-text}
 use Rattle.session.specs.Memory.Sessions.{Beside, level-marks, beside, session, after, Steps}
-use Rattle.session.specs.Memory.Running.{TablesLong, EmptyTables, Answerable, AnsweredBy, RunsLines, MayStart, Zeroed, RunsStarted}
+use Rattle.session.specs.Memory.Running.{TablesLong, EmptyTables, Puts, Answerable, AnsweredBy, RunsLines, MayStart, Zeroed, RunsStarted}
 use Rattle.session.specs.declared.answer.Answer as GivenAnswer
+use Rattle.session.specs.declared.run.Placed as Placed
 use Rattle.session.specs.declared.run.Ending as Given
 use Rattle.session.specs.declared.run.Ran as GivenRan
 use Rattle.session.proofs.RunClaim.{Stops, run-stops}
@@ -90,26 +90,35 @@ written-front {b} {xs} w =
 pub written-within : {b xs b′ : List ℕ} {r : ℕ} → Written b 0 xs b′ r → r ≤ length b′
 written-within w = let kept = written-length w in let within = w .within in omega arith
 
--- the step's answer is written as the definition's answer line
-pub answered-by : {line c e s ns : List ℕ} {b : Bool} {a : GivenAnswer.Answer} {c′ e′ s′ ns′ : List ℕ} {b′ : Bool}
-    {o text text′ : List ℕ} {n : ℕ} → Steps line c e s (beside e ns b) a c′ e′ s′ (beside e′ ns′ b′) o → Prints a o text n text′ →
-    AnsweredBy (step (session c e s (beside e ns b)) line) n c′ e′ s′ (beside e′ ns′ b′) text′
-unfolding answer-line
-answered-by {a = a} {o = o} {text} {text′} {n} d w =
+-- what was written at the start of a table of bytes
+front-is : {b xs b′ : List ℕ} {r : ℕ} → Written b 0 xs b′ r → xs ≡ take r b′
+front-is {b} {xs} {r = r} w =
     let ends = w .ends in
-    let line = answer-text (answer-meaning a o) ++ (LF ∷ []) in
-    let long : length line ≡ n = omega arith in
-    record {
-      answerable = record { sound = d .sound; reached = d .reached };
-      after = ap (λ (p : Performed). p .session) (d .stepped);
-      line = ap (take n) (written-front w) ∙ take-at line (drop (length line) text) n long ∙ sym (ap answer-line (d .stepped));
-      long = written-within w;
-    }
+    let long : length xs ≡ r = omega arith in
+    sym (ap (take r) (written-front w) ∙ take-at xs (drop (length xs) b) r long)
 
--- how long it is
-line-long : {p : Performed} {n : ℕ} {c e s : List ℕ} {m : Beside} {text : List ℕ} → AnsweredBy p n c e s m text →
-    length (answer-line p) ≡ n
-line-long {n = n} {text = text} f = sym (ap length (f .line)) ∙ length-take-le n text (f .long)
+pub front-long : {b xs b′ : List ℕ} {r : ℕ} → Written b 0 xs b′ r → length (take r b′) ≡ r
+front-long w = let ends = w .ends in sym (ap length (front-is w)) ∙ omega arith
+
+-- a line that was written to another table first
+pub put-copied : {b line b′ o o′ : List ℕ} {n start r : ℕ} → Written b 0 line b′ n → Written o start (take n b′) o′ r →
+    Written o start line o′ r
+put-copied w v = written-as v (front-is w)
+
+-- what the step answers is put as the definition's answer line
+pub answered-by : {line c e s ns : List ℕ} {b : Bool} {a : GivenAnswer.Answer} {c′ e′ s′ ns′ : List ℕ} {b′ : Bool}
+    {t o o′ : List ℕ} {start : ℕ} {d : Placed.Placed} → Steps line c e s (beside e ns b) a c′ e′ s′ (beside e′ ns′ b′) t →
+    Puts d o start (line-text a t) o′ →
+    AnsweredBy (step (session c e s (beside e ns b)) line) d c′ e′ s′ (beside e′ ns′ b′) o start o′
+unfolding answer-line
+answered-by {o = o} {o′} {start} {d} z w = record {
+  answerable = record { sound = z .sound; reached = z .reached };
+  after = ap (λ (p : Performed). p .session) (z .stepped);
+  line = subst⁻¹ (λ (p : Performed). Puts d o start (answer-line p) o′) (z .stepped) w;
+}
+
+puts-as : {d k : Placed.Placed} (o : List ℕ) (start : ℕ) (text o′ : List ℕ) → d ≡ k → Puts d o start text o′ → Puts k o start text o′
+puts-as o start text o′ = subst (λ (x : Placed.Placed). Puts x o start text o′)
 
 module _ (room : ℕ) (s : Session.Session) (l : List ℕ) (ls : List (List ℕ)) where
   line-fits : length (answer-line (step s l)) ≤ room →
@@ -184,35 +193,31 @@ module _ {script o₀ c e s : List ℕ} {m : Beside} {at n written : ℕ} {o : L
     abbrev line : List ℕ
     line = take (end - at) (drop at script)
 
-    module _ {size : ℕ} {c′ e′ s′ ns : List ℕ} {b : Bool} {text : List ℕ}
-        (f : AnsweredBy (step (session c e s m) line) size c′ e′ s′ (beside e′ ns b) text) where
+    module _ {d : Placed.Placed} {c′ e′ s′ ns : List ℕ} {b : Bool} {o′ : List ℕ}
+        (f : AnsweredBy (step (session c e s m) line) d c′ e′ s′ (beside e′ ns b) o written o′) where
       -- the next line has no room
-      pub run-full : length o - written < size →
-          RunsLines script o₀ (record { ending = Given.the-variants.Full; answered = n; written = written }) o
+      pub run-full : d ≡ Placed.the-variants.Full →
+          RunsLines script o₀ (record { ending = Given.the-variants.Full; answered = n; written = written }) o′
       unfolding ending-meaning
       run-full g =
+          let put = puts-as o written (answer-line (step (session c e s m) line)) o′ g (f .line) in
+          let same = put .0 in
+          let long = put .1 in
           let kept = written-length (z .done) in
-          let long = line-long f in
           let full = line-full (length o₀ - written) (session c e s m) line (lines (drop (suc end) script)) (omega arith) in
-          gives Given.the-variants.Full (z .done) (z .rest ∙ rw (lines-from script at end h l, full))
-
-      pub line-room : size ≤ length o - written → Room o written (take size text)
-      line-room g =
-          let within = written-within (z .done) in
-          let long = length-take-le size text (f .long) in
-          omega arith
+          rw same (gives Given.the-variants.Full (z .done) (z .rest ∙ rw (lines-from script at end h l, full)))
 
       -- the next line is answered
-      pub run-next : {k written′ : ℕ} {o′ : List ℕ} → k ≡ n + 1 → size ≤ length o - written →
-          Written o written (take size text) o′ written′ → Running script o₀ c′ e′ s′ (beside e′ ns b) (end + 1) k written′ o′
-      run-next {k} {written′} {o′} counted g v =
+      pub run-next : {k written′ : ℕ} → k ≡ n + 1 → d ≡ Placed.the-variants.Ends written′ →
+          Running script o₀ c′ e′ s′ (beside e′ ns b) (end + 1) k written′ o′
+      run-next {k} {written′} counted g =
+          let text′ = answer-line (step (session c e s m) line) in
+          let v : Written o written text′ o′ written′ = puts-as o written text′ o′ g (f .line) in
           let kept = written-length (z .done) in
-          let long = line-long f in
           let fewer = z .fewer in
           let after = l .after in
           let ends = v .ends in
-          let cut = length-take-le size text (f .long) in
-          let text′ = answer-line (step (session c e s m) line) in
+          let within = v .within in
           let fits = line-fits (length o₀ - written) (session c e s m) line (lines (drop (suc end) script)) (omega arith) in
           let room : length o₀ - written - length text′ ≡ length o₀ - written′ = omega arith in
           let next : suc end ≡ end + 1 = omega arith in
@@ -220,7 +225,7 @@ module _ {script o₀ c e s : List ℕ} {m : Beside} {at n written : ℕ} {o : L
             answerable = f .answerable;
             fewer = omega arith;
             bytes = z .bytes ++ text′;
-            done = written-more (z .done) (written-as v (sym (f .line)));
+            done = written-more (z .done) v;
             rest = z .rest ∙ rw (lines-from script at end h l, fits, front-more, room, f .after, next, counted);
           }
 

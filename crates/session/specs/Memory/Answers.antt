@@ -75,16 +75,11 @@ guards-text o = joined comma (map decimal (listed (split-guard o)))
 abbrev pub phases-text : List ℕ → List ℕ
 phases-text o = joined comma (map phase-text (split-phases o))
 
--- the text of an answer stands at the start of a table of bytes, and its LF still fits
-pub record Unended (b text b′ : List ℕ) (r : ℕ) : Type 0 where
-  pub written : Written b 0 text b′ r
-  pub short : r < max-line
+-- the answer line, with its LF
+abbrev pub line-text : Given.Answer → List ℕ → List ℕ
+line-text a o = answer-text (answer-meaning a o) ++ (LF ∷ [])
 
--- an answer can be printed to a table of bytes
-pub record MayPrint (a : Given.Answer) (o b : List ℕ) : Type 0 where
-  pub printable : Printable a o
-  pub long : max-line ≤ length b
-
--- the answer line with its LF stands at the start of a table of bytes and has r bytes
-abbrev pub Prints : Given.Answer → List ℕ → List ℕ → ℕ → List ℕ → Type 0
-Prints a o b r b′ = Written b 0 (answer-text (answer-meaning a o) ++ (LF ∷ [])) b′ r
+-- a text and an LF have at most r bytes, and no more than the longest answer line
+pub record Bound (text : List ℕ) (r : ℕ) : Type 0 where
+  pub most : length text < r
+  pub short : length text < max-line

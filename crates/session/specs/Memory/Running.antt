@@ -1,8 +1,8 @@
 -- What the functions of the run promise one another.
-use Prim.Native.Nat.{ℕ, _≤_}
+use Prim.Native.Nat.{ℕ, _+_, _≤_, _<_}
 use mathlib.Core.Path.{_≡_}
 use mathlib.Core.List.{List, []}
-use lib.ListN.{length, take}
+use lib.ListN.{length}
 use Rattle.core.specs.Limits.{table-words, max-script}
 use Rattle.core.specs.Context.{empty-context}
 use Rattle.core.specs.Memory.Table.{context, ContextSound}
@@ -13,6 +13,9 @@ use Rattle.session.specs.Session.{Performed, empty-session, step}
 use Rattle.session.specs.Run.{answer-line, run-lines, zeros}
 use Rattle.session.specs.Promise.{Gives}
 use Rattle.session.specs.Memory.Sessions.{Beside, session, Reached, SessionSound}
+use Rattle.session.specs.Memory.Answers.{Printable, max-line, Written, line-text}
+use Rattle.session.specs.declared.answer.Answer as GivenAnswer
+use Rattle.session.specs.declared.run.Placed as Placed
 use Rattle.session.specs.declared.run.Ran.{Ran}
 
 -- ---- an empty session
@@ -30,6 +33,19 @@ pub record EmptyTables (c e s : List ℕ) : Type 0 where
   pub engine : Engine e [] 0
   pub solver : SolverCleared s
 
+-- ---- an answer line
+
+-- A text was put at a place of the output; or it does not fit there, and the output is as it was.
+abbrev pub Puts : Placed.Placed → List ℕ → ℕ → List ℕ → List ℕ → Type 0
+Puts (Placed.the-variants.Ends r) o start text o′ = Written o start text o′ r
+Puts Placed.the-variants.Full o start text o′ = (o′ ≡ o) × (length o < start + length text)
+
+-- an answer can be put at a place of the output, by way of a table that every answer line fits
+pub record MayPutTight (a : GivenAnswer.Answer) (t o : List ℕ) (start : ℕ) : Type 0 where
+  pub printable : Printable a t
+  pub short : length (line-text a t) ≤ max-line
+  pub within : start ≤ length o
+
 -- ---- the lines
 
 -- a session that lines lead to, in tables that fit together: the next line may be answered
@@ -37,15 +53,16 @@ pub record Answerable (c e s : List ℕ) (m : Beside) : Type 0 where
   pub sound : SessionSound c e s m
   pub reached : Reached (session c e s m)
 
--- It was: the tables, m and n bytes of the text show what the definition's step p gives, the session after the line and its answer line.
-pub record AnsweredBy (p : Performed) (n : ℕ) (c e s : List ℕ) (m : Beside) (text : List ℕ) : Type 0 where
-  pub answerable : Answerable c e s m
-  pub after : p .session ≡ session c e s m
-  pub line : take n text ≡ answer-line p
-  pub long : n ≤ length text
+-- It was: the tables and m show the session after the definition's step p, and its answer line was put at a place of the output.
+pub record AnsweredBy (p : Performed) (d : Placed.Placed) (c e s : List ℕ) (m : Beside) (o : List ℕ) (start : ℕ) (o′ : List ℕ) : Type 0
+  where
+    pub answerable : Answerable c e s m
+    pub after : p .session ≡ session c e s m
+    pub line : Puts d o start (answer-line p) o′
 
-abbrev pub AnswersLine : List ℕ → List ℕ → List ℕ → List ℕ → Beside → ℕ → List ℕ → List ℕ → List ℕ → Beside → List ℕ → Type 0
-AnswersLine line c e s m n c′ e′ s′ m′ text = AnsweredBy (step (session c e s m) line) n c′ e′ s′ m′ text
+abbrev pub AnswersLine :
+    List ℕ → List ℕ → List ℕ → List ℕ → Beside → Placed.Placed → List ℕ → List ℕ → List ℕ → Beside → List ℕ → ℕ → List ℕ → Type 0
+AnswersLine line c e s m d c′ e′ s′ m′ o start o′ = AnsweredBy (step (session c e s m) line) d c′ e′ s′ m′ o start o′
 
 -- the lines of a script may be answered, from the first on
 pub record MayRun (script c e s : List ℕ) : Type 0 where

@@ -1,35 +1,38 @@
--- Six texts, one behind the other. 512 atoms, a guard and 512 phases are shorter than 1,024 leaves.
+-- Six texts, one behind the other.
 use Rattle.core.proofs.Kit.{arith, needs}
 use Rattle.solver.specs.Memory.Answer.{split-of}
 use Rattle.session.specs.Text.{bytes}
 use Rattle.session.specs.Answer.{check-text}
 use Rattle.session.proofs.Memory.Printing.{written-more}
-use Rattle.session.proofs.Memory.Lengths.{SplitShort, split-short}
+use Rattle.session.proofs.Memory.Lengths.{split-length}
 use Rattle.session.proofs.answer.write_split.Statement.{statement}
 use Rattle.session.proofs.answer.write_split.Tie as tie
 
-short : (c : tie.After-shared-slice-known) → SplitShort (c .before .args .o .now)
-short c = split-short (c .before .pre .0) (c .shared-slice-known .given)
+write-text-requires : tie.Need-write-text-requires
+write-text-requires c κs =
+    let start = c .before .before .before .before in
+    omega (arith, split-length (start .args .o .now), start .pre .1)
 
 write-atoms-requires : tie.Need-write-atoms-requires
 write-atoms-requires c κs =
     let at-name = c .before .before .before in
-    let at-words = at-name .before .before .before .before in
-    (at-words .before .pre .0, omega (arith, short at-words))
+    let start = at-name .before .before .before .before .before in
+    (start .pre .0, omega (arith, split-length (start .args .o .now), start .pre .1))
 
 write-byte-requires : tie.Need-write-byte-requires
 write-byte-requires c κs =
     let at-atoms = c .before .before .before in
     let at-name = at-atoms .before .before .before .before in
-    omega (arith, short (at-name .before .before .before .before))
+    let start = at-name .before .before .before .before .before in
+    omega (arith, split-length (start .args .o .now), start .pre .1)
 
 write-guards-requires : tie.Need-write-guards-requires
 write-guards-requires c κs =
     let at-first = c .before .before .before in
     let at-atoms = at-first .before .before .before .before in
     let at-name = at-atoms .before .before .before .before in
-    let at-words = at-name .before .before .before .before in
-    (at-words .before .pre .0, omega (arith, short at-words))
+    let start = at-name .before .before .before .before .before in
+    (start .pre .0, omega (arith, split-length (start .args .o .now), start .pre .1))
 
 write-byte-requires-2 : tie.Need-write-byte-requires-2
 write-byte-requires-2 c κs =
@@ -37,7 +40,8 @@ write-byte-requires-2 c κs =
     let at-first = at-guards .before .before .before .before in
     let at-atoms = at-first .before .before .before .before in
     let at-name = at-atoms .before .before .before .before in
-    omega (arith, short (at-name .before .before .before .before))
+    let start = at-name .before .before .before .before .before in
+    omega (arith, split-length (start .args .o .now), start .pre .1)
 
 write-phases-requires : tie.Need-write-phases-requires
 write-phases-requires c κs =
@@ -46,8 +50,8 @@ write-phases-requires c κs =
     let at-first = at-guards .before .before .before .before in
     let at-atoms = at-first .before .before .before .before in
     let at-name = at-atoms .before .before .before .before in
-    let at-words = at-name .before .before .before .before in
-    (at-words .before .pre .0, omega (arith, short at-words))
+    let start = at-name .before .before .before .before .before in
+    (start .pre .0, omega (arith, split-length (start .args .o .now), start .pre .1))
 
 returns : tie.Need-returns
 unfolding check-text split-of bytes
@@ -60,11 +64,10 @@ returns c =
     let at-name = at-atoms .before .before .before .before in
     let atoms = written-more (at-name .write-text .ensures) (at-atoms .write-atoms .ensures) in
     let guards = written-more (written-more atoms (at-first .write-byte .ensures)) (at-guards .write-guards .ensures) in
-    let all = written-more (written-more guards (at-second .write-byte2 .ensures)) (at-phases .write-phases .ensures) in
-    record { written = all; short = omega (arith, short (at-name .before .before .before .before)) }
+    written-more (written-more guards (at-second .write-byte2 .ensures)) (at-phases .write-phases .ensures)
 
 pub write-split-spec : {M : Type 1} → statement M
 write-split-spec =
     tie.close
-    (tie.spec (λ c. search needs) (λ c κs. search needs) write-atoms-requires write-byte-requires write-guards-requires
+    (tie.spec (λ c. search needs) write-text-requires write-atoms-requires write-byte-requires write-guards-requires
     write-byte-requires-2 write-phases-requires (λ c. search needs) returns)
