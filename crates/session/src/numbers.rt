@@ -48,13 +48,10 @@ pub fn read_number(ds: &[u8]) -> Number
     if ds.len() == 0 {
         return Number::Bad;
     }
-    if ds[0] != b'0' {
-        return read_digits(ds);
+    if 1 < ds.len() && ds[0] == b'0' {
+        return Number::Bad;
     }
-    if ds.len() == 1 {
-        return Number::At(0);
-    }
-    Number::Bad
+    read_digits(ds)
 }
 
 // The numbers between the commas of a value go to the start of a table. Given is how many they are, or 0 if one does not read or

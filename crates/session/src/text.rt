@@ -24,6 +24,18 @@ pub fn write_text(buf: &mut [u8], at: usize, text: &[u8]) -> usize
 }
 
 // Without leading zeros: the digits before the last, if there are any, then the last.
+fn write_digits(buf: &mut [u8], at: usize, n: u32) -> usize
+    requires { ⌜ Room (now buf) at (decimal n) ⌝ }
+    ensures { λ r. ⌜ Written (now (buf .entry)) at (decimal n) (now (buf .exit)) r ⌝ }
+{
+    if n < 10 {
+        return write_byte(buf, at, 48 + n as u8);
+    }
+    let last = write_digits(buf, at, n / 10);
+    write_byte(buf, last, 48 + (n % 10) as u8)
+}
+
+// The same; most numbers have one digit, which takes no call of a function that calls itself.
 pub fn write_decimal(buf: &mut [u8], at: usize, n: u32) -> usize
     requires { ⌜ Room (now buf) at (decimal n) ⌝ }
     ensures { λ r. ⌜ Written (now (buf .entry)) at (decimal n) (now (buf .exit)) r ⌝ }
@@ -31,6 +43,5 @@ pub fn write_decimal(buf: &mut [u8], at: usize, n: u32) -> usize
     if n < 10 {
         return write_byte(buf, at, 48 + n as u8);
     }
-    let last = write_decimal(buf, at, n / 10);
-    write_byte(buf, last, 48 + (n % 10) as u8)
+    write_digits(buf, at, n)
 }

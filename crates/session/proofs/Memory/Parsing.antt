@@ -88,17 +88,11 @@ unfolding number well-written
 number-empty [] h = refl
 number-empty (d ∷ ds) h = absurd (omega arith)
 
-pub number-led : (ds : List ℕ) → getD ds 0 0 ≡ 48 → (length ds ≡ 1 → ⊥) → number ds ≡ none
+pub number-led : (ds : List ℕ) → 1 < length ds → getD ds 0 0 ≡ 48 → number ds ≡ none
 unfolding number well-written
-number-led [] e h = refl
-number-led (d ∷ []) e h = absurd (h refl)
-number-led (d ∷ x ∷ ds) e h = rw (lt-leb 49 d (omega arith))
-
-pub number-zero : (ds : List ℕ) → getD ds 0 0 ≡ 48 → length ds ≡ 1 → number ds ≡ some 0
-unfolding number well-written is-digit value
-number-zero [] e h = absurd (omega arith)
-number-zero (d ∷ []) e h = rw e
-number-zero (d ∷ x ∷ ds) e h = absurd (omega arith)
+number-led [] h e = refl
+number-led (d ∷ []) h e = absurd (omega arith)
+number-led (d ∷ x ∷ ds) h e = rw (lt-leb 49 d (omega arith))
 
 plain-digit : (d : ℕ) → (d ≡ 48 → ⊥) → (leb 49 d && leb d 57) ≡ is-digit d
 unfolding is-digit
@@ -108,7 +102,8 @@ plain-digit d e = go (decLe 49 d)
     go (yes l) = rw (le-leb 49 d l, le-leb 48 d (omega arith))
     go (no l) = rw (lt-leb 49 d (omega arith), lt-leb 48 d (omega arith))
 
-plain-digits : (ds : List ℕ) → (getD ds 0 0 ≡ 48 → ⊥) → (length ds ≡ 0 → ⊥) → well-written ds ≡ every is-digit ds
+-- a digit alone may be zero
+plain-digits : (ds : List ℕ) → (1 < length ds → getD ds 0 0 ≡ 48 → ⊥) → (length ds ≡ 0 → ⊥) → well-written ds ≡ every is-digit ds
 unfolding well-written every
 plain-digits [] e h = absurd (h refl)
 plain-digits (d ∷ []) e h = go (is-digit d)
@@ -117,13 +112,13 @@ plain-digits (d ∷ []) e h = go (is-digit d)
     go true = refl
     go false = refl
 plain-digits (d ∷ x ∷ ds) e h =
-    ap (λ (b : Bool). b && every is-digit (x ∷ ds)) (plain-digit d e) ∙ go (is-digit d) (every is-digit (x ∷ ds))
+    ap (λ (b : Bool). b && every is-digit (x ∷ ds)) (plain-digit d (e (omega arith))) ∙ go (is-digit d) (every is-digit (x ∷ ds))
   where
     go : (b r : Bool) → (b && r) ≡ cond b r false
     go true r = refl
     go false r = refl
 
-pub number-plain : (ds : List ℕ) → (getD ds 0 0 ≡ 48 → ⊥) → (length ds ≡ 0 → ⊥) → number ds ≡ digits-from 0 ds
+pub number-plain : (ds : List ℕ) → (1 < length ds → getD ds 0 0 ≡ 48 → ⊥) → (length ds ≡ 0 → ⊥) → number ds ≡ digits-from 0 ds
 unfolding number value digits-from value-from
 number-plain ds e h = rw (plain-digits ds e h)
 

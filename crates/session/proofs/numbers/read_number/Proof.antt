@@ -1,7 +1,7 @@
--- A zero stands alone, and what has no zero in front is its digits.
-use Rattle.core.proofs.Kit.{needs, sym, _∙_, arith}
+-- No zero stands before other digits, and what has none there is its digits.
+use Rattle.core.proofs.Kit.{_<_, _≡_, sym, _∙_, ⊎-elim, arith, needs, eqb-true, eqb-false, length, getD}
 use Rattle.session.specs.Memory.Numbers.{number-meaning}
-use Rattle.session.proofs.Memory.Parsing.{number-empty, number-plain, number-zero, number-led}
+use Rattle.session.proofs.Memory.Parsing.{number-empty, number-led, number-plain}
 use Rattle.session.proofs.numbers.read_number.Statement.{statement}
 use Rattle.session.proofs.numbers.read_number.Tie as tie
 
@@ -10,17 +10,17 @@ unfolding number-meaning
 returns c = let ds = c .before .before .args .ds .now in sym (number-empty ds (omega arith))
 
 returns-2 : tie.Need-returns-2
+unfolding number-meaning
 returns-2 c =
     let ds = c .before .before .before .before .before .args .ds .now in
-    c .read-digits .ensures ∙ sym (number-plain ds (omega arith) (omega arith))
+    sym (number-led ds (c .before .before .if2 .taken) (eqb-true _ _ (c .if3 .taken)))
 
 returns-3 : tie.Need-returns-3
-unfolding number-meaning
-returns-3 c = let ds = c .before .before .before .before .before .args .ds .now in sym (number-zero ds (omega arith) (omega arith))
-
-returns-4 : tie.Need-returns-4
-unfolding number-meaning
-returns-4 c = let ds = c .before .before .before .before .before .args .ds .now in sym (number-led ds (omega arith) (omega arith))
+returns-3 c =
+    let ds = c .before .before .before .before .args .ds .now in
+    let plain : 1 < length ds → getD ds 0 0 ≡ 48 → ⊥ =
+    λ l e. ⊎-elim (λ w. eqb-false _ _ (w .2 .left) e) (λ w. let one = w .left in omega arith) (c .before .if2 .came) in
+    c .read-digits .ensures ∙ sym (number-plain ds plain (omega arith))
 
 pub read-number-spec : {M : Type 1} → statement M
-read-number-spec = tie.close (tie.spec returns (λ c. search needs) (λ c κs. search needs) returns-2 returns-3 returns-4)
+read-number-spec = tie.close (tie.spec returns (λ c. search needs) returns-2 (λ c κs. search needs) returns-3)

@@ -4,23 +4,23 @@ use borrow.Fn.Kinds.{In}
 use borrow.Fn.PlainCycle.{Measures, falls, and}
 use Rattle.session.proofs.Memory.Digits.{decimal-digit, decimal-digits, digits-length}
 use Rattle.session.proofs.Memory.Printing.{written-as, written-more}
-use Rattle.session.proofs.text.write_decimal.Reads as write-decimal
-use Rattle.session.proofs.text.write_decimal.Kinds as write-decimal-kinds
-use Rattle.session.proofs.text.+write_decimal.Lts-write_decimal as write-decimal-lts
+use Rattle.session.proofs.text.write_digits.Reads as write-digits
+use Rattle.session.proofs.text.write_digits.Kinds as write-digits-kinds
+use Rattle.session.proofs.text.+write_digits.Lts-write_digits as write-digits-lts
 use Rattle.session.proofs.text.write_byte.Reads as write-byte
-use Rattle.session.proofs.text.+write_decimal.{statement}
-use Rattle.session.proofs.text.+write_decimal.Tie.{close}
+use Rattle.session.proofs.text.+write_digits.{statement}
+use Rattle.session.proofs.text.+write_digits.Tie.{close}
 
-abbrev μ-write-decimal : Measures 1 write-decimal-kinds.ps ℕ
-μ-write-decimal κs a = a .1 .1 .0
+abbrev μ-write-digits : Measures 1 write-digits-kinds.ps ℕ
+μ-write-digits κs a = a .1 .1 .0
 
-abbrev below : ℕ → In 1 write-decimal-kinds.ps
-below t = and 1 write-decimal-kinds.ps (falls 1 write-decimal-kinds.ps _<_ μ-write-decimal t) write-decimal.Pre
+abbrev below : ℕ → In 1 write-digits-kinds.ps
+below t = and 1 write-digits-kinds.ps (falls 1 write-digits-kinds.ps _<_ μ-write-digits t) write-digits.Pre
 
-pub +write-decimal-spec : {M : Type 1} → statement M
-+write-decimal-spec =
-    close μ-write-decimal λ t.
-    write-decimal-lts.spec (write-byte.Asked, write-byte.Learnt, below t, write-decimal.Post) _ write-decimal.Post
+pub +write-digits-spec : {M : Type 1} → statement M
++write-digits-spec =
+    close μ-write-digits λ t.
+    write-digits-lts.spec (write-byte.Asked, write-byte.Learnt, below t, write-digits.Post) _ write-digits.Post
     (λ c. search needs)
     (λ c. search needs)
     (λ c κs.
@@ -44,4 +44,4 @@ pub +write-decimal-spec : {M : Type 1} → statement M
     (λ c.
     let at-byte = c .before .before in
     let at-tenth = at-byte .before .before .before .before in
-    written-as (written-more (at-tenth .write-decimal .ensures) (at-byte .write-byte2 .ensures)) (decimal-digits _ (omega arith)))
+    written-as (written-more (at-tenth .write-digits .ensures) (at-byte .write-byte2 .ensures)) (decimal-digits _ (omega arith)))
