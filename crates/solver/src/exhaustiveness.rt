@@ -37,7 +37,7 @@ ghost use Rattle.solver.specs.Memory.Table.{MARK, SolverSound};
 ghost use Rattle.solver.specs.Memory.Work.{ClassAsked, CheckSound};
 ghost use Rattle.solver.specs.Memory.Answer.{phase-meaning, Tried};
 ghost use Rattle.solver.specs.Memory.Checks.{WatchedAsked, ChecksWatched};
-ghost use Rattle.solver.specs.Memory.Splitting.{is-undetermined, Passed, Watches, Testable, MakesTester, Splittable, MakesTesters, SplitsOn};
+ghost use Rattle.solver.specs.Memory.Splitting.{is-undetermined, Passed, Watches, Testable, MakesTester, Splittable, MakesTesters, SplitsOn, FoundAsked, FoundAnswered};
 
 // What the watched terms ask whose classes have no marked constructor application: a split on the lowest that was not split on; where
 // all were, there is no answer yet.
@@ -181,6 +181,18 @@ fn split_on(t: &mut [u32], s: &mut [u32], x: TermId, out: &mut [u32]) -> TCheck
     TCheck::Split
 }
 
+// What was found is answered: by a split, or by unknown; where nothing was, the rule passes.
+fn answer_found(t: &mut [u32], s: &mut [u32], found: Undetermined, out: &mut [u32]) -> TCheck
+    requires { ⌜ FoundAsked (now t) (now s) found (now out) ⌝ }
+    ensures { λ r. ⌜ FoundAnswered found (now (t .entry)) (now (s .entry)) r (now (t .exit)) (now (s .exit)) (now (out .exit)) ⌝ }
+{
+    match found {
+        Undetermined::Split(x) => split_on(t, s, x, out),
+        Undetermined::Unknown => TCheck::Unknown,
+        Undetermined::Nothing => TCheck::Sat,
+    }
+}
+
 // Exhaustiveness, then unknown.
 pub fn exhaustiveness_split(
     t: &mut [u32],
@@ -194,11 +206,8 @@ pub fn exhaustiveness_split(
         (now (t .entry)) (now (e .entry)) (now (s .entry)) (now (w .entry))
         r (now (t .exit)) (now (s .exit)) (now (w .entry)) (now (out .exit)) ⌝ }
 {
-    match has_undetermined_class(t, e, s, w) {
-        Undetermined::Split(x) => split_on(t, s, x, out),
-        Undetermined::Unknown => TCheck::Unknown,
-        Undetermined::Nothing => TCheck::Sat,
-    }
+    let found = has_undetermined_class(t, e, s, w);
+    answer_found(t, s, found, out)
 }
 
 // The whole check where no constructor application is marked and no tester was asserted: nothing else applies.
@@ -206,9 +215,6 @@ pub fn split_watched(t: &mut [u32], s: &mut [u32], out: &mut [u32]) -> TCheck
     requires { ⌜ WatchedAsked (now t) (now s) (now out) ⌝ }
     ensures { λ r. ⌜ ChecksWatched (now (t .entry)) (now (s .entry)) r (now (t .exit)) (now (s .exit)) (now (out .exit)) ⌝ }
 {
-    match has_watched_term(t, s) {
-        Undetermined::Split(x) => split_on(t, s, x, out),
-        Undetermined::Unknown => TCheck::Unknown,
-        Undetermined::Nothing => TCheck::Sat,
-    }
+    let found = has_watched_term(t, s);
+    answer_found(t, s, found, out)
 }

@@ -29,7 +29,7 @@ use Rattle.solver.specs.declared.work.CtorOf as CtorOf
 use Rattle.solver.specs.declared.exhaustiveness.Undetermined as Undetermined
 use Rattle.solver.specs.Memory.Table.{watched-kind, COUNTS, RECORDS, MARK, LASTING, EMITTED, SPLIT, solver-room, records#, SolverSound, is-set, flagged-from, term-kind, state-with, dt-with}
 use Rattle.solver.specs.Memory.Work.{W-MARK, state-at, apps-from, first-in-class, ctor-meaning, CtorOfClass, WorkSound, CheckSound}
-use Rattle.solver.specs.Memory.Splitting.{is-watched, is-open, is-undetermined, Found, Passed, Testable, testers-at, MakesTester, Splittable, ctors-of, TestersOutcome, MakesTesters, SplitsOn}
+use Rattle.solver.specs.Memory.Splitting.{is-watched, is-open, is-undetermined, Found, Passed, Testable, testers-at, MakesTester, Splittable, ctors-of, TestersOutcome, MakesTesters, SplitsOn, FoundAsked, FoundAnswered}
 use Rattle.solver.specs.Memory.Answer.{split-of, listed, split-atoms, split-guard, split-phases, SplitSound, SplitCleared, TesterPushed, Tried}
 use Rattle.solver.proofs.Basics.{first-none, first-some, in-gather, by-test}
 use Rattle.solver.proofs.Terms.{extends-self, extends-then, extends-length, extends-sort-of, extends-symbols, extends-symbol, mk-app-makes, mk-app-formed}
@@ -668,6 +668,27 @@ module _ {c : List ℕ} {x : ℕ} {p s : List ℕ} (y : Splittable c x p) (z : S
       answers = λ i. let k : _≡_ {A = ℕ} 0 1 = cc in omega arith;
     }
 
+-- ---- what was found
+
+pub found-splittable : {c s o : List ℕ} {u : Undetermined.Undetermined} {x : TermId} → FoundAsked c s u o →
+    u ≡ Undetermined.the-variants.Split x → Splittable c (x .0) o
+found-splittable {x = x} y i = record { core = y .core; formed = y .formed; signed = y .signed; within = y .within x i; long = y .long }
+
+module _ {c s c′ s′ o : List ℕ} (u : Undetermined.Undetermined) where
+  pub found-split : {x : TermId} {r : TCheck.TCheck} → u ≡ Undetermined.the-variants.Split x → SplitsOn c s (x .0) r c′ s′ o →
+      FoundAnswered u c s r c′ s′ o
+  found-split {x} {r} i k = subst (λ (v : Undetermined.Undetermined). FoundAnswered v c s r c′ s′ o) (sym i) k
+
+pub found-unknown : (c s o : List ℕ) {u : Undetermined.Undetermined} → u ≡ Undetermined.the-variants.Unknown →
+    FoundAnswered u c s TCheck.the-variants.Unknown c s o
+found-unknown c s o i =
+    subst (λ (v : Undetermined.Undetermined). FoundAnswered v c s TCheck.the-variants.Unknown c s o) (sym i) (refl, refl, refl)
+
+pub found-nothing : (c s o : List ℕ) {u : Undetermined.Undetermined} → u ≡ Undetermined.the-variants.Nothing →
+    FoundAnswered u c s TCheck.the-variants.Sat c s o
+found-nothing c s o i =
+    subst (λ (v : Undetermined.Undetermined). FoundAnswered v c s TCheck.the-variants.Sat c s o) (sym i) (refl, refl, refl)
+
 -- ---- the rule
 
 abbrev rule : State → Ruled
@@ -678,19 +699,13 @@ module _ {c e s w : List ℕ} (C : CheckSound c e s w) {r : Undetermined.Undeter
   passed-as i lv = subst (λ (a : Undetermined.Undetermined). Found a (state-at c e s w lv)) i (P .is lv)
 
   -- the term that is to be split on is a term
-  pub splittable : {x : TermId} {o : List ℕ} → r ≡ Undetermined.the-variants.Split x → answer-size ≤ length o → Splittable c (x .0) o
+  split-within : {x : TermId} → r ≡ Undetermined.the-variants.Split x → x .0 < length (context c .terms)
   unfolding watched-dt-terms state-with
-  splittable {x} i l =
+  split-within {x} i =
       let z = state-at c e s w (λ j. j) in
       let (k, t) = first-some (to-split z) (watched-dt-terms z) (x .0) (passed-as i (λ j. j)) in
       let (j, d) = keep-in (λ y. is-datatype-sort (z .terms) (sort-of (z .terms) y)) (z .dt .marks) (x .0) k in
-      record {
-        core = C .state .core;
-        formed = C .state .formed;
-        signed = C .state .signed;
-        within = datatype-within (context c) (C .state .signed) (x .0) d;
-        long = l;
-      }
+      datatype-within (context c) (C .state .signed) (x .0) d
 
   pub split-tried : {x : TermId} {a : TCheck.TCheck} {c′ s′ o : List ℕ} → r ≡ Undetermined.the-variants.Split x →
       SplitsOn c s (x .0) a c′ s′ o → Tried rule c e s w a c′ s′ w o
@@ -730,3 +745,21 @@ module _ {c e s w : List ℕ} (C : CheckSound c e s w) {r : Undetermined.Undeter
     unchanged = λ q. refl;
     readable = tt;
   }
+
+-- by what the pass found
+pub found-asked : {c e s w o : List ℕ} {u : Undetermined.Undetermined} → CheckSound c e s w → Passed c e s w u → answer-size ≤ length o →
+    FoundAsked c s u o
+found-asked C P l = record {
+  core = C .state .core;
+  formed = C .state .formed;
+  signed = C .state .signed;
+  solver = C .state .solver;
+  within = λ x i. split-within C P i;
+  long = l;
+}
+
+pub found-tried : {c e s w c′ s′ o : List ℕ} {r : TCheck.TCheck} (u : Undetermined.Undetermined) → CheckSound c e s w →
+    Passed c e s w u → FoundAnswered u c s r c′ s′ o → Tried rule c e s w r c′ s′ w o
+found-tried (Undetermined.the-variants.Split x) C P k = split-tried C P refl k
+found-tried Undetermined.the-variants.Unknown C P (q, i, j) = rw (q, i, j) (unknown-tried C P refl)
+found-tried Undetermined.the-variants.Nothing C P (q, i, j) = rw (q, i, j) (none-tried C P refl)

@@ -17,7 +17,7 @@ use Rattle.solver.specs.Memory.Table.{MARK, LASTING, SPLIT, is-set, flag
 use Rattle.solver.specs.Memory.Recording.{NoneAnnounced, NoneLasting}
 use Rattle.solver.specs.Memory.Work.{W-MARK, state-at, apps-from, first-in-class, ctor-meaning, marks-only, CtorOfClass, CheckSound}
 use Rattle.solver.specs.Memory.Answer.{answer-meaning, Outcome, Tried}
-use Rattle.solver.specs.Memory.Splitting.{is-undetermined, Watches, Splittable, SplitsOn}
+use Rattle.solver.specs.Memory.Splitting.{is-undetermined, Watches, SplitsOn, FoundAsked, FoundAnswered}
 use Rattle.solver.specs.Memory.Checks.{passes, from-split, Rings, WatchedAsked, ChecksWatched, ChecksKept}
 use Rattle.solver.proofs.Basics.{none-some, by-test}
 use Rattle.solver.proofs.NoApps.{no-ring, only-watched}
@@ -170,14 +170,13 @@ answers TCheck.the-variants.Split d = refl
 answers TCheck.the-variants.Unknown d = refl
 answers TCheck.the-variants.NoRoom d = refl
 
--- the term that is to be split on
-pub watched-splittable : {c s o : List ℕ} {r : Undetermined.Undetermined} {x : TermId} → WatchedAsked c s o → Watches c s r →
-    r ≡ Undetermined.the-variants.Split x → Splittable c (x .0) o
-watched-splittable {x = x} y w i =
-    record { core = y .core; formed = y .formed; signed = y .signed; within = w .within x i; long = y .long }
+-- what was found may be answered
+pub watched-asked : {c s o : List ℕ} {u : Undetermined.Undetermined} → WatchedAsked c s o → Watches c s u → FoundAsked c s u o
+watched-asked y w =
+    record { core = y .core; formed = y .formed; signed = y .signed; solver = y .solver; within = w .within; long = y .long }
 
 module _ {c s : List ℕ} {r : Undetermined.Undetermined} (w : Watches c s r) where
-  pub watched-split : {x : TermId} {a : TCheck.TCheck} {c′ s′ o : List ℕ} → r ≡ Undetermined.the-variants.Split x →
+  watched-split : {x : TermId} {a : TCheck.TCheck} {c′ s′ o : List ℕ} → r ≡ Undetermined.the-variants.Split x →
       SplitsOn c s (x .0) a c′ s′ o → ChecksWatched c s a c′ s′ o
   watched-split {x} {a} i k = record {
     fully = λ e z n l.
@@ -186,7 +185,7 @@ module _ {c s : List ℕ} {r : Undetermined.Undetermined} (w : Watches c s r) wh
     marks = k .marks;
   }
 
-  pub watched-unknown : {o : List ℕ} → r ≡ Undetermined.the-variants.Unknown → ChecksWatched c s TCheck.the-variants.Unknown c s o
+  watched-unknown : {o : List ℕ} → r ≡ Undetermined.the-variants.Unknown → ChecksWatched c s TCheck.the-variants.Unknown c s o
   unfolding passes
   watched-unknown i = record {
     fully = λ e z n l.
@@ -194,13 +193,20 @@ module _ {c s : List ℕ} {r : Undetermined.Undetermined} (w : Watches c s r) wh
     marks = λ x h. refl;
   }
 
-  pub watched-none : {o : List ℕ} → r ≡ Undetermined.the-variants.Nothing → ChecksWatched c s TCheck.the-variants.Sat c s o
+  watched-none : {o : List ℕ} → r ≡ Undetermined.the-variants.Nothing → ChecksWatched c s TCheck.the-variants.Sat c s o
   unfolding passes
   watched-none {o} i = record {
     fully = λ e z n l.
         fully-walked (begins-only z n) refl refl (whole z n l (none-tried (sound z n) (w .passed e z n) {o = o} i)) (no-rings z n o);
     marks = λ x h. refl;
   }
+
+-- by what the pass found
+pub watched-found : {c s c′ s′ o : List ℕ} {r : TCheck.TCheck} (u : Undetermined.Undetermined) → Watches c s u →
+    FoundAnswered u c s r c′ s′ o → ChecksWatched c s r c′ s′ o
+watched-found (Undetermined.the-variants.Split x) w k = watched-split w refl k
+watched-found Undetermined.the-variants.Unknown w (q, i, j) = rw (q, i, j) (watched-unknown w refl)
+watched-found Undetermined.the-variants.Nothing w (q, i, j) = rw (q, i, j) (watched-none w refl)
 
 -- its marks are the solver's already
 pub watched-kept : {c e s c′ s′ o : List ℕ} {r : TCheck.TCheck} → StateSound c e s → NoneAnnounced s → NoneLasting c s →

@@ -20,7 +20,7 @@ use Rattle.solver.specs.Rules.{Phase, Testers, make-tester, phase, split
 use Rattle.solver.specs.declared.answer.TCheck as TCheck
 use Rattle.solver.specs.declared.exhaustiveness.Undetermined as Undetermined
 use Rattle.core.specs.declared.ids.TermId.{TermId}
-use Rattle.solver.specs.Memory.Table.{MARK, is-set, StateSound}
+use Rattle.solver.specs.Memory.Table.{MARK, is-set, SolverSound, StateSound}
 use Rattle.solver.specs.Memory.Recording.{NoneAnnounced}
 use Rattle.solver.specs.Memory.Work.{W-MARK, state-at, apps-from, first-in-class, marks-only, CheckSound}
 use Rattle.solver.specs.Memory.Answer.{split-atoms, split-guard, split-phases, SplitSound, TesterRoom, TesterPushed, Tried}
@@ -108,3 +108,18 @@ pub record SplitsOn (c s : List ℕ) (x : ℕ) (r : TCheck.TCheck) (c′ s′ o 
   pub tried : (e w : List ℕ) → CheckSound c e s w → Tried (λ z. split-on z x) c e s w r c′ s′ w o
   pub marks : (y : ℕ) → y < max-terms → at s′ MARK y ≡ at s MARK y
   pub answers : r ≡ TCheck.the-variants.Sat → ⊥
+
+-- what a pass found may be answered
+pub record FoundAsked (c s : List ℕ) (u : Undetermined.Undetermined) (o : List ℕ) : Type 0 where
+  pub core : ContextSound c
+  pub formed : Formed (context c)
+  pub signed : Signed (context c)
+  pub solver : SolverSound s
+  pub within : (x : TermId) → u ≡ Undetermined.the-variants.Split x → x .0 < length (context c .terms)
+  pub long : answer-size ≤ length o
+
+-- it was: by a split, by unknown, or not at all
+abbrev pub FoundAnswered : Undetermined.Undetermined → (c s : List ℕ) → TCheck.TCheck → (c′ s′ o : List ℕ) → Type 0
+FoundAnswered (Undetermined.the-variants.Split x) c s r c′ s′ o = SplitsOn c s (x .0) r c′ s′ o
+FoundAnswered Undetermined.the-variants.Unknown c s r c′ s′ o = (r ≡ TCheck.the-variants.Unknown) × (c′ ≡ c) × (s′ ≡ s)
+FoundAnswered Undetermined.the-variants.Nothing c s r c′ s′ o = (r ≡ TCheck.the-variants.Sat) × (c′ ≡ c) × (s′ ≡ s)

@@ -1,5 +1,5 @@
 -- By the word, then by the operation of the term before it.
-use Rattle.core.proofs.Kit.{refl, needs, arith}
+use Rattle.core.proofs.Kit.{needs, arith}
 use Rattle.solver.proofs.Memory.Working.{names-none, names-equation, names-ctor}
 use Rattle.solver.proofs.work.app_of.Statement.{statement}
 use Rattle.solver.proofs.work.app_of.Tie as tie
@@ -22,7 +22,7 @@ returns-2 : tie.Need-returns-2
 returns-2 c = search names-equation
 
 returns-3 : tie.Need-returns-3
-returns-3 c = search (names-ctor, refl)
+returns-3 c = search names-ctor
 
 pub app-of-spec : {M : Type 1} → statement M
 app-of-spec =
