@@ -13,7 +13,8 @@ returns-2 : tie.Need-returns-2
 unfolding number-meaning
 returns-2 c =
     let ds = c .before .before .before .before .before .args .ds .now in
-    sym (number-led ds (c .before .before .if2 .taken) (eqb-true _ _ (c .if3 .taken)))
+    let two = c .before .before .if2 .taken in
+    sym (number-led ds (omega arith) (eqb-true _ _ (c .if3 .taken)))
 
 returns-3 : tie.Need-returns-3
 returns-3 c =
