@@ -19,6 +19,8 @@ pub enum Kind {
     Any,
     /// A search that goes on until a limit is near; for the benchmark.
     Long,
+    /// Random steps until a limit is near, mostly in conflict; for the benchmark.
+    Stuck,
 }
 
 impl Kind {
@@ -33,6 +35,7 @@ impl Kind {
             "damaged" => Some(Kind::Damaged),
             "any" => Some(Kind::Any),
             "long" => Some(Kind::Long),
+            "stuck" => Some(Kind::Stuck),
             _ => None,
         }
     }
@@ -48,6 +51,7 @@ fn script_of(kind: Kind, rng: &mut Rng) -> Vec<u8> {
         Kind::Search => like_a_search(rng, 0),
         Kind::Reacting => reacting::reacting(rng).script,
         Kind::Long => search::long_search(rng).script,
+        Kind::Stuck => search::stuck_search(rng).script,
         Kind::Refused => like_a_search(rng, 20),
         Kind::Limits => limits::limits(rng),
         Kind::Damaged => {

@@ -39,6 +39,17 @@ pub fn search(rng: &mut Rng, size: Size, refused_percent: usize) -> Writer {
     search.w
 }
 
+/// Random steps until a limit is near. What is joined below all levels soon contradicts itself, so most checks end in a
+/// conflict that no `pop` takes back.
+pub fn stuck_search(rng: &mut Rng) -> Writer {
+    let mut search = Search::start(rng, Size::Large, 0);
+    search.fill();
+    while search.room() {
+        search.step();
+    }
+    search.w
+}
+
 /// A search that goes on until a limit is near: it decides at a level of its own, closes under congruence and checks.
 pub fn long_search(rng: &mut Rng) -> Writer {
     let mut search = Search::start(rng, Size::Large, 0);

@@ -23,7 +23,8 @@ pub fn all() -> Vec<Family> {
         family("examples", "the examples of 01", examples()),
         family("short search", "generated searches of at most 60 lines", searches(1, 60)),
         family("search", "generated searches of 200 lines and more", searches(200, usize::MAX)),
-        family("long search", "searches that go on until a limit is near", long_searches()),
+        family("long search", "searches that go on until a limit is near", seeds(Kind::Long)),
+        family("stuck search", "the same, in a conflict that no pop takes back", seeds(Kind::Stuck)),
         family("terms", "1,000 terms, 64 KiB of lookups", terms()),
         family("collection", "atoms over deep and shared terms", collection()),
         family("chains", "conflicts of hundreds of leaves along chains of joins", chains()),
@@ -68,9 +69,8 @@ fn searches(least: usize, most: usize) -> Vec<Script> {
     (1..).map(named).filter(|made| (least..=most).contains(&lines_of(&made.bytes))).take(20).collect()
 }
 
-fn long_searches() -> Vec<Script> {
-    let named = |seed| script(format!("seed {seed}"), generate::script(Kind::Long, seed));
-    (1..=10).map(named).collect()
+fn seeds(kind: Kind) -> Vec<Script> {
+    (1..=10).map(|seed| script(format!("seed {seed}"), generate::script(kind, seed))).collect()
 }
 
 fn terms() -> Vec<Script> {
