@@ -114,6 +114,7 @@ fn answer_line(
     put_answer(a, answer, output, written)
 }
 
+// The lines in turn, until all are answered or an answer line does not fit.
 fn run_lines(script: &[u8], c: &mut [u32], e: &mut [u32], s: &mut [u32], output: &mut [u8]) -> Ran
     requires { ⌜ MayRun (now script) (now c) (now e) (now s) ⌝ }
     ensures { λ r. ⌜ RunsLines (now (script .entry)) (now (output .entry)) r (now (output .exit)) ⌝ }

@@ -79,7 +79,7 @@ pub fn ctor_of_class(t: &[u32], e: &[u32], w: &[u32], x: TermId) -> CtorOf
 
 // ---- without a work table
 
-// One more than the lowest marked constructor application of a block that has a root; 0 if there is none.
+// One more than the lowest marked constructor application of a block in the class of a root; 0 if there is none.
 fn lowest_in_block(e: &[u32], s: &[u32], b: usize, root: TermId) -> usize
     requires { ⌜ MarksAsked (now e) (now s) × (b < blocks) ⌝ }
     ensures { λ r. ⌜ LowestInBlock (now (e .entry)) (now (s .entry)) b (root .0) r ⌝ }

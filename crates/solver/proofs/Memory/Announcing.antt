@@ -1,5 +1,5 @@
 -- A mark set: it stands at its term, the other marks are as they were, and a constructor application is announced in its block.
-use Rattle.core.proofs.Kit.{ℕ, _+_, _/_, _≤_, _<_, _≡_, refl, sym, ap, _∙_, Bool, true, false, cond, List, arith, T, eqb, eq-eqb, ne-eqb, eqb-true, eqb-false, ℕ-discrete, below-more, length}
+use Rattle.core.proofs.Kit.{ℕ, _+_, _/_, _≤_, _<_, _≡_, refl, sym, ap, _∙_, Bool, true, false, cond, List, arith, T, eqb, eq-eqb, ne-eqb, eqb-true, eqb-false, ℕ-discrete, length}
 use Rattle.core.specs.Limits.{max-terms, table-words}
 use Rattle.core.specs.Memory.Words.{at, put, one-of, Kept}
 use Rattle.core.proofs.Memory.Stores.{other-place}
@@ -85,23 +85,3 @@ module _ (s : List ℕ) (x k : ℕ) (h : x < max-terms) where
   mark-kept ws t m b z =
       let once = kept-put ws t s MARK x k m h z in
       either (Kept solver-room ws t) (λ d. once) (λ e. kept-put ws t marked BLOCK (x / block-terms) 1 b (omega arith) once)
-
--- ---- flags looked through
-
--- of n flags of a region the first i are not set
-pub record Unset (s : List ℕ) (r n i : ℕ) : Type 0 where
-  pub within : i ≤ n
-  pub none : (j : ℕ) → j < i → is-set (at s r j) ≡ false
-
-pub unset-first : (s : List ℕ) (r n : ℕ) → Unset s r n 0
-unset-first s r n = record { within = omega arith; none = λ j h. absurd (omega arith) }
-
-pub unset-next : {s : List ℕ} {r n i word : ℕ} → Unset s r n i → i < n → word ≡ at s r i → word ≡ 0 → Unset s r n (i + 1)
-unfolding is-set
-unset-next {s} {r} {n} {i} z h q d = record {
-  within = omega arith;
-  none = below-more (λ (j : ℕ). is-set (at s r j) ≡ false) i (z .none) (ap is-set (sym q ∙ d));
-}
-
-pub unset-all : {s : List ℕ} {r n m i : ℕ} → Unset s r n i → n ≤ i → n ≡ m → (j : ℕ) → j < m → is-set (at s r j) ≡ false
-unset-all z l e j h = z .none j (omega arith)

@@ -28,17 +28,12 @@ use Rattle.solver.proofs.Basics.{none-some, by-test}
 use Rattle.solver.proofs.Terms.{extends-then, extends-length}
 use Rattle.solver.proofs.Memory.TableStores.{kept-none}
 use Rattle.solver.proofs.Memory.Announcing.{mark-long, mark-same, mark-other, mark-kept, mark-announced}
+use Rattle.solver.proofs.Memory.Registering.{not-set}
 use Rattle.solver.proofs.Memory.Beginning.{unmarked}
 use Rattle.solver.proofs.Memory.Flags.{flagged-same}
 use Rattle.solver.proofs.Memory.Frames.{registry-kept, flagged-kept, level-record-kept, solver-kept}
 use Rattle.solver.proofs.Memory.Growing.{chain-grows}
 use Rattle.solver.proofs.Memory.Unfitting.{unfit-more}
-
--- a flag that is not set is 0
-unset : (v : ℕ) → is-set v ≡ false → v ≡ 0
-unfolding is-set
-unset zero e = refl
-unset (suc v) e = absurd (true≢false e)
 
 -- ---- one rule and the next
 
@@ -245,8 +240,8 @@ copying-all {s₀} {w} {s} {n} {x} q h = record { sound = λ c e z m. state-soun
         go (yes l) = q .copied y l
         go (no l) =
             q .behind y g (omega arith)
-            ∙ unset (at s₀ MARK y) (unmarked (context c) s₀ MARK (z .state .marks) y (omega arith) g)
-            ∙ sym (unset (at w W-MARK y) (unmarked (context c) w W-MARK (z .work .marks) y (omega arith) g))
+            ∙ not-set (at s₀ MARK y) (unmarked (context c) s₀ MARK (z .state .marks) y (omega arith) g)
+            ∙ sym (not-set (at w W-MARK y) (unmarked (context c) w W-MARK (z .work .marks) y (omega arith) g))
 
     state-sound : {c e : List ℕ} → CheckSound c e s₀ w → n ≡ length (context c .terms) → StateSound c e s
     state-sound {c} {e} z m =
@@ -272,7 +267,7 @@ copying-all {s₀} {w} {s} {n} {x} q h = record { sound = λ c e z m. state-soun
         -- a collected term has its mark in the work table too
         same-mark : (y : ℕ) → y < max-terms → at s₀ MARK y ≡ term-kind (context c) y → at w W-MARK y ≡ term-kind (context c) y
         same-mark y g k = by-test (is-set (at s₀ MARK y)) (λ t. z .more y g t ∙ k)
-            (λ f. ⊎-elim (λ j. j ∙ sym (unset (at s₀ MARK y) f) ∙ k) (λ j. j) (z .work .marks y g))
+            (λ f. ⊎-elim (λ j. j ∙ sym (not-set (at s₀ MARK y) f) ∙ k) (λ j. j) (z .work .marks y g))
 
         collected : (y : ℕ) → y < max-terms → CollectedSound (context c) s₀ y → CollectedSound (context c) s y
         collected y g r =

@@ -99,6 +99,10 @@ insert-all (x ∷ xs) n p h =
 abbrev pub has : List ℕ → ℕ → ℕ → Bool
 has t b x = is-set (at t b x)
 
+pub unset-by : (k : ℕ) → k ≡ 0 → is-set k ≡ false
+unfolding is-set
+unset-by k z = ap is-set z
+
 pub flagged-mem : (t : List ℕ) (b x : ℕ) → x < max-terms → mem x (flagged-from t b 0) ≡ has t b x
 unfolding flagged-from
 flagged-mem t b x h = mem-members x 0 max-terms (has t b) (omega arith) (omega arith)

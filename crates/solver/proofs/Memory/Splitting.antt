@@ -42,7 +42,7 @@ use Rattle.solver.proofs.Memory.Growing.{marked-within, check-grows, on
 use Rattle.solver.proofs.Memory.Roles.{kind-ctor, kind-watched}
 use Rattle.solver.proofs.Memory.Frames.{registry-kept, flagged-kept, level-record-kept, state-kept}
 use Rattle.solver.proofs.Memory.TableStores.{region, kept-none, kept-put}
-use Rattle.solver.proofs.Memory.Flags.{has, flagged-insert, in-flagged, flagged-step, flagged-none, flagged-mem}
+use Rattle.solver.proofs.Memory.Flags.{has, flagged-insert, in-flagged, flagged-step, flagged-none, flagged-mem, unset-by}
 
 -- ---- the marks of watched terms
 
@@ -137,10 +137,6 @@ set-by : (k : ℕ) → (k ≡ 0 → ⊥) → is-set k ≡ true
 unfolding is-set
 set-by zero z = absurd (z refl)
 set-by (suc k) z = refl
-
-unset-by : (k : ℕ) → k ≡ 0 → is-set k ≡ false
-unfolding is-set
-unset-by k z = ap is-set z
 
 -- the watched terms from i on
 abbrev watched-from : List ℕ → List ℕ → ℕ → List ℕ

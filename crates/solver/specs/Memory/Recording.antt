@@ -20,7 +20,7 @@ use Rattle.solver.specs.Memory.Table.{COUNTS, BLOCK, blocks, block-terms
 
 -- ---- an empty table
 
--- the count of the level record and the flags of all terms stand side by side, from COUNTS on
+-- the count of the level record, the words of the blocks and the flags of all terms stand side by side, from COUNTS on
 abbrev pub flag-words : ℕ
 flag-words = 6208
 
