@@ -1,5 +1,5 @@
 -- A mark set: it stands at its term, the other marks are as they were, and a constructor application is announced in its block.
-use Rattle.core.proofs.Kit.{ℕ, _+_, _/_, _≤_, _<_, _≡_, refl, sym, ap, _∙_, Bool, true, false, cond, List, arith, T, eqb, eq-eqb, ne-eqb, eqb-true, eqb-false, ℕ-discrete, length}
+use Rattle.core.proofs.Kit.{ℕ, _/_, _≤_, _<_, _≡_, refl, sym, ap, _∙_, Bool, true, false, cond, List, arith, T, eqb, eq-eqb, ne-eqb, eqb-true, eqb-false, ℕ-discrete, length}
 use Rattle.core.specs.Limits.{max-terms, table-words}
 use Rattle.core.specs.Memory.Words.{at, put, one-of, Kept}
 use Rattle.core.proofs.Memory.Stores.{other-place}

@@ -1,6 +1,6 @@
 -- A check from its rules: a rule that passes is followed by the next, one that answers ends it, and a term that does not fit ends it as
 -- well, since terms are never taken back within a check.
-use Rattle.core.proofs.Kit.{ℕ, zero, suc, _+_, _≤_, _<_, _≡_, refl, sym, ap, _∙_, subst, Bool, true, false, true≢false, false≢true, List, [], _∷_, Option, none, some, arith, length, _⊎_, ⊎-elim, not, not-false, below-more, le-leb, decLt}
+use Rattle.core.proofs.Kit.{ℕ, _+_, _≤_, _<_, _≡_, refl, sym, ap, _∙_, subst, Bool, true, false, true≢false, false≢true, List, [], _∷_, Option, none, some, arith, length, _⊎_, ⊎-elim, not, not-false, below-more, le-leb, decLt}
 use borrow.Author.Tests.{not-true}
 use lib.Seq.{take-at}
 use Rattle.core.specs.Limits.{max-terms, max-places}
