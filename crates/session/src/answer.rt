@@ -1,4 +1,5 @@
 // Answers and refusals (specs/Answer.antt).
+use crate::text::decimal_length;
 use crate::text::write_byte;
 use crate::text::write_decimal;
 use crate::text::write_text;
@@ -13,15 +14,18 @@ use solver::answer::split_phase;
 use theory::types::EqLeaf;
 use theory::types::leaf;
 use theory::types::leaf_count;
+ghost use Prim.Native.Nat.{_+_, _*_, _≤_};
 ghost use mathlib.Core.Path.{_≡_};
 ghost use mathlib.Core.List.{_++_};
+ghost use lib.ListN.{length};
+ghost use Rattle.core.specs.Limits.{max-terms, max-symbols};
 ghost use Rattle.theory.specs.Types.{InterfaceLeaf};
 ghost use Rattle.theory.specs.Memory.Answer.{leaf-meaning, leaves, LeavesSound};
 ghost use Rattle.solver.specs.Rules.{Conflict};
 ghost use Rattle.solver.specs.Memory.Answer.{phase-meaning, split-of, SplitSound};
 ghost use Rattle.session.specs.Text.{decimal};
 ghost use Rattle.session.specs.Answer.{question, leaf-text, phase-text, check-text, answer-text};
-ghost use Rattle.session.specs.Memory.Answers.{refusal-meaning, answer-meaning, Printable, Room, Written, parting, leaves-text, atoms-text, guards-text, phases-text, line-text, Bound};
+ghost use Rattle.session.specs.Memory.Answers.{refusal-meaning, answer-meaning, Printable, Room, Written, parting, leaves-text, atoms-text, guards-text, phases-text, line-text};
 
 // A no to one of the questions of a line.
 pub enum Refusal {
@@ -46,9 +50,6 @@ pub enum Answer {
     Unknown,
     Refused(Refusal),
 }
-
-// A name, one number and the LF have at most so many bytes.
-const SHORT_LINE: usize = 19;
 
 // ---- the parts of an answer
 
@@ -231,36 +232,114 @@ pub fn write_answer(a: Answer, o: &[u32], buf: &mut [u8], at: usize) -> usize
     write_byte(buf, end, b'\n')
 }
 
-// ---- how long it can be
+// ---- how long it is
 
-// `conflict=`, leaves of at most 17 bytes with a comma between two, and the LF.
-fn conflict_bound(o: &[u32]) -> usize
+// Each gives how long the text is that its like above writes, and promises a bound, so that no sum overflows.
+
+fn parting_length(i: usize) -> usize
+    ensures { λ r. ⌜ (r ≡ length (parting i)) × (r ≤ 1) ⌝ }
+{
+    if i == 0 {
+        return 0;
+    }
+    1
+}
+
+fn leaf_length(l: EqLeaf) -> usize
+    ensures { λ r. ⌜ (r ≡ length (leaf-text (leaf-meaning l))) × (r ≤ 22) ⌝ }
+{
+    match l {
+        EqLeaf::Asserted(p) => 1 + decimal_length(p.0),
+        EqLeaf::Interface(j) => 2 + decimal_length(j.theory as u32) + decimal_length(j.tag),
+    }
+}
+
+fn leaves_length(o: &[u32]) -> usize
     requires { ⌜ LeavesSound (now o) ⌝ }
-    ensures { λ r. ⌜ Bound (check-text (Conflict (leaves (now (o .entry))))) r ⌝ }
+    ensures { λ r. ⌜ (r ≡ length (leaves-text (now (o .entry)))) × (r ≤ 23 * max-terms) ⌝ }
 {
-    10 + 18 * leaf_count(o)
+    let n = leaf_count(o);
+    let mut sum = 0;
+    let mut i = 0;
+    while i < n {
+        sum += parting_length(i) + leaf_length(leaf(o, i));
+        i += 1;
+    }
+    sum
 }
 
-// `split=`, atoms of at most 10 bytes and phases of one with a comma between two, one guard, two `;` and the LF.
-fn split_bound(o: &[u32]) -> usize
+fn atoms_length(o: &[u32]) -> usize
     requires { ⌜ SplitSound (now o) ⌝ }
-    ensures { λ r. ⌜ Bound (check-text (split-of (now (o .entry)))) r ⌝ }
+    ensures { λ r. ⌜ (r ≡ length (atoms-text (now (o .entry)))) × (r ≤ 11 * max-symbols) ⌝ }
 {
-    19 + 11 * atom_count(o) + 2 * phase_count(o)
+    let n = atom_count(o);
+    let mut sum = 0;
+    let mut i = 0;
+    while i < n {
+        sum += parting_length(i) + decimal_length(split_atom(o, i).0);
+        i += 1;
+    }
+    sum
 }
 
-// The answer line has at most so many bytes: found without writing it.
-pub fn line_bound(a: Answer, o: &[u32]) -> usize
+fn guards_length(o: &[u32]) -> usize
+    requires { ⌜ SplitSound (now o) ⌝ }
+    ensures { λ r. ⌜ (r ≡ length (guards-text (now (o .entry)))) × (r ≤ 10) ⌝ }
+{
+    match split_guard(o) {
+        Guard::At(l) => decimal_length(l.0),
+        Guard::Nothing => 0,
+    }
+}
+
+// A byte for each, and a comma between two.
+fn phases_length(o: &[u32]) -> usize
+    requires { ⌜ SplitSound (now o) ⌝ }
+    ensures { λ r. ⌜ (r ≡ length (phases-text (now (o .entry)))) × (r ≤ 2 * max-symbols) ⌝ }
+{
+    let n = phase_count(o);
+    if n == 0 {
+        return 0;
+    }
+    2 * n - 1
+}
+
+// `conflict=` and the leaves.
+fn conflict_length(o: &[u32]) -> usize
+    requires { ⌜ LeavesSound (now o) ⌝ }
+    ensures { λ r. ⌜ (r ≡ length (check-text (Conflict (leaves (now (o .entry)))))) × (r ≤ 9 + 23 * max-terms) ⌝ }
+{
+    9 + leaves_length(o)
+}
+
+// `split=`, two `;` and the three lists.
+fn split_length(o: &[u32]) -> usize
+    requires { ⌜ SplitSound (now o) ⌝ }
+    ensures { λ r. ⌜ (r ≡ length (check-text (split-of (now (o .entry))))) × (r ≤ 18 + 13 * max-symbols) ⌝ }
+{
+    8 + atoms_length(o) + guards_length(o) + phases_length(o)
+}
+
+// The answer without its LF; none is longer than a conflict can be.
+fn unended_length(a: Answer, o: &[u32]) -> usize
     requires { ⌜ Printable a (now o) ⌝ }
-    ensures { λ r. ⌜ Bound (answer-text (answer-meaning a (now (o .entry)))) r ⌝ }
+    ensures { λ r. ⌜ (r ≡ length (answer-text (answer-meaning a (now (o .entry))))) × (r ≤ 9 + 23 * max-terms) ⌝ }
 {
     match a {
-        Answer::Ok => SHORT_LINE,
-        Answer::TermIs(t) => SHORT_LINE,
-        Answer::Sat => SHORT_LINE,
-        Answer::Conflict => conflict_bound(o),
-        Answer::Split => split_bound(o),
-        Answer::Unknown => SHORT_LINE,
-        Answer::Refused(_) => SHORT_LINE,
+        Answer::Ok => 4,
+        Answer::TermIs(t) => 5 + decimal_length(t.0),
+        Answer::Sat => 5,
+        Answer::Conflict => conflict_length(o),
+        Answer::Split => split_length(o),
+        Answer::Unknown => 9,
+        Answer::Refused(r) => 8 + decimal_length(number(r)),
     }
+}
+
+// The answer line, with its LF: so many bytes, known before the first is written.
+pub fn line_length(a: Answer, o: &[u32]) -> usize
+    requires { ⌜ Printable a (now o) ⌝ }
+    ensures { λ r. ⌜ r ≡ length (line-text a (now (o .entry))) ⌝ }
+{
+    unended_length(a, o) + 1
 }

@@ -1,10 +1,9 @@
 // The run: questions 1, 2 and 12, the counts, and what lent memory holds at the end (specs/Run.antt, specs/Promise.antt).
 use crate::answer::Answer;
-use crate::answer::line_bound;
+use crate::answer::line_length;
 use crate::answer::write_answer;
 use crate::reader::line_end;
 use crate::session::step;
-use crate::text::write_text;
 use core::context as context;
 use core::limits::MAX_LEVELS;
 use solver::records as records;
@@ -16,7 +15,7 @@ ghost use Rattle.session.specs.Run.{result-number, zeros};
 ghost use Rattle.session.specs.Promise.{ending-meaning, Runs};
 ghost use Rattle.session.specs.Memory.Sessions.{beside};
 ghost use Rattle.session.specs.Memory.Answers.{Printable, line-text};
-ghost use Rattle.session.specs.Memory.Running.{TablesLong, EmptyTables, Puts, MayPutTight, Answerable, AnswersLine, MayRun, RunsLines, MayStart, Zeroed, RunsStarted};
+ghost use Rattle.session.specs.Memory.Running.{TablesLong, EmptyTables, Puts, Answerable, AnswersLine, MayRun, RunsLines, MayStart, Zeroed, RunsStarted};
 
 // How a run ends.
 pub enum Ending {
@@ -49,9 +48,6 @@ const MAX_NUMBERS: usize = 17;
 // Words of an answer table.
 const ANSWER_SIZE: usize = 3324;
 
-// No answer line is longer.
-const MAX_LINE: usize = 18441;
-
 impl Ending {
     // The number of the question that was answered no, or 0.
     pub fn number(self) -> u32
@@ -68,28 +64,15 @@ impl Ending {
 
 // ---- the lines
 
-// Where little output is left, the answer line goes to a table of its own first: the output gets it only if it fits whole.
-fn put_tight(a: Answer, answer: &[u32], output: &mut [u8], written: usize) -> Placed
-    requires { ⌜ MayPutTight a (now answer) (now output) written ⌝ }
-    ensures { λ r. ⌜ Puts r (now (output .entry)) written (line-text a (now (answer .entry))) (now (output .exit)) ⌝ }
-{
-    let mut text = [0u8; MAX_LINE];
-    let n = write_answer(a, answer, &mut text, 0);
-    if n > output.len() - written {
-        return Placed::Full;
-    }
-    Placed::Ends(write_text(output, written, &text[..n]))
-}
-
-// An answer line that fits in any case is written where it stays.
+// The length of an answer line is known before its first byte is written: one that does not fit leaves the output as it was.
 fn put_answer(a: Answer, answer: &[u32], output: &mut [u8], written: usize) -> Placed
     requires { ⌜ Printable a (now answer) × (written ≤ length (now output)) ⌝ }
     ensures { λ r. ⌜ Puts r (now (output .entry)) written (line-text a (now (answer .entry))) (now (output .exit)) ⌝ }
 {
-    if line_bound(a, answer) <= output.len() - written {
-        return Placed::Ends(write_answer(a, answer, output, written));
+    if line_length(a, answer) > output.len() - written {
+        return Placed::Full;
     }
-    put_tight(a, answer, output, written)
+    Placed::Ends(write_answer(a, answer, output, written))
 }
 
 // Answers a line; its answer line goes to the output at a place, if it fits.

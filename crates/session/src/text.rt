@@ -1,5 +1,9 @@
-// Writing bytes, texts and decimal numbers at a place of a table of bytes. Each function gives where what it wrote ends.
+// Writing bytes, texts and decimal numbers at a place of a table of bytes, and how many digits a number has. Each function that writes
+// gives where what it wrote ends.
+ghost use Prim.Native.Nat.{_≤_};
+ghost use mathlib.Core.Path.{_≡_};
 ghost use mathlib.Core.List.{[], _∷_};
+ghost use lib.ListN.{length};
 ghost use Rattle.session.specs.Text.{decimal};
 ghost use Rattle.session.specs.Memory.Answers.{Room, Written};
 
@@ -44,4 +48,17 @@ pub fn write_decimal(buf: &mut [u8], at: usize, n: u32) -> usize
         return write_byte(buf, at, 48 + n as u8);
     }
     write_digits(buf, at, n)
+}
+
+// How many digits write_decimal writes. Most numbers have one, which takes one test.
+pub fn decimal_length(n: u32) -> usize
+    ensures { λ r. ⌜ (r ≡ length (decimal n)) × (r ≤ 10) ⌝ }
+{
+    let mut rest = n;
+    let mut digits = 1;
+    while rest >= 10 {
+        rest /= 10;
+        digits += 1;
+    }
+    digits
 }

@@ -4,7 +4,7 @@ use lib.Seq.{take-suc, take-nil}
 use Rattle.session.specs.Text.{comma, joined}
 use Rattle.session.specs.Answer.{answer-text}
 use Rattle.session.specs.declared.answer.Answer.{Answer}
-use Rattle.session.specs.Memory.Answers.{answer-meaning, Printable, Written, Room, parting, Bound}
+use Rattle.session.specs.Memory.Answers.{answer-meaning, Printable, Written, Room, parting}
 
 -- ---- one text behind another
 
@@ -61,7 +61,7 @@ module _ {A : Type 0} (text : A → List ℕ) where
   joined-part (x ∷ y ∷ ys) (suc zero) = rw length-append (omega arith)
   joined-part (x ∷ y ∷ ys) (suc (suc i)) = let h = joined-part (y ∷ ys) (suc i) in simp length-append (omega arith)
 
-  joined-more : (xs : List A) (i : ℕ) (d : A) → i < length xs →
+  pub joined-more : (xs : List A) (i : ℕ) (d : A) → i < length xs →
       joined comma (map text (take (suc i) xs)) ≡ joined comma (map text (take i xs)) ++ parting i ++ text (getD xs i d)
   joined-more xs i d h =
       let n : length (map text (take i xs)) ≡ i = length-map (take i xs) text ∙ length-take-le i xs (omega arith) in
@@ -127,6 +127,3 @@ module _ {a k : Answer} (o : List ℕ) (e : a ≡ k) where
   pub answer-as : {b b′ : List ℕ} {start r : ℕ} → Written b start (answer-text (answer-meaning k o)) b′ r →
       Written b start (answer-text (answer-meaning a o)) b′ r
   answer-as {b} {b′} {start} {r} = subst⁻¹ (λ (x : Answer). Written b start (answer-text (answer-meaning x o)) b′ r) e
-
-  pub bound-as : {r : ℕ} → Bound (answer-text (answer-meaning k o)) r → Bound (answer-text (answer-meaning a o)) r
-  bound-as {r} = subst⁻¹ (λ (x : Answer). Bound (answer-text (answer-meaning x o)) r) e

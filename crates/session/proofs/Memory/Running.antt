@@ -2,7 +2,7 @@
 -- makes of the rest from the present session on, with the lines answered and the bytes written so far in front.
 use Rattle.core.proofs.Kit.{ℕ, suc, _+_, _-_, _≤_, _<_, _≡_, refl, sym, ap, subst, subst⁻¹, _∙_, _⊎_, inl, inr, ⊎-elim, Bool, true, false, _&&_, leb, List, [], _∷_, _++_, append-assoc, append-nil, zero-add, below-more, arith, le-leb, lt-leb, length, getD, take, drop, set, length-set, length-map, ext-getD, getD-set-same, getD-set-other}
 use lib.ListN.{List·getD-map}
-use lib.Seq.{sets-eq, take-at}
+use lib.Seq.{sets-eq}
 use Rattle.core.proofs.Lists.{and-no}
 use Rattle.core.specs.Limits.{table-words, max-script}
 use Rattle.core.specs.Context as Context
@@ -24,7 +24,7 @@ use Rattle.session.specs.declared.run.Ending as Given
 use Rattle.session.specs.declared.run.Ran as GivenRan
 use Rattle.session.proofs.RunClaim.{Stops, run-stops}
 use Rattle.session.proofs.Memory.Splitting.{lines-from, lines-end}
-use Rattle.session.proofs.Memory.Printing.{written-nothing, written-length, written-as, written-more}
+use Rattle.session.proofs.Memory.Printing.{written-nothing, written-length, written-more}
 
 -- ---- words set to 0
 
@@ -89,21 +89,6 @@ written-front {b} {xs} w =
 
 pub written-within : {b xs b′ : List ℕ} {r : ℕ} → Written b 0 xs b′ r → r ≤ length b′
 written-within w = let kept = written-length w in let within = w .within in omega arith
-
--- what was written at the start of a table of bytes
-front-is : {b xs b′ : List ℕ} {r : ℕ} → Written b 0 xs b′ r → xs ≡ take r b′
-front-is {b} {xs} {r = r} w =
-    let ends = w .ends in
-    let long : length xs ≡ r = omega arith in
-    sym (ap (take r) (written-front w) ∙ take-at xs (drop (length xs) b) r long)
-
-pub front-long : {b xs b′ : List ℕ} {r : ℕ} → Written b 0 xs b′ r → length (take r b′) ≡ r
-front-long w = let ends = w .ends in sym (ap length (front-is w)) ∙ omega arith
-
--- a line that was written to another table first
-pub put-copied : {b line b′ o o′ : List ℕ} {n start r : ℕ} → Written b 0 line b′ n → Written o start (take n b′) o′ r →
-    Written o start line o′ r
-put-copied w v = written-as v (front-is w)
 
 -- what the step answers is put as the definition's answer line
 pub answered-by : {line c e s ns : List ℕ} {b : Bool} {a : GivenAnswer.Answer} {c′ e′ s′ ns′ : List ℕ} {b′ : Bool}

@@ -1,5 +1,5 @@
 -- What the code's answers mean, beside the answer table, and what printing one promises.
-use Prim.Native.Nat.{ℕ, zero, suc, _+_, _≤_, _<_}
+use Prim.Native.Nat.{ℕ, zero, suc, _+_, _≤_}
 use mathlib.Core.Path.{_≡_}
 use mathlib.Core.List.{List, [], _∷_, _++_, map}
 use lib.ListN.{length}
@@ -43,10 +43,6 @@ Printable Given.the-variants.Split o = SplitSound o
 Printable Given.the-variants.Unknown o = Unit {0}
 Printable (Given.the-variants.Refused r) o = Unit {0}
 
--- No answer line is longer: 9 bytes of `conflict=`, 1,024 leaves of at most 17 bytes with a comma or the LF behind each.
-abbrev pub max-line : ℕ
-max-line = 18441
-
 -- a text stands at a place of a table of bytes, which is else as it was, and ends at r
 pub record Written (b : List ℕ) (start : ℕ) (text b′ : List ℕ) (r : ℕ) : Type 0 where
   pub bytes : b′ ≡ sets b start text
@@ -78,8 +74,3 @@ phases-text o = joined comma (map phase-text (split-phases o))
 -- the answer line, with its LF
 abbrev pub line-text : Given.Answer → List ℕ → List ℕ
 line-text a o = answer-text (answer-meaning a o) ++ (LF ∷ [])
-
--- a text and an LF have at most r bytes, and no more than the longest answer line
-pub record Bound (text : List ℕ) (r : ℕ) : Type 0 where
-  pub most : length text < r
-  pub short : length text < max-line

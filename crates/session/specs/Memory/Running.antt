@@ -13,8 +13,7 @@ use Rattle.session.specs.Session.{Performed, empty-session, step}
 use Rattle.session.specs.Run.{answer-line, run-lines, zeros}
 use Rattle.session.specs.Promise.{Gives}
 use Rattle.session.specs.Memory.Sessions.{Beside, session, Reached, SessionSound}
-use Rattle.session.specs.Memory.Answers.{Printable, max-line, Written, line-text}
-use Rattle.session.specs.declared.answer.Answer as GivenAnswer
+use Rattle.session.specs.Memory.Answers.{Written}
 use Rattle.session.specs.declared.run.Placed as Placed
 use Rattle.session.specs.declared.run.Ran.{Ran}
 
@@ -39,12 +38,6 @@ pub record EmptyTables (c e s : List ℕ) : Type 0 where
 abbrev pub Puts : Placed.Placed → List ℕ → ℕ → List ℕ → List ℕ → Type 0
 Puts (Placed.the-variants.Ends r) o start text o′ = Written o start text o′ r
 Puts Placed.the-variants.Full o start text o′ = (o′ ≡ o) × (length o < start + length text)
-
--- an answer can be put at a place of the output, by way of a table that every answer line fits
-pub record MayPutTight (a : GivenAnswer.Answer) (t o : List ℕ) (start : ℕ) : Type 0 where
-  pub printable : Printable a t
-  pub short : length (line-text a t) ≤ max-line
-  pub within : start ≤ length o
 
 -- ---- the lines
 
