@@ -141,11 +141,14 @@ fn lower(t: &[u32], e: &[u32], w: &mut [u32], x: usize)
     }
 }
 
-// Marks a relevant term.
+// Marks a relevant term, unless it is marked: then the lowest of its class is no higher.
 pub fn mark(t: &[u32], e: &[u32], w: &mut [u32], x: usize)
     requires { ⌜ Markable (now t) (now e) (now w) x ⌝ }
     ensures { λ _. ⌜ Marked (now (t .entry)) (now (e .entry)) (now (w .entry)) x (now (w .exit)) ⌝ }
 {
+    if get_at(w, W_MARK, x) != 0 {
+        return;
+    }
     let kind = term_kind(t, TermId(x as u32));
     if kind == CTOR_APP {
         lower(t, e, w, x);

@@ -1,6 +1,6 @@
 -- The work table of a check. What a class asks of the marked constructor applications is one number, the lowest of them and one more:
 -- `lowest` over a test. One more mark, or one term more in a pass down, is one equation of it.
-use Rattle.core.proofs.Kit.{ℕ, zero, suc, _+_, _-_, _≤_, _<_, _≡_, refl, sym, ap, _∙_, subst, _⊎_, inl, inr, Bool, true, false, cond, _&&_, List, [], _∷_, none, some, Option, arith, ℕ-discrete, eq-eqb, ne-eqb, le-ltb, eqb, length, ap₂, add-one}
+use Rattle.core.proofs.Kit.{ℕ, zero, suc, _+_, _-_, _≤_, _<_, _≡_, refl, sym, ap, _∙_, subst, _⊎_, inl, inr, ⊎-elim, Bool, true, false, cond, _&&_, List, [], _∷_, none, some, Option, arith, ℕ-discrete, eq-eqb, ne-eqb, le-ltb, eqb, length, ap₂, add-one}
 use borrow.Author.Tests.{lt-ltb}
 use Rattle.core.specs.Limits.{max-terms}
 use Rattle.core.specs.Lists.{first, gather, cons-option, keep, range}
@@ -469,6 +469,28 @@ marked-other {c} {e} {w} {u} {x} {kind} z k d p = marked-by z words low kept
         ap (λ (t : List ℕ). at t LOWEST (find (merges e) y)) p
         ∙ other w LOWEST W-MARK (find (merges e) y) x kind tt r h
         ∙ rw (kind-no-match (context c) (merges e) x y (λ m. d (k ∙ m)))
+
+-- a term that is marked already: nothing is stored
+pub marked-again : {c e w : List ℕ} {x : ℕ} → Markable c e w x → (at w W-MARK x ≡ 0 → ⊥) → Marked c e w x w
+marked-again {c} {e} {w} {x} z d = record {
+    work = z .asked .work;
+    marks = flagged-insert w w W-MARK x (z .asked .is-node) flags;
+    words = words;
+    kept = kept-none (W-MARK ∷ LOWEST ∷ []) w;
+  }
+  where
+    kind : at w W-MARK x ≡ term-kind (context c) x
+    kind = ⊎-elim (λ m. absurd (d m)) (λ m. m) (z .asked .work .marks x (z .asked .is-node))
+
+    words : (y : ℕ) → y < max-terms → at w W-MARK y ≡ cond (eqb y x) (term-kind (context c) x) (at w W-MARK y)
+    words y l = go (ℕ-discrete y x)
+      where
+        go : Dec (y ≡ x) → at w W-MARK y ≡ cond (eqb y x) (term-kind (context c) x) (at w W-MARK y)
+        go (yes p) = ap (at w W-MARK) p ∙ kind ∙ sym (rw (eq-eqb y x p) refl)
+        go (no f) = sym (rw (ne-eqb y x f) refl)
+
+    flags : (y : ℕ) → y < max-terms → has w W-MARK y ≡ also x (has w W-MARK) y
+    flags y l = ap is-set (words y l) ∙ set-also y x (term-kind (context c) x) (at w W-MARK y) (z .relevant)
 
 -- the lowest of its class was lowered for a constructor application, and for no other term
 abbrev pub Readied : List ℕ → List ℕ → ℕ → ℕ → List ℕ → Type 0
