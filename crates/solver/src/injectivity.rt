@@ -19,7 +19,7 @@ ghost use Rattle.core.specs.Memory.Table.{context};
 ghost use Rattle.solver.specs.State.{mint};
 ghost use Rattle.solver.specs.Rules.{mint-on-both, mint-selectors};
 ghost use Rattle.solver.specs.Memory.ConstructorClash.{app-at};
-ghost use Rattle.solver.specs.Memory.Injecting.{Steps, Selectable, SelectableBoth, AppliesBoth, OneClass, Injectable, InjectableAt, AppAsked, Covered, Injects, select-both, select-from};
+ghost use Rattle.solver.specs.Memory.Injecting.{Steps, Selectable, SelectableBoth, AppliesBoth, OneClass, TwoTerms, KnownAfter, Injectable, InjectableAt, AppAsked, Covered, Injects, select-both, select-from};
 
 // A selector made on a term and marked.
 fn mint_selector(t: &mut [u32], e: &[u32], w: &mut [u32], f: usize, x: usize) -> bool
@@ -34,12 +34,23 @@ fn mint_selector(t: &mut [u32], e: &[u32], w: &mut [u32], f: usize, x: usize) ->
     }
 }
 
-// A selector on the lower application, then on the higher one.
-fn mint_on_both(t: &mut [u32], e: &[u32], w: &mut [u32], f: usize, p: usize, q: usize) -> bool
-    requires { ⌜ SelectableBoth (now t) (now e) (now w) f p q ⌝ }
+// A selector on the lower application, then on the higher one. Where the lower one is known to have it, nothing is made there.
+fn mint_on_both(
+    t: &mut [u32],
+    e: &[u32],
+    w: &mut [u32],
+    f: usize,
+    p: usize,
+    q: usize,
+    known: bool,
+) -> bool
+    requires { ⌜ SelectableBoth (now t) (now e) (now w) f p q known ⌝ }
     ensures { λ r. ⌜ Steps (λ s. mint-on-both p q s f) (now (t .entry)) (now (e .entry)) (now (w .entry)) r (now (t .exit)) (now
         (w .exit)) ⌝ }
 {
+    if known {
+        return mint_selector(t, e, w, f, q);
+    }
     if mint_selector(t, e, w, f, p) {
         return mint_selector(t, e, w, f, q);
     }
@@ -47,15 +58,23 @@ fn mint_on_both(t: &mut [u32], e: &[u32], w: &mut [u32], f: usize, p: usize, q: 
 }
 
 // The selectors of a constructor on two of its applications.
-fn select_both(t: &mut [u32], e: &[u32], w: &mut [u32], c: usize, p: usize, q: usize) -> bool
-    requires { ⌜ AppliesBoth (now t) (now e) (now w) c p q ⌝ }
+fn select_both(
+    t: &mut [u32],
+    e: &[u32],
+    w: &mut [u32],
+    c: usize,
+    p: usize,
+    q: usize,
+    known: bool,
+) -> bool
+    requires { ⌜ AppliesBoth (now t) (now e) (now w) c p q known ⌝ }
     ensures { λ r. ⌜ Steps (select-both (context (now (t .entry))) c p q) (now (t .entry)) (now (e .entry)) (now (w .entry)) r (now
         (t .exit)) (now (w .exit)) ⌝ }
 {
     let n = arity(t, SymbolId(c as u32));
     let mut i = 0;
     while i < n {
-        if !mint_on_both(t, e, w, c + 2 + i, p, q) {
+        if !mint_on_both(t, e, w, c + 2 + i, p, q, known) {
             return false;
         }
         i += 1;
@@ -64,8 +83,8 @@ fn select_both(t: &mut [u32], e: &[u32], w: &mut [u32], c: usize, p: usize, q: u
 }
 
 // Two applications of one class: the selectors are made if their constructors are the same.
-fn mint_selectors(t: &mut [u32], e: &[u32], w: &mut [u32], p: usize, q: usize) -> bool
-    requires { ⌜ OneClass (now t) (now e) (now w) p q ⌝ }
+fn mint_selectors(t: &mut [u32], e: &[u32], w: &mut [u32], p: usize, q: usize, known: bool) -> bool
+    requires { ⌜ OneClass (now t) (now e) (now w) p q known ⌝ }
     ensures { λ r. ⌜ Steps (λ s. mint-selectors s (app-at (context (now (t .entry))) p, app-at (context (now (t .entry))) q)) (now
         (t .entry)) (now (e .entry)) (now (w .entry)) r (now (t .exit)) (now (w .exit)) ⌝ }
 {
@@ -73,7 +92,7 @@ fn mint_selectors(t: &mut [u32], e: &[u32], w: &mut [u32], p: usize, q: usize) -
     if symbol_of(t, q) != c {
         return true;
     }
-    select_both(t, e, w, c, p, q)
+    select_both(t, e, w, c, p, q, known)
 }
 
 // Has the class of a marked application a lower one of its constructor? The lowest one of the class is looked at.
@@ -89,17 +108,30 @@ fn covered(t: &[u32], e: &[u32], w: &[u32], p: usize) -> bool
     symbol_of(t, word - 1) == symbol_of(t, p)
 }
 
-// A marked application with each one behind it in its class.
+// Are all selectors on p known to be made and marked, once it was paired with q?
+fn known_after(t: &[u32], p: usize, q: usize, known: bool) -> bool
+    requires { ⌜ TwoTerms (now t) p q ⌝ }
+    ensures { λ r. ⌜ KnownAfter (context (now (t .entry))) p q known r ⌝ }
+{
+    if known {
+        return true;
+    }
+    symbol_of(t, p) == symbol_of(t, q)
+}
+
+// A marked application with each one behind it in its class. Its own selectors are made with the first of its constructor.
 fn select_class(t: &mut [u32], e: &[u32], w: &mut [u32], p: usize) -> bool
     requires { ⌜ AppAsked (now t) (now e) (now w) p ⌝ }
     ensures { λ r. ⌜ Steps (select-from (context (now (t .entry))) (now (w .entry)) p) (now (t .entry)) (now (e .entry)) (now
         (w .entry)) r (now (t .exit)) (now (w .exit)) ⌝ }
 {
+    let mut known = false;
     let mut k = get_at(w, NEXT, p);
     while k != 0 {
-        if !mint_selectors(t, e, w, p, k - 1) {
+        if !mint_selectors(t, e, w, p, k - 1, known) {
             return false;
         }
+        known = known_after(t, p, k - 1, known);
         k = get_at(w, NEXT, k - 1);
     }
     true

@@ -11,7 +11,7 @@ use Rattle.core.specs.Memory.Words.{at}
 use Rattle.core.specs.Memory.Table.{context}
 use Rattle.core.specs.declared.context.Made as Made
 use Rattle.core.specs.declared.ids.TermId as TermId
-use Rattle.core.proofs.Lists.{and-no, T-true}
+use Rattle.core.proofs.Lists.{and-no, T-true, in-range}
 use Rattle.theory.specs.EqEngine.{find, are-equal}
 use Rattle.theory.specs.Memory.Table.{merges}
 use Rattle.theory.proofs.Classes.{equal-refl}
@@ -22,7 +22,7 @@ use Rattle.solver.specs.Memory.Table.{is-set, flagged-from, term-kind, M
 use Rattle.solver.specs.Memory.Work.{W-MARK, LOWEST, NEXT, work-marks, apps-from, first-in-class, state-at, ChainSound}
 use Rattle.solver.specs.Memory.Making.{Making, Makeable, MakesTerm}
 use Rattle.solver.specs.Memory.ConstructorClash.{op-symbol, symbol-of, app-at, MarkedApp}
-use Rattle.solver.specs.Memory.Injecting.{Moves, StepOutcome, Steps, Selects, Selectable, SelectableBoth, Applies, AppliesBoth, OneClass, Injectable, HasSelector, AllSelected, SelectedBelow, InjectableAt, AppAsked, Covered, select-both, select-with, select-from, Injects}
+use Rattle.solver.specs.Memory.Injecting.{Moves, StepOutcome, Steps, Selects, Selectable, SelectableBoth, Applies, AppliesBoth, OneClass, TwoTerms, KnownAfter, Injectable, HasSelector, AllSelected, SelectedBelow, InjectableAt, AppAsked, Covered, select-both, select-with, select-from, Injects}
 use Rattle.solver.proofs.Terms.{app, mk-app-makes, extends-self, extends-then, extends-symbol, extends-term, extends-length, extends-sort-of}
 use Rattle.solver.proofs.Signature.{constructor-selector, constructor-function, selector-function, declared-role}
 use Rattle.solver.proofs.Moves.{sort-by-op}
@@ -33,7 +33,7 @@ use Rattle.solver.proofs.Memory.Growing.{old-children, marked-within, o
 use Rattle.solver.proofs.Memory.Unfitting.{Onward, onward-unfit, fold-onward, mint-onward, mint-on-both-onward, mint-selectors-onward}
 use Rattle.solver.proofs.Memory.AppNumbers.{apps-step, apps-none, marked-app-within, app-in, WordIs, word-is, word-less}
 use Rattle.solver.proofs.Memory.ConstructorClash.{class-carries, turned, LowestIs, lowest-word}
-use Rattle.solver.proofs.Memory.Selected.{Has, with-keeps, with-gives, pair-again, idle}
+use Rattle.solver.proofs.Memory.Selected.{Has, both-keeps, pair-keeps, pair-gives, with-keeps, with-gives, mint-again, pair-again, idle}
 
 -- ---- the list of marked applications stays
 
@@ -312,10 +312,21 @@ selects-kept {cx} {cx′} {f} {x} E S =
       agree = rw (extends-symbol cx cx′ f E, extends-sort-of cx cx′ x E h) (S .agree);
     }
 
-pub both-first : {c e w : List ℕ} {f p q : ℕ} → SelectableBoth c e w f p q → Selectable c e w f p
-both-first B = record { making = B .making; selects = B .first }
+module _ {c e w : List ℕ} {f p q : ℕ} {known : Bool} (B : SelectableBoth c e w f p q known) where
+  pub both-first : Selectable c e w f p
+  both-first = record { making = B .making; selects = B .first }
 
-module _ {c e w c₁ w₁ : List ℕ} {f p q : ℕ} (B : SelectableBoth c e w f p q) where
+  pub both-last : Selectable c e w f q
+  both-last = record { making = B .making; selects = B .second }
+
+  -- to make it on p again changes nothing
+  pub both-known : {r : Bool} {c₁ w₁ : List ℕ} → known ≡ true → Steps (λ s. mint s f (q ∷ []) .state) c e w r c₁ w₁ →
+      Steps (λ s. mint-on-both p q s f) c e w r c₁ w₁
+  unfolding mint-on-both
+  both-known t X =
+      steps-as X (λ s lv. ap (λ (z : State). mint z f (q ∷ []) .state) (mint-again c e w (B .making .formed) s lv f p (B .has t)))
+
+module _ {c e w c₁ w₁ : List ℕ} {f p q : ℕ} {known : Bool} (B : SelectableBoth c e w f p q known) where
   pub both-second : {r : Bool} → Steps (λ s. mint s f (p ∷ []) .state) c e w r c₁ w₁ → Selectable c₁ e w₁ f q
   both-second X = record { making = X .moves .making; selects = selects-kept (X .moves .extends) (B .second) }
 
@@ -349,6 +360,25 @@ module _ {c e w c₁ w₁ : List ℕ} {f p q : ℕ} (B : SelectableBoth c e w f 
             onward-unfit half (mint half f (q ∷ []) .state) (mint-onward half f (q ∷ [])) (X′ .outcome s lv);
       }
 
+-- ---- selectors that are there stay
+
+dt-selectors-kept : (cx cx′ : Context) → Extends cx cx′ → (k : ℕ) → dt-selectors cx′ k ≡ dt-selectors cx k
+unfolding dt-selectors
+dt-selectors-kept cx cx′ E k = rw (extends-symbol cx cx′ k E)
+
+module _ {F : State → State} {c e w c′ w′ : List ℕ} (X : Steps F c e w true c′ w′) where
+  -- what the step gives stands in the tables
+  steps-give : (f x : ℕ) → Has (F (state-at c e [] w (λ i. 0))) f x → HasSelector (context c′) (work-marks w′) f x
+  unfolding state-with dt-with
+  steps-give f x H = subst (λ (z : State). Has z f x) (X .outcome [] (λ i. 0)) H
+
+  all-kept : ((S : State) (g x : ℕ) → Has S g x → Has (F S) g x) → (k x : ℕ) → AllSelected (context c) (work-marks w) k x →
+      AllSelected (context c′) (work-marks w′) k x
+  unfolding state-with dt-with
+  all-kept h k x A f i =
+      steps-give f x (h (state-at c e [] w (λ j. 0)) f x
+      (A f (subst (λ (fs : List ℕ). In f fs) (dt-selectors-kept (context c) (context c′) (X .moves .extends) k) i)))
+
 -- ---- the selectors of a constructor on two of its applications
 
 applies-kept : {cx cx′ : Context} {k p : ℕ} → Extends cx cx′ → Applies cx k p → Applies cx′ k p
@@ -368,10 +398,10 @@ applies-selects {cx} {k} {p} {i} S A l =
       agree = ap (λ (z : ℕ). z ∷ []) (sort-by-op cx p k (A .op)) ∙ sym (S .selector (k + 2 + i) k i r .1);
     }
 
-pub applies-declared : {c e w : List ℕ} {k p q : ℕ} → AppliesBoth c e w k p q → k < length (context c .symbols)
+pub applies-declared : {c e w : List ℕ} {k p q : ℕ} {known : Bool} → AppliesBoth c e w k p q known → k < length (context c .symbols)
 applies-declared {c} {k = k} B = declared-role (context c) k (λ z. constructor-function (sym (B .first .role) ∙ z))
 
-pub applies-small : {c e w : List ℕ} {k p q : ℕ} → AppliesBoth c e w k p q → k < max-symbols
+pub applies-small : {c e w : List ℕ} {k p q : ℕ} {known : Bool} → AppliesBoth c e w k p q known → k < max-symbols
 applies-small B =
     let h = applies-declared B in
     let n = B .making .core .symbol-count in
@@ -379,22 +409,23 @@ applies-small B =
     omega arith
 
 -- i of n selectors are done
-pub record Each (k p q : ℕ) (c e w c′ w′ : List ℕ) (n i : ℕ) : Type 0 where
-  pub both : AppliesBoth c′ e w′ k p q
+pub record Each (k p q : ℕ) (known : Bool) (c e w c′ w′ : List ℕ) (n i : ℕ) : Type 0 where
+  pub both : AppliesBoth c′ e w′ k p q known
   pub count : n ≡ length (symbol (context c′) k .params)
   pub within : i ≤ n
   pub way : Onway (select-both (context c) k p q) (λ s. foldl (mint-on-both p q) s (range (k + 2 + i) (n - i))) c e w c′ w′
 
-pub each-first : {k p q : ℕ} {c e w : List ℕ} {n : ℕ} → AppliesBoth c e w k p q → n ≡ length (symbol (context c) k .params) →
-    Each k p q c e w c w n 0
+pub each-first : {k p q : ℕ} {known : Bool} {c e w : List ℕ} {n : ℕ} → AppliesBoth c e w k p q known →
+    n ≡ length (symbol (context c) k .params) → Each k p q known c e w c w n 0
 unfolding select-both dt-selectors
-each-first {k} {p} {q} {c} {e} {w} {n} B h =
+each-first {k} {p} {q} {known} {c} {e} {w} {n} B h =
     let d : n - 0 ≡ n = omega arith in
     let f : k + 2 + 0 ≡ k + 2 = omega arith in
     record { both = B; count = h; within = omega arith; way = onway-first (B .making) (λ s lv. rw (d, f, h)) }
 
-module _ {k p q : ℕ} {c e w c₁ w₁ : List ℕ} {n i : ℕ} (I : Each k p q c e w c₁ w₁ n i) where
-  pub each-asked : i < n → SelectableBoth c₁ e w₁ (k + 2 + i) p q
+module _ {k p q : ℕ} {known : Bool} {c e w c₁ w₁ : List ℕ} {n i : ℕ} (I : Each k p q known c e w c₁ w₁ n i) where
+  pub each-asked : i < n → SelectableBoth c₁ e w₁ (k + 2 + i) p q known
+  unfolding dt-selectors
   each-asked l =
       let M = I .both .making in
       let h = I .count in
@@ -402,6 +433,8 @@ module _ {k p q : ℕ} {c e w c₁ w₁ : List ℕ} {n i : ℕ} (I : Each k p q 
         making = M;
         first = applies-selects (M .signed) (I .both .first) (omega arith);
         second = applies-selects (M .signed) (I .both .second) (omega arith);
+        has = λ t. I .both .has t (k + 2 + i)
+            (in-range (k + 2) (length (symbol (context c₁) k .params)) (k + 2 + i) (omega arith) (omega arith));
       }
 
   abbrev left : State → State
@@ -415,12 +448,17 @@ module _ {k p q : ℕ} {c e w c₁ w₁ : List ℕ} {n i : ℕ} (I : Each k p q 
       rw (d, f)
 
   pub each-next : {r : Bool} {c₂ w₂ : List ℕ} → i < n → Steps (λ s. mint-on-both p q s (k + 2 + i)) c₁ e w₁ r c₂ w₂ → r ≡ true →
-      Each k p q c e w c₂ w₂ n (i + 1)
+      Each k p q known c e w c₂ w₂ n (i + 1)
   each-next {c₂ = c₂} {w₂} l X t =
       let X′ = subst (λ (z : Bool). Steps (λ s. mint-on-both p q s (k + 2 + i)) c₁ e w₁ z c₂ w₂) t X in
       let E = X′ .moves .extends in
       record {
-        both = record { making = X′ .moves .making; first = applies-kept E (I .both .first); second = applies-kept E (I .both .second) };
+        both = record {
+          making = X′ .moves .making;
+          first = applies-kept E (I .both .first);
+          second = applies-kept E (I .both .second);
+          has = λ d. all-kept X′ (λ S g x H. both-keeps p q S (k + 2 + i) g x H) k p (I .both .has d);
+        };
         count = I .count ∙ ap (λ (z : Symbol). length (z .params)) (sym (extends-symbol (context c₁) (context c₂) k E));
         within = omega arith;
         way = onway-next (I .way) left left X′ (λ s lv. unrolled l (state-at c₁ e s w₁ lv)) (λ s lv. refl);
@@ -444,7 +482,7 @@ kind-applies : (cx : Context) (x : ℕ) → term-kind cx x ≡ 1 → Applies cx 
 unfolding symbol-of op-symbol
 kind-applies cx x e = let (f, p, q, r) = kind-ctor cx x e in record { op = rw p; role = rw p q }
 
-module _ {c e w : List ℕ} {p q : ℕ} (B : OneClass c e w p q) where
+module _ {c e w : List ℕ} {p q : ℕ} {known : Bool} (B : OneClass c e w p q known) where
   abbrev cx : Context
   cx = context c
 
@@ -464,11 +502,12 @@ module _ {c e w : List ℕ} {p q : ℕ} (B : OneClass c e w p q) where
   pub higher-within : q < length (cx .terms)
   higher-within = marked-app-within cx w marked q (B .higher)
 
-  pub same-asked : {k j : ℕ} → k ≡ symbol-of cx p → j ≡ symbol-of cx q → j ≡ k → AppliesBoth c e w k p q
+  pub same-asked : {k j : ℕ} → k ≡ symbol-of cx p → j ≡ symbol-of cx q → j ≡ k → AppliesBoth c e w k p q known
   same-asked h g d = record {
     making = B .making;
     first = subst⁻¹ (λ (z : ℕ). Applies cx z p) h (applies-own p (B .lower));
     second = subst⁻¹ (λ (z : ℕ). Applies cx z q) (sym d ∙ g) (applies-own q (B .higher));
+    has = λ t. subst⁻¹ (λ (z : ℕ). AllSelected cx (work-marks w) z p) h (B .has t);
   }
 
   pub other-skipped : {k j : ℕ} → k ≡ symbol-of cx p → j ≡ symbol-of cx q → (j ≡ k → ⊥) →
@@ -639,14 +678,15 @@ from-covered {c} {e} {w} {p} A C = record {
 -- ---- the walk along a class
 
 -- k is one more than the application that p is paired with next, or 0 behind the last
-pub record Along (p : ℕ) (c e w c′ w′ : List ℕ) (k : ℕ) : Type 0 where
+pub record Along (p : ℕ) (c e w c′ w′ : List ℕ) (known : Bool) (k : ℕ) : Type 0 where
   pub ready : Injectable c′ e w′
   pub lower : MarkedApp w′ p
   pub app : (k ≡ 0 → ⊥) → MarkedApp w′ (k - 1)
   pub class : (k ≡ 0 → ⊥) → are-equal (merges e) p (k - 1) ≡ true
+  pub has : known ≡ true → AllSelected (context c′) (work-marks w′) (symbol-of (context c′) p) p
   pub way : Onway (select-from (context c) w p) (λ s. select-with (app-at (context c′) p) (rest-from (context c′) w′ k) s) c e w c′ w′
 
-pub along-first : {p : ℕ} {c e w : List ℕ} {k : ℕ} → AppAsked c e w p → k ≡ at w NEXT p → Along p c e w c w k
+pub along-first : {p : ℕ} {c e w : List ℕ} {k : ℕ} → AppAsked c e w p → k ≡ at w NEXT p → Along p c e w c w false k
 unfolding select-from
 along-first {p} {c} {e} {w} {k} A g =
     let mark = A .app in
@@ -657,12 +697,13 @@ along-first {p} {c} {e} {w} {k} A g =
       lower = mark;
       app = W .app;
       class = W .passes;
+      has = λ t. absurd (false≢true t);
       way = onway-first (A .ready .making) (λ s lv. rw (eq-eqb (at w W-MARK p) 1 (mark .mark)) (skip (A .ready) s lv p p k mark own g));
     }
 
-module _ {p : ℕ} {c e w c₁ w₁ : List ℕ} {k : ℕ} (I : Along p c e w c₁ w₁ k) (n : k ≡ 0 → ⊥) where
-  pub along-asked : OneClass c₁ e w₁ p (k - 1)
-  along-asked = record { making = I .ready .making; lower = I .lower; higher = I .app n; equal = I .class n }
+module _ {p : ℕ} {c e w c₁ w₁ : List ℕ} {known : Bool} {k : ℕ} (I : Along p c e w c₁ w₁ known k) (n : k ≡ 0 → ⊥) where
+  pub along-asked : OneClass c₁ e w₁ p (k - 1) known
+  along-asked = record { making = I .ready .making; lower = I .lower; higher = I .app n; equal = I .class n; has = I .has }
 
   pub along-place : NEXT + (k - 1) < length w₁
   along-place = let l = I .app n .node in let h = I .ready .making .work .long in omega arith
@@ -686,8 +727,54 @@ module _ {p : ℕ} {c e w c₁ w₁ : List ℕ} {k : ℕ} (I : Along p c e w c�
 
   module _ {r : Bool} {c₂ w₂ : List ℕ}
       (X : Steps (λ s. mint-selectors s (app-at (context c₁) p, app-at (context c₁) (k - 1))) c₁ e w₁ r c₂ w₂) where
-    pub along-next : {j : ℕ} → r ≡ true → j ≡ at w₂ NEXT (k - 1) → Along p c e w c₂ w₂ j
-    along-next {j} t g =
+    pub along-terms : r ≡ true → TwoTerms c₂ p (k - 1)
+    along-terms t =
+        let X′ = subst (λ (z : Bool). Steps pair c₁ e w₁ z c₂ w₂) t X in
+        let M = X′ .moves .making .work .marks in
+        record {
+          core = X′ .moves .making .core;
+          first = marked-app-within (context c₂) w₂ M p (X′ .marks refl p (I .lower));
+          second = marked-app-within (context c₂) w₂ M (k - 1) (X′ .marks refl (k - 1) (I .app n));
+        }
+
+    -- the selectors on p that were known stay, or they were made for k - 1
+    along-has : {next : Bool} → r ≡ true → KnownAfter (context c₂) p (k - 1) known next → next ≡ true →
+        AllSelected (context c₂) (work-marks w₂) (symbol-of (context c₂) p) p
+    unfolding same-constructor equal state-with
+    along-has t after d = go (after d)
+      where
+        X′ : Steps pair c₁ e w₁ true c₂ w₂
+        X′ = subst (λ (z : Bool). Steps pair c₁ e w₁ z c₂ w₂) t X
+
+        marked : MarksAre (context c₁) w₁ W-MARK
+        marked = I .ready .making .work .marks
+
+        symbol-kept : (x : ℕ) → MarkedApp w₁ x → symbol-of (context c₂) x ≡ symbol-of (context c₁) x
+        symbol-kept x m =
+            ap (λ (a : CtorApp). a .ctor)
+            (app-same (context c₁) (context c₂) w₁ w₂ (X′ .moves .extends) marked (X′ .moves .making .work .marks) x
+            (marked-app-within (context c₁) w₁ marked x m))
+
+        here : symbol-of (context c₂) p ≡ symbol-of (context c₁) p
+        here = symbol-kept p (I .lower)
+
+        go : (known ≡ true) ⊎ (symbol-of (context c₂) p ≡ symbol-of (context c₂) (k - 1)) →
+            AllSelected (context c₂) (work-marks w₂) (symbol-of (context c₂) p) p
+        go (inl b) =
+            subst⁻¹ (λ (z : ℕ). AllSelected (context c₂) (work-marks w₂) z p) here
+            (all-kept X′ (λ S g x H. pair-keeps S (app-at (context c₁) p) (app-at (context c₁) (k - 1)) g x H)
+            (symbol-of (context c₁) p) p (I .has b))
+        go (inr b) = λ f i.
+            let s = sym here ∙ b ∙ symbol-kept (k - 1) (I .app n) in
+            let kept = dt-selectors-kept (context c₁) (context c₂) (X′ .moves .extends) (symbol-of (context c₁) p) in
+            let j = subst (λ (fs : List ℕ). In f fs) (ap (dt-selectors (context c₂)) here ∙ kept) i in
+            steps-give X′ f p
+            (pair-gives (state-at c₁ e [] w₁ (λ z. 0)) (app-at (context c₁) p) (app-at (context c₁) (k - 1))
+            (rw (eq-eqb (symbol-of (context c₁) p) (symbol-of (context c₁) (k - 1)) s, I .class n)) f j .0)
+
+    pub along-next : {next : Bool} {j : ℕ} → r ≡ true → KnownAfter (context c₂) p (k - 1) known next → j ≡ at w₂ NEXT (k - 1) →
+        Along p c e w c₂ w₂ next j
+    along-next {next} {j} t after g =
         let X′ = subst (λ (z : Bool). Steps pair c₁ e w₁ z c₂ w₂) t X in
         let m = X′ .marks refl (k - 1) (I .app n) in
         let ready : Injectable c₂ e w₂ = record { making = X′ .moves .making; chain = X′ .moves .chain (I .ready .chain) } in
@@ -701,6 +788,7 @@ module _ {p : ℕ} {c e w c₁ w₁ : List ℕ} {k : ℕ} (I : Along p c e w c�
           lower = X′ .marks refl p (I .lower);
           app = W .app;
           class = λ z. class-carries (merges e) p (k - 1) (j - 1) (I .class n) ∙ W .passes z;
+          has = along-has t after;
           way = onway-next (I .way) others (λ s. select-with (app-at (context c₂) p) (rest-from (context c₂) w₂ j) s) X′
               (λ s lv. unpaired (state-at c₁ e s w₁ lv))
               (λ s lv. rw (sym same, sym (X′ .apps refl (suc (k - 1)) (omega arith))) (skip ready s lv p (k - 1) j m (I .class n) g));
@@ -720,16 +808,12 @@ module _ {p : ℕ} {c e w c₁ w₁ : List ℕ} {k : ℕ} (I : Along p c e w c�
         onway-stop (I .way) others (with-onward (app-at (context c₁) p) (apps-from (context c₁) w₁ (suc (k - 1)))) X′
         (λ s lv. unpaired (state-at c₁ e s w₁ lv))
 
-pub along-done : {p : ℕ} {c e w c₁ w₁ : List ℕ} {k : ℕ} → Along p c e w c₁ w₁ k → k ≡ 0 →
+pub along-done : {p : ℕ} {c e w c₁ w₁ : List ℕ} {known : Bool} {k : ℕ} → Along p c e w c₁ w₁ known k → k ≡ 0 →
     Steps (select-from (context c) w p) c e w true c₁ w₁
 unfolding rest-from select-with
 along-done I z = onway-done (I .way) (λ s lv. rw z)
 
 -- ---- what has been selected
-
-dt-selectors-kept : (cx cx′ : Context) → Extends cx cx′ → (k : ℕ) → dt-selectors cx′ k ≡ dt-selectors cx k
-unfolding dt-selectors
-dt-selectors-kept cx cx′ E k = rw (extends-symbol cx cx′ k E)
 
 from-keeps : (cx : Context) (w : List ℕ) (p : ℕ) (S : State) (g x : ℕ) → Has S g x → Has (select-from cx w p S) g x
 unfolding select-from
@@ -746,10 +830,6 @@ module _ {c₁ e w₁ c₂ w₂ : List ℕ} {p : ℕ} (M : MarksAre (context c�
 
   abbrev after : State
   after = select-from (context c₁) w₁ p before
-
-  now-has : (f x : ℕ) → Has after f x → HasSelector (context c₂) (work-marks w₂) f x
-  unfolding state-with dt-with
-  now-has f x H = subst (λ (z : State). Has z f x) (X .outcome [] (λ i. 0)) H
 
   -- p and each of its class and its constructor behind it
   own-gives : (y : ℕ) → p < y → MarkedApp w₁ p → MarkedApp w₁ y → are-equal (merges e) p y ≡ true →
@@ -784,7 +864,7 @@ module _ {c₁ e w₁ c₂ w₂ : List ℕ} {p : ℕ} (M : MarksAre (context c�
           (λ u′ m′ h′ k′ i′. own-gives y u′ m′ n h′ k′ f i′) u m h k i
 
   selected-next : SelectedBelow c₂ e w₂ (p + 1)
-  selected-next x y l u m n h k = (λ f i. now-has f x (both f i .0), λ f i. now-has f y (both f i .1))
+  selected-next x y l u m n h k = (λ f i. steps-give X f x (both f i .0), λ f i. steps-give X f y (both f i .1))
     where
       symbol-kept : (z : ℕ) → MarkedApp w₁ z → symbol-of (context c₂) z ≡ symbol-of (context c₁) z
       symbol-kept z o =

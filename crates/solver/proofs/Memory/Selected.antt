@@ -52,7 +52,7 @@ mint-gives S f x =
     let M = mk-app-makes (S .terms) (Term.Uninterpreted f) (x ∷ []) in
     record { number = made .id; within = M .within; is = M .made; marked = in-insert-new (made .id) (S .dt .marks) }
 
-both-keeps : (p q : ℕ) (S : State) (f g x : ℕ) → Has S g x → Has (mint-on-both p q S f) g x
+pub both-keeps : (p q : ℕ) (S : State) (f g x : ℕ) → Has S g x → Has (mint-on-both p q S f) g x
 unfolding mint-on-both
 both-keeps p q S f g x H =
     let half = mint S f (p ∷ []) .state in
@@ -80,7 +80,7 @@ fold-both-gives p q S (g ∷ fs) f (inr i) = fold-both-gives p q (mint-on-both p
 
 -- ---- a pair of applications
 
-pair-keeps : (S : State) (a b : CtorApp) (g x : ℕ) → Has S g x → Has (mint-selectors S (a, b)) g x
+pub pair-keeps : (S : State) (a b : CtorApp) (g x : ℕ) → Has S g x → Has (mint-selectors S (a, b)) g x
 unfolding mint-selectors
 pair-keeps S a b g x H = go (same-constructor S (a, b))
   where
@@ -88,7 +88,7 @@ pair-keeps S a b g x H = go (same-constructor S (a, b))
     go true = fold-both-keeps (a .app) (b .app) S (dt-selectors (S .terms) (a .ctor)) g x H
     go false = H
 
-pair-gives : (S : State) (a b : CtorApp) → same-constructor S (a, b) ≡ true → (f : ℕ) → In f (dt-selectors (S .terms) (a .ctor)) →
+pub pair-gives : (S : State) (a b : CtorApp) → same-constructor S (a, b) ≡ true → (f : ℕ) → In f (dt-selectors (S .terms) (a .ctor)) →
     Has (mint-selectors S (a, b)) f (a .app) × Has (mint-selectors S (a, b)) f (b .app)
 unfolding mint-selectors
 pair-gives S a b h f i = rw h (fold-both-gives (a .app) (b .app) S (dt-selectors (S .terms) (a .ctor)) f i)
@@ -158,7 +158,7 @@ module _ (c e w : List ℕ) (F : Formed (context c)) (s : List ℕ) (lv : ℕ �
       go y k (yes d) = rw (eq-eqb y z d) (sym (ap (has w W-MARK) d ∙ k))
       go y k (no d) = rw (ne-eqb y z d)
 
-  mint-again : (f x : ℕ) → HasSelector (context c) (work-marks w) f x → mint S f (x ∷ []) .state ≡ S
+  pub mint-again : (f x : ℕ) → HasSelector (context c) (work-marks w) f x → mint S f (x ∷ []) .state ≡ S
   unfolding mint marked-in mark make-app made-in with-terms with-marks with-dt state-with dt-with
   mint-again f x H =
       let d = mk-app-again (context c) (Term.Uninterpreted f) (x ∷ []) (H .number) F (H .within) (H .is) in

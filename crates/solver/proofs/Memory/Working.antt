@@ -473,11 +473,11 @@ marked-other {c} {e} {w} {u} {x} {kind} z k d p = marked-by z words low kept
 -- a term that is marked already: nothing is stored
 pub marked-again : {c e w : List ℕ} {x : ℕ} → Markable c e w x → (at w W-MARK x ≡ 0 → ⊥) → Marked c e w x w
 marked-again {c} {e} {w} {x} z d = record {
-    work = z .asked .work;
-    marks = flagged-insert w w W-MARK x (z .asked .is-node) flags;
-    words = words;
-    kept = kept-none (W-MARK ∷ LOWEST ∷ []) w;
-  }
+  work = z .asked .work;
+  marks = flagged-insert w w W-MARK x (z .asked .is-node) flags;
+  words = words;
+  kept = kept-none (W-MARK ∷ LOWEST ∷ []) w;
+}
   where
     kind : at w W-MARK x ≡ term-kind (context c) x
     kind = ⊎-elim (λ m. absurd (d m)) (λ m. m) (z .asked .work .marks x (z .asked .is-node))

@@ -2,6 +2,7 @@
 -- whether the terms made fit.
 use Prim.Native.Nat.{ℕ, suc, _≤_, _<_}
 use mathlib.Core.Path.{_≡_}
+use mathlib.Core.Logic.{_⊎_}
 use mathlib.Core.Bool.{Bool, true, false, cond}
 use mathlib.Core.List.{List, [], _∷_, foldl}
 use lib.Dec.{eqb}
@@ -13,7 +14,7 @@ use Rattle.core.specs.Term.{Constructor, Selector}
 use Rattle.core.specs.Context.{Context, CtorApp, symbol, term, sort-of, terms-fit, dt-selectors}
 use Rattle.core.specs.Formed.{Extends}
 use Rattle.core.specs.Memory.Words.{at}
-use Rattle.core.specs.Memory.Table.{context}
+use Rattle.core.specs.Memory.Table.{context, ContextSound}
 use Rattle.theory.specs.EqEngine.{are-equal}
 use Rattle.theory.specs.Memory.Table.{merges}
 use Rattle.solver.specs.State.{State}
@@ -60,32 +61,6 @@ pub record Selectable (c e w : List ℕ) (f x : ℕ) : Type 0 where
   pub making : Making c e w
   pub selects : Selects (context c) f x
 
-pub record SelectableBoth (c e w : List ℕ) (f p q : ℕ) : Type 0 where
-  pub making : Making c e w
-  pub first : Selects (context c) f p
-  pub second : Selects (context c) f q
-
--- p applies constructor k
-pub record Applies (cx : Context) (k p : ℕ) : Type 0 where
-  pub op : term cx p .op ≡ Term.Uninterpreted k
-  pub role : symbol cx k .role ≡ Constructor
-
-pub record AppliesBoth (c e w : List ℕ) (k p q : ℕ) : Type 0 where
-  pub making : Making c e w
-  pub first : Applies (context c) k p
-  pub second : Applies (context c) k q
-
--- two marked applications of one class
-pub record OneClass (c e w : List ℕ) (p q : ℕ) : Type 0 where
-  pub making : Making c e w
-  pub lower : MarkedApp w p
-  pub higher : MarkedApp w q
-  pub equal : are-equal (merges e) p q ≡ true
-
-pub record Injectable (c e w : List ℕ) : Type 0 where
-  pub making : Making c e w
-  pub chain : ChainSound c e w
-
 -- the application of selector f to x stands in the table and is marked
 pub record HasSelector (cx : Context) (marks : List ℕ) (f x : ℕ) : Type 0 where
   pub number : ℕ
@@ -96,6 +71,45 @@ pub record HasSelector (cx : Context) (marks : List ℕ) (f x : ℕ) : Type 0 wh
 -- so do all selectors of constructor k on x
 abbrev pub AllSelected : Context → List ℕ → ℕ → ℕ → Type 0
 AllSelected cx marks k x = (f : ℕ) → In f (dt-selectors cx k) → HasSelector cx marks f x
+
+-- on two terms; the first may be known to have it
+pub record SelectableBoth (c e w : List ℕ) (f p q : ℕ) (known : Bool) : Type 0 where
+  pub making : Making c e w
+  pub first : Selects (context c) f p
+  pub second : Selects (context c) f q
+  pub has : known ≡ true → HasSelector (context c) (work-marks w) f p
+
+-- p applies constructor k
+pub record Applies (cx : Context) (k p : ℕ) : Type 0 where
+  pub op : term cx p .op ≡ Term.Uninterpreted k
+  pub role : symbol cx k .role ≡ Constructor
+
+pub record AppliesBoth (c e w : List ℕ) (k p q : ℕ) (known : Bool) : Type 0 where
+  pub making : Making c e w
+  pub first : Applies (context c) k p
+  pub second : Applies (context c) k q
+  pub has : known ≡ true → AllSelected (context c) (work-marks w) k p
+
+-- two marked applications of one class; all selectors on the lower one may be known to be there
+pub record OneClass (c e w : List ℕ) (p q : ℕ) (known : Bool) : Type 0 where
+  pub making : Making c e w
+  pub lower : MarkedApp w p
+  pub higher : MarkedApp w q
+  pub equal : are-equal (merges e) p q ≡ true
+  pub has : known ≡ true → AllSelected (context c) (work-marks w) (symbol-of (context c) p) p
+
+pub record TwoTerms (c : List ℕ) (p q : ℕ) : Type 0 where
+  pub core : ContextSound c
+  pub first : p < length (context c .terms)
+  pub second : q < length (context c .terms)
+
+-- they were known before, or made for q, which has the constructor of p
+abbrev pub KnownAfter : Context → ℕ → ℕ → Bool → Bool → Type 0
+KnownAfter cx p q known r = r ≡ true → (known ≡ true) ⊎ (symbol-of cx p ≡ symbol-of cx q)
+
+pub record Injectable (c e w : List ℕ) : Type 0 where
+  pub making : Making c e w
+  pub chain : ChainSound c e w
 
 -- of each two applications of one constructor in one class, if the lower one is below p, on both
 abbrev pub SelectedBelow : List ℕ → List ℕ → List ℕ → ℕ → Type 0

@@ -6,10 +6,10 @@ use Rattle.solver.proofs.injectivity.select_both.Statement.{statement}
 use Rattle.solver.proofs.injectivity.select_both.Tie as tie
 
 abbrev Inv-loop : tie.InvT-loop
-Inv-loop t₀ e w₀ c p q n i₀ t w i = Each c p q t₀ e w₀ t w n i × (length t ≡ length t₀) × (length w ≡ length w₀)
+Inv-loop t₀ e w₀ c p q known n i₀ t w i = Each c p q known t₀ e w₀ t w n i × (length t ≡ length t₀) × (length w ≡ length w₀)
 
 abbrev μ-loop : tie.MeasureT-loop
-μ-loop t₀ e w₀ c p q n i₀ t w i = n - i
+μ-loop t₀ e w₀ c p q known n i₀ t w i = n - i
 
 returns : tie.Need-returns Inv-loop μ-loop
 returns c =
