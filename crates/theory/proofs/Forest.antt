@@ -345,7 +345,7 @@ module _ (W : ℕ → List Step) (F : Forest W) where
   -- ---- the end of a way
 
   -- a way ends where no way goes on
-  end-root : (w : List Step) (x : ℕ) → W x ≡ w → W (end x w) ≡ []
+  pub end-root : (w : List Step) (x : ℕ) → W x ≡ w → W (end x w) ≡ []
   end-root [] x p = p
   end-root (s ∷ w) x p = end-root w (s .up) (F x s w p .1)
 

@@ -18,12 +18,12 @@ ghost use lib.Dec.{eqb};
 ghost use lib.ListN.{length};
 ghost use Rattle.core.specs.Lists.{zip};
 ghost use Rattle.theory.specs.Types.{Congruence};
-ghost use Rattle.theory.specs.EqEngine.{child, root, find, are-equal, merge, pairs-in-force, before, common, way, same-pair};
+ghost use Rattle.theory.specs.EqEngine.{child, root, find, are-equal, merge, pairs-in-force, common, way, same-pair};
 ghost use Rattle.core.specs.Limits.{max-terms, max-pairs, max-levels};
 ghost use Rattle.core.specs.Memory.Words.{put};
-ghost use Rattle.theory.specs.Memory.Replay.{IsNode, end};
+ghost use Rattle.theory.specs.Memory.Replay.{IsNode};
 ghost use Rattle.theory.specs.Memory.Table.{engine-size, PARENT, SIZE, FPARENT, merges#, size-word, parent-word, left-word, right-word, pair-at, is-pair, indexed#, label, just-at, merges, just-meaning, level, EngineSound, Engine, TwoNodes, Merges, Congruent, Pops};
-ghost use Rattle.theory.specs.Memory.Steps.{Upward, Rerooted, Spliced, TwoClasses, united, Entry, logged, Joinable, HoldsLabel, NoPairs, PairAsked, FindsPair, FirstOf, PairLinkable, pair-linked, Addable, PairAdded, LastPair, PairsCut, Cuttable, PairsAddable, PairRoom, Copied, Separable, separated, Undoes, newest-above, Drops};
+ghost use Rattle.theory.specs.Memory.Steps.{Upward, Turnable, Turns, Spliced, TwoClasses, united, Entry, logged, Joinable, HoldsLabel, NoPairs, PairAsked, FindsPair, FirstOf, PairLinkable, pair-linked, Addable, PairAdded, LastPair, PairsCut, Cuttable, PairsAddable, PairRoom, Copied, Separable, separated, Undoes, newest-above, Drops};
 ghost use Rattle.theory.specs.Memory.Explaining.{NewPair, Way, Label, Pairs, up-to, pairs-from, Explaining, Goes, EqualNodes, EqualPair, PairsEqual, mark-of, MarksPair, Explainable, Explains};
 
 // ---- the layout of the table (specs/Memory/Table.antt)
@@ -173,29 +173,15 @@ pub fn push(t: &mut [u32])
 
 // ---- the proof forest
 
-// Forest root of a node, distinct from the class representative.
-fn forest_root(t: &[u32], node: usize) -> usize
-    requires { ⌜ EngineSound (now t) × IsNode node ⌝ }
-    ensures { λ r. ⌜ (r ≡ end node (way (merges (now (t .entry))) node)) × IsNode r ⌝ }
-{
-    let mut n = node;
-    let mut up = get_at(t, FPARENT, n);
-    while up != n {
-        n = up;
-        up = get_at(t, FPARENT, n);
-    }
-    n
-}
-
-// Turns the way from a node up to top, a node above it: the node becomes a root.
-fn reroot_forest(t: &mut [u32], node: usize, top: usize)
-    requires { ⌜ Upward (now t) node top ⌝ }
-    ensures { λ _. ⌜ Rerooted (now (t .entry)) (now (t .exit)) node (before top (way (merges (now (t .entry))) node)) ⌝ }
+// Turns the way from a node up to the root of its tree and answers that root: the node becomes the root.
+fn turn_forest(t: &mut [u32], node: usize) -> usize
+    requires { ⌜ Turnable (now t) node ⌝ }
+    ensures { λ r. ⌜ Turns (now (t .entry)) (now (t .exit)) node r ⌝ }
 {
     let mut prev = node;
     let mut edge = get_at(t, FEDGE, node);
     let mut cur = get_at(t, FPARENT, node);
-    while prev != top {
+    while cur != prev {
         let next = get_at(t, FPARENT, cur);
         let next_edge = get_at(t, FEDGE, cur);
         put_at(t, FPARENT, cur, prev);
@@ -205,6 +191,7 @@ fn reroot_forest(t: &mut [u32], node: usize, top: usize)
         cur = next;
     }
     put_at(t, FPARENT, node, node);
+    prev
 }
 
 // How many argument pairs are in force: the newest merge says it.
@@ -226,8 +213,7 @@ fn splice(t: &mut [u32], a: usize, b: usize, i: usize)
     requires { ⌜ TwoNodes (now t) a b × (i < max-terms) ⌝ }
     ensures { λ _. ⌜ Spliced (now (t .entry)) (now (t .exit)) a b i ⌝ }
 {
-    let r = forest_root(t, a);
-    reroot_forest(t, a, r);
+    let r = turn_forest(t, a);
     put_at(t, FPARENT, a, b);
     put_at(t, FEDGE, a, i);
     put_at(t, FROOT, i, r);
@@ -500,7 +486,7 @@ fn separate(t: &mut [u32], child: usize)
     put_at(t, PARENT, child, child);
 }
 
-// The newest merge is taken back: the way from the old root of the first side's tree is turned again.
+// The newest merge is taken back: its edge is cut, so the first side is a root, and the way to it from the old root is turned again.
 fn undo(t: &mut [u32])
     requires { ⌜ EngineSound (now t) × (0 < merges# (now t)) ⌝ }
     ensures { λ _. ⌜ Undoes (now (t .entry)) (now (t .exit)) ⌝ }
@@ -509,7 +495,8 @@ fn undo(t: &mut [u32])
     let a = get_at(t, SIDE_A, i);
     let child = get_at(t, CHILD, i);
     let r = get_at(t, FROOT, i);
-    reroot_forest(t, r, a);
+    put_at(t, FPARENT, a, a);
+    turn_forest(t, r);
     separate(t, child);
     put_at(t, COUNTS, MERGES, i);
 }

@@ -4,40 +4,53 @@ use Rattle.core.proofs.Kit.{ℕ, suc, _+_, _≤_, _<_, _≡_, refl, sym, subst,
 use Rattle.core.specs.Limits.{max-terms, max-pairs}
 use Rattle.core.specs.Lists.{In}
 use Rattle.core.specs.Memory.Words.{put}
-use Rattle.core.proofs.Memory.Stores.{kept-more, kept-put}
+use Rattle.core.proofs.Memory.Stores.{kept-none, kept-more, kept-put}
 use Rattle.theory.specs.EqEngine.{Merge, child, root, classes, find, are-equal, pairs-in-force, Step, before, way}
-use Rattle.theory.specs.Memory.Replay.{IsNode, child-of, root-of, parent, end, BothSides, ups, On}
+use Rattle.theory.specs.Memory.Replay.{IsNode, child-of, root-of, parent, end, BothSides, ups}
 use Rattle.theory.specs.Memory.Table.{engine-size, COUNTS, MERGES, LEVEL, PARENT, SIZE, FPARENT, FEDGE, FROOT, LEFT, RIGHT, HEAD, INDEXED, engine-room, merges#, level-word, parent-word, size-word, fparent-word, fedge-word, a-word, b-word, label-word, value-word, child-word, froot-word, after-word, left-word, right-word, label-code, level-of, kind-of, theory-of, label, begins, just-at, merge-at, pairs-start, merges, FirstEdge, EngineSound, Engine, TwoNodes}
-use Rattle.theory.specs.Memory.Steps.{SameEntry, SameLog, Upward, SameNode, Rerooted, Spliced, TwoClasses, united, logged, Joinable}
+use Rattle.theory.specs.Memory.Steps.{SameEntry, SameLog, SameNode, Rerooted, Cut, Turnable, Turns, Spliced, TwoClasses, united, logged, Joinable}
 use Rattle.theory.proofs.Members.{in-right}
 use Rattle.theory.proofs.Classes.{turned-sides, size-more}
-use Rattle.theory.proofs.Forest.{Forest, Above, above?, Below, below, before-end, apart, end-on, split, back, first-side, turned-above, other-stays, other-root}
+use Rattle.theory.proofs.Forest.{Forest, Above, above?, Below, below, before-end, apart, end-on, end-root, split, back, first-side, turned-above, other-stays, other-root}
 use Rattle.theory.proofs.Sizes.{find-within, size-bound, child-within, root-within}
 use Rattle.theory.proofs.Memory.EngineStores.{stores}
 use Rattle.theory.proofs.Memory.Log.{level-is, kind-is, theory-is, label-same, label-length, pairs-more, merges-length, merges-within, sound-joins}
-use Rattle.theory.proofs.Memory.Walks.{sound-forest, way-within}
+use Rattle.theory.proofs.Memory.Walks.{sound-forest, way-within, on-within}
 use Rattle.theory.proofs.Memory.Turning.{in-ups}
 use Rattle.theory.proofs.Memory.PairIndex.{SameIndex, index-kept}
 use Rattle.theory.proofs.Memory.SoundTables.{edge-words, Grown, grown-merges, grown-sound}
 
 -- ---- the forest
 
-pub upward-root : {t : List ℕ} {a b r : ℕ} → TwoNodes t a b → r ≡ end a (way (merges t) a) → Upward t a r
-upward-root {t} {a} s e = record {
-  sound = s .sound;
-  is-node = s .first;
-  above = subst (λ (n : ℕ). On n a (way (merges t) a)) (sym e)
-      (end-on (way (merges t) a) a);
-}
+-- the tree of a ends at its root: nothing has to be cut
+root-cut : {t : List ℕ} {a b : ℕ} → TwoNodes t a b → Cut t t a (end a (way (merges t) a))
+root-cut {t} {a} s =
+    let z = s .sound in
+    let w = way (merges t) a in
+    let h = on-within t z w a (s .first) refl (end a w) (end-on w a) in
+    record {
+      upward = record { sound = z; is-node = s .first; above = end-on w a };
+      kept = kept-none engine-room (FPARENT ∷ []) t;
+      log = refl;
+      root = subst (FirstEdge t (end a w)) (end-root (way (merges t)) (sound-forest t z) w a refl) (z .forest (end a w) h);
+      others = λ x h n. refl;
+    }
 
-module _ {t t₁ t₂ t₃ t₄ : List ℕ} {a b i r : ℕ} (s : TwoNodes t a b) (k : i < max-terms) (e : r ≡ end a (way (merges t) a))
-    (c : Rerooted t t₁ a (before r (way (merges t) a))) (e₂ : t₂ ≡ put t₁ FPARENT a b) (e₃ : t₃ ≡ put t₂ FEDGE a i)
-    (e₄ : t₄ ≡ put t₃ FROOT i r) where
-  whole : before r (way (merges t) a) ≡ way (merges t) a
-  whole = ap (λ (n : ℕ). before n (way (merges t) a)) e ∙ before-end (way (merges t)) (sound-forest t (s .sound)) a
+pub root-turnable : {t : List ℕ} {a b : ℕ} → TwoNodes t a b → Turnable t a
+root-turnable {t} {a} s = record { sound = t; top = end a (way (merges t) a); cut = root-cut s }
+
+module _ {t t₁ t₂ t₃ t₄ : List ℕ} {a b i r : ℕ} (s : TwoNodes t a b) (k : i < max-terms) (d : Turns t t₁ a r)
+    (e₂ : t₂ ≡ put t₁ FPARENT a b) (e₃ : t₃ ≡ put t₂ FEDGE a i) (e₄ : t₄ ≡ put t₃ FROOT i r) where
+  old-root-is : r ≡ end a (way (merges t) a)
+  old-root-is = d .last t (end a (way (merges t) a)) (root-cut s)
+
+  rerooted : Rerooted t t₁ a (way (merges t) a)
+  rerooted =
+      subst (Rerooted t t₁ a) (before-end (way (merges t)) (sound-forest t (s .sound)) a)
+      (d .turned t (end a (way (merges t) a)) (root-cut s))
 
   long₁ : engine-size ≤ length t₁
-  long₁ = let l = c .kept .long in let m = s .sound .long in omega arith
+  long₁ = let l = rerooted .kept .long in let m = s .sound .long in omega arith
 
   same-other : (x : ℕ) → IsNode x → (x ≡ a → ⊥) → SameNode t₁ t₄ x
   same-other x h d = let l = long₁ in let f = s .first in let q : eqb x a ≡ false = ne-eqb x a d in search (e₄, e₃, e₂, q, stores)
@@ -57,19 +70,19 @@ module _ {t t₁ t₂ t₃ t₄ : List ℕ} {a b i r : ℕ} (s : TwoNodes t a b)
         kept = rw (e₄, e₃, e₂)
             (kept-put engine-room ws t (put (put t₁ FPARENT a b) FEDGE a i) FROOT i r tt k
             (kept-put engine-room ws t (put t₁ FPARENT a b) FEDGE a i tt f
-            (kept-put engine-room ws t t₁ FPARENT a b tt f (kept-more engine-room (FPARENT ∷ FEDGE ∷ []) ws t t₁ tt (c .kept)))));
-        old-root = let q : froot-word t₄ i ≡ r = search (e₄, e₃, e₂, stores) in q ∙ e;
+            (kept-put engine-room ws t t₁ FPARENT a b tt f (kept-more engine-room (FPARENT ∷ FEDGE ∷ []) ws t t₁ tt (rerooted .kept)))));
+        old-root = let q : froot-word t₄ i ≡ r = search (e₄, e₃, e₂, stores) in q ∙ old-root-is;
         older = λ j h.
             let w : j < max-terms = omega arith in
             let q : eqb j i ≡ false = ne-eqb j i (omega arith) in
-            search (e₄, e₃, e₂, q, c .kept .rest, stores);
+            search (e₄, e₃, e₂, q, rerooted .kept .rest, stores);
         edge = search (e₄, e₃, e₂, stores);
         turned = λ x j.
-            let o = c .turned x (subst (λ (w : List Step). In x w) (sym whole) j) in
+            let o = rerooted .turned x j in
             let m = same-other (x .up) (way-within t (s .sound) a x j .1) (not-first x j) in
             record { parent = m .parent ∙ o .parent; edge = m .edge ∙ o .edge };
         others = λ x g n.
-            let o = c .others x g (subst (λ (w : List Step). On x a w → ⊥) (sym whole) n) in
+            let o = rerooted .others x g n in
             let m = same-other x g (λ q. n (inl q)) in
             record { parent = m .parent ∙ o .parent; edge = m .edge ∙ o .edge };
       }

@@ -4,17 +4,18 @@ use Rattle.core.proofs.Kit.{ℕ, zero, suc, _+_, _-_, _≤_, _<_, _≡_, refl, 
 use Rattle.core.specs.Limits.{max-terms, max-pairs}
 use Rattle.core.specs.Lists.{In}
 use Rattle.core.specs.Memory.Words.{put}
+use Rattle.core.proofs.Memory.Stores.{kept-none, kept-put}
 use Rattle.theory.specs.EqEngine.{Merge, classes, find, pop-merges, Step, before, turned, way}
 use Rattle.theory.specs.Memory.Replay.{IsNode, child-of, root-of, parent, end, BothSides, ups, On}
-use Rattle.theory.specs.Memory.Table.{engine-size, COUNTS, MERGES, LEVEL, PARENT, SIZE, merges#, level-word, parent-word, size-word, fparent-word, fedge-word, a-word, label-word, child-word, froot-word, level-of, merge-at, merges-below, merges, FirstEdge, EngineSound, Pops}
-use Rattle.theory.specs.Memory.Steps.{SameLog, Upward, SameNode, Rerooted, Separable, separated, Undoes, newest-above, Drops}
+use Rattle.theory.specs.Memory.Table.{engine-size, COUNTS, MERGES, LEVEL, PARENT, SIZE, FPARENT, engine-room, merges#, level-word, parent-word, size-word, fparent-word, fedge-word, a-word, label-word, child-word, froot-word, level-of, merge-at, merges-below, merges, FirstEdge, EngineSound, Pops}
+use Rattle.theory.specs.Memory.Steps.{SameLog, SameNode, Rerooted, Cut, Turnable, Turns, Separable, separated, Undoes, newest-above, Drops}
 use Rattle.theory.proofs.Members.{in-right}
 use Rattle.theory.proofs.Classes.{Same, unequal, turned-sides, roots-apart}
 use Rattle.theory.proofs.Forest.{Joins, Forest, Above, way-over, above?, split, apart, back, new-step, end-on, end-above, step-above, way-forest, step-same, before-skip, before-stop, turned-in, in-turned, turned-above, other-stays, other-root, from-old-root}
 use Rattle.theory.proofs.Sizes.{size-other, size-root, Within, child-within, root-within}
 use Rattle.theory.proofs.UnionFind.{child-parent, parent-child, parent-kept}
 use Rattle.theory.proofs.Memory.EngineStores.{stores}
-use Rattle.theory.proofs.Memory.Log.{merges-within, sound-joins, newest-first, pairs-fewer}
+use Rattle.theory.proofs.Memory.Log.{below-same, merges-within, sound-joins, newest-first, pairs-fewer}
 use Rattle.theory.proofs.Memory.Walks.{sides-within}
 use Rattle.theory.proofs.Memory.Turning.{in-ups, ups-in, ups-left, ups-right}
 use Rattle.theory.proofs.Memory.PairIndex.{SameIndex, index-kept}
@@ -308,41 +309,79 @@ module _ {t : List ℕ} {n a r child : ℕ} (z : EngineSound t) (h : 0 < merges#
   newest : merges# t ≡ suc (n - 1)
   newest = omega arith
 
-  pub reroot-asks : Upward t r a
-  reroot-asks = record {
-    sound = z;
-    is-node = subst IsNode (sym er) (root-node t (n - 1) z newest);
-    above = rw (er, ea) (top-above t (n - 1) z newest);
-  }
+  pub side-node : IsNode a
+  side-node = subst IsNode (sym (ea ∙ side-a t (n - 1) z newest)) (nodes t (n - 1) z newest .0)
 
-  module _ {t₁ : List ℕ} (c : Rerooted t t₁ r (before a (way (merges t) r))) where
+  module _ {t₀ : List ℕ} (e₀ : t₀ ≡ put t FPARENT a a) where
+    -- this store leaves the log
+    same-log : SameLog t t₀ (merges# t)
+    same-log =
+        let f = z .fewer in
+        let h = side-node in
+        record {
+          entries = λ j l. let w : j < max-terms = omega arith in search (e₀, stores);
+          pairs = λ j l p g. let w : p < max-pairs = let b = z .entries j l .fit .1 in omega arith in search (e₀, stores);
+        }
+
+    cut-log : merges t₀ ≡ merges t
+    unfolding merges
+    cut-log =
+        let h = side-node in
+        let count : merges# t₀ ≡ merges# t = search (e₀, stores) in
+        ap (merges-below t₀) count ∙ below-same t t₀ (merges# t) same-log
+
+    -- the edge of the newest merge is cut
+    edge-cut : Cut t t₀ r a
+    edge-cut =
+        let h = side-node in
+        let l = z .long in
+        record {
+          upward = record {
+            sound = z;
+            is-node = subst IsNode (sym er) (root-node t (n - 1) z newest);
+            above = rw (er, ea) (top-above t (n - 1) z newest);
+          };
+          kept = rw e₀ (kept-put engine-room (FPARENT ∷ []) t t FPARENT a a tt h (kept-none engine-room (FPARENT ∷ []) t));
+          log = cut-log;
+          root = search (e₀, stores);
+          others = λ x g d. let q : eqb x a ≡ false = ne-eqb x a d in search (e₀, q, stores);
+        }
+
+    pub edge-turnable : Turnable t₀ r
+    edge-turnable = record { sound = t; top = a; cut = edge-cut }
+
+  module _ {t₀ t₁ : List ℕ} {top : ℕ} (e₀ : t₀ ≡ put t FPARENT a a) (d : Turns t₀ t₁ r top) where
+    rerooted : Rerooted t t₁ r (before a (way (merges t) r))
+    rerooted = d .turned t a (edge-cut e₀)
+
     turned-back : Rerooted t t₁ (froot-word t (n - 1)) (before (a-word t (n - 1)) (way (merges t) (froot-word t (n - 1))))
     turned-back =
         subst (λ (k : ℕ). Rerooted t t₁ k (before (a-word t (n - 1)) (way (merges t) k))) er
-        (subst (λ (k : ℕ). Rerooted t t₁ r (before k (way (merges t) r))) ea c)
+        (subst (λ (k : ℕ). Rerooted t t₁ r (before k (way (merges t) r))) ea rerooted)
 
     pub separate-asks : Separable t₁ child
     separate-asks =
         let i = n - 1 in
         let k = child-node t i z newest in
         let above = root-of-node t i z newest in
+        let kept = rerooted .kept .rest in
         let p : parent-word t₁ child ≡ root-of (merges-below t i) (merge-at t i) =
-        ap (parent-word t₁) el ∙ c .kept .rest PARENT (child-word t i) tt k ∙ root-is t i z newest in
+        ap (parent-word t₁) el ∙ kept PARENT (child-word t i) tt k ∙ root-is t i z newest in
         let s : size-word t₁ child ≡ classes (merges-below t i) .size (child-of (merges-below t i) (merge-at t i)) =
-        ap (size-word t₁) el ∙ c .kept .rest SIZE (child-word t i) tt k ∙ size-child t i z newest in
-        let b = ap (size-word t₁) p ∙ c .kept .rest SIZE (root-of (merges-below t i) (merge-at t i)) tt above ∙ size-over t i z newest in
+        ap (size-word t₁) el ∙ kept SIZE (child-word t i) tt k ∙ size-child t i z newest in
+        let b = ap (size-word t₁) p ∙ kept SIZE (root-of (merges-below t i) (merge-at t i)) tt above ∙ size-over t i z newest in
         record {
-          long = let l = z .long in let m = c .kept .long in omega arith;
+          long = let l = z .long in let m = rerooted .kept .long in omega arith;
           is-node = subst IsNode (sym el) k;
           above = subst IsNode (sym p) above;
           smaller = omega arith;
         }
 
     pub undone-at : {t₂ u : List ℕ} → t₂ ≡ separated t₁ child (parent-word t₁ child) → u ≡ put t₂ COUNTS MERGES (n - 1) → Undoes t u
-    undone-at {t₂} {u} d e =
+    undone-at {t₂} {u} g e =
         undone t (n - 1) z newest turned-back
         (subst (λ (k : ℕ). u ≡ put (separated t₁ k (parent-word t₁ k)) COUNTS MERGES (n - 1)) el
-        (e ∙ ap (λ (y : List ℕ). put y COUNTS MERGES (n - 1)) d))
+        (e ∙ ap (λ (y : List ℕ). put y COUNTS MERGES (n - 1)) g))
 
 -- ---- back to a level
 

@@ -5,7 +5,7 @@ use Rattle.core.specs.Limits.{max-terms}
 use Rattle.core.specs.Lists.{In, range}
 use Rattle.core.proofs.Lists.{in-range, true-T, length-range}
 use Rattle.theory.specs.EqEngine.{Merge, Step, find, are-equal, nodes, common, way}
-use Rattle.theory.specs.Memory.Replay.{IsNode, parent, end, BothSides}
+use Rattle.theory.specs.Memory.Replay.{IsNode, parent, BothSides}
 use Rattle.theory.specs.Memory.Table.{merges#, parent-word, fparent-word, fedge-word, just-at, merge-at, merges, FirstEdge, EngineSound, TwoNodes}
 use Rattle.theory.proofs.Members.{apart-length}
 use Rattle.theory.proofs.Classes.{equal-same}
@@ -115,7 +115,7 @@ module _ (t : List ℕ) (z : EngineSound t) where
       go (inl (q, r)) = absurd (n r)
       go (inr r) = r
 
-  at-a-root : (x p : ℕ) → IsNode x → p ≡ fparent-word t x → p ≡ x → way (merges t) x ≡ []
+  pub at-a-root : (x p : ℕ) → IsNode x → p ≡ fparent-word t x → p ≡ x → way (merges t) x ≡ []
   at-a-root x p h e q = go (first-edge x p h e)
     where
       go : ((way (merges t) x ≡ []) × (p ≡ x)) ⊎ Rises t x p → way (merges t) x ≡ []
@@ -133,7 +133,7 @@ module _ (t : List ℕ) (z : EngineSound t) where
   pub way-within : (x : ℕ) (s : Step) → In s (way (merges t) x) → IsNode (s .node) × IsNode (s .up)
   way-within x s i = let (m, j, (q, b)) = way-over (merges t) x s i in sides-within m (s .node) (s .up) (merges-within t z m j) b
 
-  on-within : (w : List Step) (x : ℕ) → IsNode x → way (merges t) x ≡ w → (n : ℕ) → On n x w → IsNode n
+  pub on-within : (w : List Step) (x : ℕ) → IsNode x → way (merges t) x ≡ w → (n : ℕ) → On n x w → IsNode n
   on-within [] x h p n (inl e) = omega arith
   on-within [] x h p n (inr i) = absurd i
   on-within (s ∷ w) x h p n (inl e) = omega arith
@@ -161,7 +161,6 @@ pub record Rise (t : List ℕ) (node n d p : ℕ) : Type 0 where
   pub within : IsNode n
   pub up-within : IsNode p
   pub at : p ≡ fparent-word t n
-  pub same : end n (way (merges t) n) ≡ end node (way (merges t) node)
   pub sum : d + length (way (merges t) n) ≡ length (way (merges t) node)
   pub short : length (way (merges t) node) < max-terms
 
@@ -171,7 +170,6 @@ rise-first {t} {node} {p} z h e = record {
   within = h;
   up-within = up-node t z node p h e;
   at = e;
-  same = refl;
   sum = omega arith;
   short = way-short t z node h;
 }
@@ -189,20 +187,12 @@ rise-next {t} {node} {n} {d} {p} {q} c h e =
       within = r .within;
       up-within = up-node t (c .sound) p q (r .within) e;
       at = e;
-      same =
-          ap (λ (v : ℕ). end v (way (merges t) v)) (sym (r .up))
-          ∙ ap (end (r .step .up)) (sound-forest t (c .sound) n (r .step) (r .rest) (r .is) .1)
-          ∙ sym (ap (end n) (r .is))
-          ∙ c .same;
       sum = omega arith;
       short = c .short;
     }
 
 pub rise-less : {t : List ℕ} {node n d p : ℕ} → Rise t node n d p → (p ≡ n → ⊥) → length (way (merges t) p) < length (way (merges t) n)
 rise-less c h = let l = rise-up c h .longer in omega arith
-
-pub rise-root : {t : List ℕ} {node n d p : ℕ} → Rise t node n d p → p ≡ n → (n ≡ end node (way (merges t) node)) × IsNode n
-rise-root {t} {node} {n} {d} {p} c e = (sym (ap (end n) (at-a-root t (c .sound) n p (c .within) (c .at) e)) ∙ c .same, c .within)
 
 pub rise-depth : {t : List ℕ} {node n d p : ℕ} → Rise t node n d p → p ≡ n → d ≡ length (way (merges t) node)
 rise-depth {t} {node} {n} {d} {p} c e = let l = ap length (at-a-root t (c .sound) n p (c .within) (c .at) e) in let s = c .sum in omega

@@ -10,7 +10,7 @@ use Rattle.core.specs.Lists.{In}
 use Rattle.core.specs.Memory.Words.{at, put, Kept}
 use Rattle.theory.specs.declared.types.EqJust as Given
 use Rattle.theory.specs.declared.eq_engine.LabelWords as LabelWords
-use Rattle.theory.specs.EqEngine.{Merge, are-equal, pop-merges, pairs-of, pairs-in-force, Step, way}
+use Rattle.theory.specs.EqEngine.{Merge, are-equal, pop-merges, pairs-of, pairs-in-force, Step, before, way}
 use Rattle.theory.specs.Memory.Replay.{IsNode, end, On, EqualPairs}
 use Rattle.theory.specs.Memory.Table.{engine-size, PARENT, SIZE, FPARENT, FEDGE, SIDE-A, SIDE-B, LABEL, VALUE, CHILD, FROOT, AFTER, LEFT, RIGHT, HEAD, INDEXED, engine-room, merges#, parent-word, size-word, fparent-word, fedge-word, a-word, b-word, label-word, value-word, child-word, froot-word, after-word, left-word, right-word, first-word, indexed#, is-pair, pair-buckets, pair-bucket, PairsSound, kind-unit, label, begins, merges-below, merges, just-meaning, level, EngineSound, Engine}
 
@@ -63,6 +63,26 @@ pub record Rerooted (t u : List ℕ) (n : ℕ) (w : List Step) : Type 0 where
   pub root : fparent-word u n ≡ n
   pub turned : (s : Step) → In s w → Turned t u s
   pub others : (x : ℕ) → IsNode x → (On x n w → ⊥) → SameNode t u x
+
+-- t is the sound table s, but top, a node above node, is its own parent: the tree is cut there, if it does not end there
+pub record Cut (s t : List ℕ) (node top : ℕ) : Type 0 where
+  pub upward : Upward s node top
+  pub kept : Kept engine-room (FPARENT ∷ []) s t
+  pub log : merges t ≡ merges s
+  pub root : fparent-word t top ≡ top
+  pub others : (x : ℕ) → IsNode x → (x ≡ top → ⊥) → fparent-word t x ≡ fparent-word s x
+
+-- the way from a node may be turned: some sound table is cut above it
+pub record Turnable (t : List ℕ) (node : ℕ) : Type 0 where
+  pub sound : List ℕ
+  pub top : ℕ
+  pub cut : Cut sound t node top
+
+-- whatever sound table was cut, its way is turned up to where it was cut, and that is r
+pub record Turns (t u : List ℕ) (node r : ℕ) : Type 0 where
+  pub is-node : IsNode r
+  pub last : (s : List ℕ) (top : ℕ) → Cut s t node top → r ≡ top
+  pub turned : (s : List ℕ) (top : ℕ) → Cut s t node top → Rerooted s u node (before top (way (merges s) node))
 
 -- the tree of a is turned and hangs from a under b, by merge i
 pub record Spliced (t u : List ℕ) (a b i : ℕ) : Type 0 where
