@@ -24,7 +24,7 @@ ghost use Rattle.core.specs.Memory.Words.{put};
 ghost use Rattle.theory.specs.Memory.Replay.{IsNode};
 ghost use Rattle.theory.specs.Memory.Table.{engine-size, PARENT, SIZE, FPARENT, merges#, size-word, parent-word, left-word, right-word, pair-at, is-pair, indexed#, label, just-at, merges, just-meaning, level, EngineSound, Engine, TwoNodes, Merges, Congruent, Pops};
 ghost use Rattle.theory.specs.Memory.Steps.{Upward, Turnable, Turns, Spliced, TwoClasses, united, Entry, logged, Joinable, HoldsLabel, NoPairs, PairAsked, FindsPair, FirstOf, PairLinkable, pair-linked, Addable, PairAdded, LastPair, PairsCut, Cuttable, PairsAddable, PairRoom, Copied, Separable, separated, Undoes, newest-above, Drops};
-ghost use Rattle.theory.specs.Memory.Explaining.{NewPair, Way, Label, Pairs, up-to, pairs-from, Explaining, Goes, EqualNodes, EqualPair, PairsEqual, mark-of, MarksPair, Explainable, Explains};
+ghost use Rattle.theory.specs.Memory.Explaining.{NewPair, Way, Label, Pairs, up-to, pairs-from, Explaining, Goes, EqualNodes, EqualPair, PairsEqual, mark-of, few, MarksPair, Explainable, Explains};
 
 // ---- the layout of the table (specs/Memory/Table.antt)
 
@@ -79,8 +79,11 @@ const KIND_UNIT: usize = 65536;
 
 const LEVEL_UNIT: usize = 262144;
 
-// The marks of one explanation: for each argument pair whether it has been expanded.
+// The marks of one explanation: for each argument pair in force whether it has been expanded.
 const MARKS: usize = 0;
+
+// So many marks are enough for most explanations.
+const FEW: usize = 64;
 
 // ---- classes
 
@@ -572,9 +575,10 @@ fn forest_nca(t: &[u32], a: usize, b: usize) -> usize
     x
 }
 
-// Marks the argument pairs in force that are the pair of a and b: all of them have one first pair.
+// Marks the argument pairs in force that are the pair of a and b: all of them have one first pair. The index may have pairs behind those in
+// force, and a first pair among them has no mark.
 fn mark_pairs(t: &[u32], a: usize, b: usize, marks: &mut [u32])
-    requires { ⌜ EngineSound (now t) × IsNode a × IsNode b × (max-pairs ≤ length (now marks)) ⌝ }
+    requires { ⌜ EngineSound (now t) × IsNode a × IsNode b × (pairs-in-force (merges (now t)) ≤ length (now marks)) ⌝ }
     ensures { λ _. ⌜ MarksPair (now (t .entry)) a b (now (marks .entry)) (now (marks .exit)) ⌝ }
 {
     let k = find_pair(t, a, b);
@@ -582,12 +586,15 @@ fn mark_pairs(t: &[u32], a: usize, b: usize, marks: &mut [u32])
         return;
     }
     let first = get_at(t, LEFT, k) / MAX_TERMS;
+    if marks.len() <= first {
+        return;
+    }
     put_at(marks, MARKS, first, 1);
 }
 
 // Has argument pair j been expanded? Its first pair has the mark.
 fn is_expanded(t: &[u32], j: usize, marks: &[u32]) -> bool
-    requires { ⌜ EngineSound (now t) × (j < pairs-in-force (merges (now t))) × (max-pairs ≤ length (now marks)) ⌝ }
+    requires { ⌜ EngineSound (now t) × (j < pairs-in-force (merges (now t))) × (pairs-in-force (merges (now t)) ≤ length (now marks)) ⌝ }
     ensures { λ r. ⌜ r ≡ mark-of (now (t .entry)) (now (marks .entry)) j ⌝ }
 {
     let first = get_at(t, LEFT, j) / MAX_TERMS;
@@ -670,13 +677,34 @@ fn expand_pair(t: &[u32], j: usize, marks: &mut [u32], out: &mut [u32])
     }
 }
 
-// Appends the leaves that the equality of two terms rests on, each once.
+// Explains where few pairs are in force.
+fn explain_few(t: &[u32], a: usize, b: usize, out: &mut [u32])
+    requires { ⌜ Explainable (now t) a b (now out) × (pairs-in-force (merges (now t)) ≤ few) ⌝ }
+    ensures { λ _. ⌜ Explains (now (t .entry)) a b (now (out .entry)) (now (out .exit)) ⌝ }
+{
+    let mut marks = [0u32; FEW];
+    explain_rec(t, a, b, &mut marks, out);
+}
+
+// Explains with as many marks as pairs can be in force.
+fn explain_many(t: &[u32], a: usize, b: usize, out: &mut [u32])
+    requires { ⌜ Explainable (now t) a b (now out) ⌝ }
+    ensures { λ _. ⌜ Explains (now (t .entry)) a b (now (out .entry)) (now (out .exit)) ⌝ }
+{
+    let mut marks = [0u32; MAX_PAIRS];
+    explain_rec(t, a, b, &mut marks, out);
+}
+
+// Appends the leaves that the equality of two terms rests on, each once. All marks are set to 0 first, so there are no more than it needs.
 pub fn explain(t: &[u32], a: TermId, b: TermId, out: &mut [u32])
     requires { ⌜ Explainable (now t) (a .0) (b .0) (now out) ⌝ }
     ensures { λ _. ⌜ Explains (now (t .entry)) (a .0) (b .0) (now (out .entry)) (now (out .exit)) ⌝ }
 {
     let x = a.0 as usize;
     let y = b.0 as usize;
-    let mut marks = [0u32; MAX_PAIRS];
-    explain_rec(t, x, y, &mut marks, out);
+    if pairs_in_force(t) <= FEW {
+        explain_few(t, x, y, out);
+    } else {
+        explain_many(t, x, y, out);
+    }
 }

@@ -42,9 +42,6 @@ module _ {t : List ℕ} {a b k n : ℕ} (z : EngineSound t) (w : FindsPair t a b
     found : k < indexed# t
     found = let v = w .within in omega arith
 
-    pub first-in : first-word t k < max-pairs
-    first-in = let l = found in let o = z .indexed .firsts .lower k l in let f = z .indexed .fit in omega arith
-
     -- another first pair, other nodes
     apart-firsts : (j : ℕ) → j < indexed# t → is-pair t j (a, b) ≡ false → (first-word t j ≡ first-word t k → ⊥)
     apart-firsts j l o q =
@@ -54,14 +51,13 @@ module _ {t : List ℕ} {a b k n : ℕ} (z : EngineSound t) (w : FindsPair t a b
     one-first : (j : ℕ) → j < indexed# t → is-pair t j (a, b) ≡ true → first-word t j ≡ first-word t k
     one-first j l o = alike-first a b z j k l found o (w .found found)
 
-    mark-first : {f : ℕ} {ks ls : List ℕ} → max-pairs ≤ length ks → f ≡ first-word t k → ls ≡ put ks MARKS f 1 → MarksPair t a b ks ls
+    mark-first : {f : ℕ} {ks ls : List ℕ} → f < length ks → f ≡ first-word t k → ls ≡ put ks MARKS f 1 → MarksPair t a b ks ls
     unfolding marked at put
     mark-first {f} {ks} {ls} m g h =
         record { each = λ j l. let c = z .covers in go j (omega arith) (is-pair t j (a, b)) refl }
       where
         go : (j : ℕ) → j < indexed# t → (r : Bool) → is-pair t j (a, b) ≡ r → mark-of t ls j ≡ cond r true (mark-of t ks j)
         go j l true o =
-            let i = first-in in
             ap (λ (u : List ℕ). marked (at u MARKS (first-word t j))) h
             ∙ ap (λ (x : ℕ). marked (at (put ks MARKS f 1) MARKS x)) (one-first j l o ∙ sym g)
             ∙ ap marked (getD-set-same ks (MARKS + f) 1 0 (omega arith))
@@ -69,15 +65,30 @@ module _ {t : List ℕ} {a b k n : ℕ} (z : EngineSound t) (w : FindsPair t a b
             ap (λ (u : List ℕ). marked (at u MARKS (first-word t j))) h
             ∙ ap marked (other-place ks MARKS f (first-word t j) 1 (λ q. apart-firsts j l o (q ∙ g)))
 
-    pub mark-one : {v : ℕ} {ks ls : List ℕ} → max-pairs ≤ length ks → v ≡ at t LEFT k → ls ≡ put ks MARKS (v / max-terms) 1 →
+    pub mark-one : {v : ℕ} {ks ls : List ℕ} → v / max-terms < length ks → v ≡ at t LEFT k → ls ≡ put ks MARKS (v / max-terms) 1 →
         MarksPair t a b ks ls
     mark-one m r h = mark-first m (ap (λ (w : ℕ). w / max-terms) r) h
+
+    -- the first pair has no mark: it is not in force, so no pair of these nodes is
+    pub mark-behind : {v : ℕ} {ks : List ℕ} → pairs-in-force (merges t) ≤ length ks → v ≡ at t LEFT k → length ks ≤ v / max-terms →
+        MarksPair t a b ks ks
+    mark-behind {v} {ks} m r h = record { each = λ j l. go j l (is-pair t j (a, b)) refl }
+      where
+        go : (j : ℕ) → j < pairs-in-force (merges t) → (q : Bool) → is-pair t j (a, b) ≡ q → mark-of t ks j ≡ cond q true (mark-of t ks j)
+        go j l true o =
+            let c = z .covers in
+            let i : j < indexed# t = omega arith in
+            let lower = z .indexed .firsts .lower j i in
+            let first = one-first j i o in
+            let e = ap (λ (w : ℕ). w / max-terms) r in
+            absurd (omega arith)
+        go j l false o = refl
 
 -- ---- asking for a mark
 
 -- the first pair of a pair in force has a mark
 module _ {t : List ℕ} {j : ℕ} (z : EngineSound t) (l : j < pairs-in-force (merges t)) where
-  pub mark-in : (j < max-pairs) × (first-word t j < max-pairs)
+  pub mark-in : (j < max-pairs) × (first-word t j < pairs-in-force (merges t))
   mark-in =
       let c = z .covers in
       let o = z .indexed .firsts .lower j (omega arith) in

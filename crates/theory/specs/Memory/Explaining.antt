@@ -6,7 +6,6 @@ use mathlib.Core.Bool.{Bool, true, false, cond}
 use mathlib.Core.List.{List, [], _∷_, _++_, map, foldl}
 use lib.Dec.{eqb, leb}
 use lib.ListN.{length}
-use Rattle.core.specs.Limits.{max-pairs}
 use Rattle.core.specs.Lists.{any, range}
 use Rattle.core.specs.Memory.Words.{at}
 use Rattle.theory.specs.Types.{EqJust, EqLeaf}
@@ -79,9 +78,13 @@ pairs-from t from to = map (pair-at t) (range from (to - from))
 
 -- ---- marks and leaves
 
--- the marks are one region, one for each argument pair
+-- the marks are one region, one for each argument pair in force at least
 abbrev pub MARKS : ℕ
 MARKS = 0
+
+-- so many marks are enough for most explanations
+abbrev pub few : ℕ
+few = 64
 
 -- a mark is any word but 0
 unfoldable pub marked : ℕ → Bool
@@ -102,7 +105,7 @@ pub record Shows (t marks out : List ℕ) (seen : List EqLeaf) (e : Explained) :
 pub record Explaining (t marks out : List ℕ) : Type 0 where
   pub engine : EngineSound t
   pub answer : AnswerSound (merges t) out
-  pub long : max-pairs ≤ length marks
+  pub long : pairs-in-force (merges t) ≤ length marks
 
 -- If the tables before show an explanation, those after show what the part makes of it, at every depth from its age on.
 pub record Goes (t marks out marks′ out′ : List ℕ) (p : Part) : Type 0 where
