@@ -16,11 +16,12 @@ pub mod Collecting
 pub mod Entries
 pub mod Recording
 pub mod Levels
--- Working: the work table of a check; Beginning: a check begins; AppNumbers: the marked applications by their numbers;
--- MarksOnly: the solver's marks without a work table.
+-- Working: the work table of a check; Beginning: a check begins; AppNumbers: the marked applications by their numbers; Blocks: a short
+-- work table, and the constructor of a class by either; MarksOnly: the solver's marks without a work table.
 pub mod Working
 pub mod Beginning
 pub mod AppNumbers
+pub mod Blocks
 pub mod MarksOnly
 -- Growing: what a table that grows at its end keeps; Unfitting: what does not fit does not fit later; Minting: terms made and marked,
 -- lemmas handed out; Splits: the answer table of a split; Trying: a rule that is tried for each of a list.

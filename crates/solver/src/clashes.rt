@@ -5,7 +5,6 @@ use crate::layout::REC_ATOM;
 use crate::layout::REC_LIT;
 use crate::layout::RECORDS;
 use crate::work::CtorOf;
-use crate::work::ctor_now;
 use crate::work::ctor_of_class;
 use core::context::children;
 use core::context::dt_role;
@@ -24,9 +23,9 @@ ghost use Prim.Native.Nat.{_≤_};
 ghost use lib.ListN.{length};
 ghost use Rattle.theory.specs.Memory.Answer.{answer-size};
 ghost use Rattle.solver.specs.Rules.{tester-clash};
-ghost use Rattle.solver.specs.Memory.Work.{marks-only, CheckSound};
+ghost use Rattle.solver.specs.Memory.Work.{CheckSound};
 ghost use Rattle.solver.specs.Memory.Answer.{Tried};
-ghost use Rattle.solver.specs.Memory.Testing.{DisagreeAsked, Disagrees, AgainstAsked, Against, TesterAsked, TesterConflict, AssertAsked};
+ghost use Rattle.solver.specs.Memory.Testing.{DisagreeAsked, Disagrees, AgainstAsked, Against, TesterAsked, TesterConflict};
 
 // The literal says that the term is built by the constructor c; found is the lowest application of its class. The leaves are the
 // literal, then those of the term's equality with that application.
@@ -73,29 +72,19 @@ fn tester_against(
 }
 
 // The conflict of an asserted tester with the lowest marked constructor application of its term's class, or `Sat`.
-fn tester_conflict(t: &[u32], e: &[u32], w: &[u32], l: Lit, x: TermId, out: &mut [u32]) -> TCheck
+pub fn tester_conflict(
+    t: &[u32],
+    e: &[u32],
+    w: &[u32],
+    l: Lit,
+    x: TermId,
+    out: &mut [u32],
+) -> TCheck
     requires { ⌜ TesterAsked (now t) (now e) (now w) (x .0) (now out) ⌝ }
     ensures { λ r. ⌜ TesterConflict (now (t .entry)) (now (e .entry)) (now (w .entry)) (l .0) (x .0) r (now (out .exit)) ⌝ }
 {
     let arg = TermId(children(t, x)[0]);
     let found = ctor_of_class(t, e, w, arg);
-    tester_against(t, e, l, x, arg, found, out)
-}
-
-// The same by the marks of the solver's table, outside a check.
-pub fn assert_conflict(
-    t: &[u32],
-    e: &[u32],
-    s: &[u32],
-    l: Lit,
-    x: TermId,
-    out: &mut [u32],
-) -> TCheck
-    requires { ⌜ AssertAsked (now t) (now e) (now s) (x .0) (now out) ⌝ }
-    ensures { λ r. ⌜ TesterConflict (now (t .entry)) (now (e .entry)) (marks-only (now (s .entry))) (l .0) (x .0) r (now (out .exit)) ⌝ }
-{
-    let arg = TermId(children(t, x)[0]);
-    let found = ctor_now(t, e, s, arg);
     tester_against(t, e, l, x, arg, found, out)
 }
 

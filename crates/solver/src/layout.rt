@@ -8,17 +8,20 @@ pub const COUNTS: usize = 3136;
 
 pub const RECORDS: usize = 0;
 
+// For each term: what it was marked as, or 0.
+pub const MARK: usize = 3168;
+
 // For each block of terms: whether a constructor application may be marked in it; 0 says that none is.
-pub const BLOCK: usize = 3168;
+pub const BLOCK: usize = 4192;
 
 pub const BLOCKS: usize = 32;
 
 pub const BLOCK_TERMS: usize = 32;
 
-// For each term: what it was marked as, or 0; whether it was collected, stands in the lasting record, was handed out, was split on,
-// stands in the level record.
-pub const MARK: usize = 3200;
+// The marks and the words of the blocks stand side by side, as at the front of a work table.
+pub const MARKS_SIZE: usize = 1056;
 
+// For each term: whether it was collected, stands in the lasting record, was handed out, was split on, stands in the level record.
 pub const COLLECTED: usize = 4224;
 
 pub const LASTING: usize = 5248;

@@ -1,5 +1,4 @@
 // The work table of a check (specs/Memory/Work.antt): marks, roots, and for each class its marked constructor applications.
-use crate::layout::BLOCK;
 use crate::layout::BLOCK_TERMS;
 use crate::layout::BLOCKS;
 use crate::layout::CTOR_APP;
@@ -20,19 +19,22 @@ ghost use Rattle.core.specs.Limits.{max-terms};
 ghost use Rattle.theory.specs.EqEngine.{find};
 ghost use Rattle.theory.specs.Memory.Table.{merges};
 ghost use Rattle.solver.specs.Memory.Table.{blocks, Announced, StateSound};
-ghost use Rattle.solver.specs.Memory.Work.{ClassAsked, CtorOfClass, NameAsked, NamesApp, marks-only, MarksAsked, LowestInBlock, LowestMarked, NowAsked, Markable, Lowered, Marked, Blank, Begins, Copyable, MarksCopied, Linkable, Linked, linked, work-size};
+ghost use Rattle.solver.specs.Memory.Work.{W-MARK, W-BLOCK, ClassAsked, CtorAsked, CtorOfClass, NameAsked, NamesApp, word-from, MarksAsked, LowestInBlock, LowestMarked, Markable, Lowered, Marked, Blank, Begins, Copyable, MarksCopied, Linkable, Linked, linked, work-size};
 
-// The regions: for each term its mark; one more than the root of its class, where it is known; for each root one more than the lowest
-// marked constructor application of its class; for each such application one more than the next of its class.
+// The regions: for each term its mark; for each block of terms its word, in a check 0; for each term one more than the root of its class,
+// where it is known; for each root one more than the lowest marked constructor application of its class; for each such application one
+// more than the next of its class. A shorter table has marks and blocks alone: outside a check the solver's table lends its own.
 pub const W_MARK: usize = 0;
 
-pub const ROOT: usize = 1024;
+const W_BLOCK: usize = 1024;
 
-pub const LOWEST: usize = 2048;
+pub const ROOT: usize = 1056;
 
-pub const NEXT: usize = 3072;
+pub const LOWEST: usize = 2080;
 
-pub const WORK_SIZE: usize = 4096;
+pub const NEXT: usize = 3104;
+
+pub const WORK_SIZE: usize = 4128;
 
 // The constructor application in a term's class, if any.
 pub enum CtorOf {
@@ -53,6 +55,8 @@ pub fn root_of(t: &[u32], e: &[u32], w: &[u32], x: usize) -> usize
     word - 1
 }
 
+// ---- the constructor of a class
+
 // The constructor application that a word stands for, if any.
 fn app_of(t: &[u32], word: usize) -> CtorOf
     requires { ⌜ NameAsked (now t) word ⌝ }
@@ -68,26 +72,15 @@ fn app_of(t: &[u32], word: usize) -> CtorOf
     }
 }
 
-// The lowest marked constructor application in a term's class, with its constructor, if any.
-pub fn ctor_of_class(t: &[u32], e: &[u32], w: &[u32], x: TermId) -> CtorOf
-    requires { ⌜ ClassAsked (now t) (now e) (now w) (x .0) ⌝ }
-    ensures { λ r. ⌜ CtorOfClass (now (t .entry)) (now (e .entry)) (now (w .entry)) (x .0) r ⌝ }
-{
-    let root = root_of(t, e, w, x.0 as usize);
-    app_of(t, get_at(w, LOWEST, root))
-}
-
-// ---- without a work table
-
 // One more than the lowest marked constructor application of a block in the class of a root; 0 if there is none.
-fn lowest_in_block(e: &[u32], s: &[u32], b: usize, root: TermId) -> usize
-    requires { ⌜ MarksAsked (now e) (now s) × (b < blocks) ⌝ }
-    ensures { λ r. ⌜ LowestInBlock (now (e .entry)) (now (s .entry)) b (root .0) r ⌝ }
+fn lowest_in_block(e: &[u32], w: &[u32], b: usize, root: TermId) -> usize
+    requires { ⌜ MarksAsked (now e) (now w) × (b < blocks) ⌝ }
+    ensures { λ r. ⌜ LowestInBlock (now (e .entry)) (now (w .entry)) b (root .0) r ⌝ }
 {
     let mut i = 0;
     while i < BLOCK_TERMS {
         let x = b * BLOCK_TERMS + i;
-        if get_at(s, MARK, x) == CTOR_APP {
+        if get_at(w, W_MARK, x) == CTOR_APP {
             let other = find(e, TermId(x as u32));
             if other.0 == root.0 {
                 return x + 1;
@@ -99,14 +92,14 @@ fn lowest_in_block(e: &[u32], s: &[u32], b: usize, root: TermId) -> usize
 }
 
 // The same of all terms; a block where none is marked is passed over.
-fn lowest_marked(e: &[u32], s: &[u32], root: TermId) -> usize
-    requires { ⌜ MarksAsked (now e) (now s) × Announced (now s) ⌝ }
-    ensures { λ r. ⌜ LowestMarked (now (e .entry)) (now (s .entry)) (root .0) r ⌝ }
+fn lowest_marked(e: &[u32], w: &[u32], root: TermId) -> usize
+    requires { ⌜ MarksAsked (now e) (now w) × Announced (now w) W-MARK W-BLOCK ⌝ }
+    ensures { λ r. ⌜ LowestMarked (now (e .entry)) (now (w .entry)) (root .0) r ⌝ }
 {
     let mut b = 0;
     while b < BLOCKS {
-        if get_at(s, BLOCK, b) != 0 {
-            let word = lowest_in_block(e, s, b, root);
+        if get_at(w, W_BLOCK, b) != 0 {
+            let word = lowest_in_block(e, w, b, root);
             if word != 0 {
                 return word;
             }
@@ -116,13 +109,25 @@ fn lowest_marked(e: &[u32], s: &[u32], root: TermId) -> usize
     0
 }
 
-// As `ctor_of_class`, by the marks of the solver's table: for one question a work table does not pay.
-pub fn ctor_now(t: &[u32], e: &[u32], s: &[u32], x: TermId) -> CtorOf
-    requires { ⌜ NowAsked (now t) (now e) (now s) (x .0) ⌝ }
-    ensures { λ r. ⌜ CtorOfClass (now (t .entry)) (now (e .entry)) (marks-only (now (s .entry))) (x .0) r ⌝ }
+// The same of a term's class. A short table has no roots: for one question, outside a check, a whole one does not pay.
+fn lowest_of_class(t: &[u32], e: &[u32], w: &[u32], x: TermId) -> usize
+    requires { ⌜ CtorAsked (now t) (now e) (now w) (x .0) ⌝ }
+    ensures { λ r. ⌜ r ≡ word-from (now (t .entry)) (now (e .entry)) (now (w .entry)) (x .0) 0 ⌝ }
 {
-    let root = find(e, x);
-    app_of(t, lowest_marked(e, s, root))
+    if w.len() < WORK_SIZE {
+        let root = find(e, x);
+        return lowest_marked(e, w, root);
+    }
+    let root = root_of(t, e, w, x.0 as usize);
+    get_at(w, LOWEST, root)
+}
+
+// The lowest marked constructor application in a term's class, with its constructor, if any: the one way by which it is found.
+pub fn ctor_of_class(t: &[u32], e: &[u32], w: &[u32], x: TermId) -> CtorOf
+    requires { ⌜ CtorAsked (now t) (now e) (now w) (x .0) ⌝ }
+    ensures { λ r. ⌜ CtorOfClass (now (t .entry)) (now (e .entry)) (now (w .entry)) (x .0) r ⌝ }
+{
+    app_of(t, lowest_of_class(t, e, w, x))
 }
 
 // ---- marking

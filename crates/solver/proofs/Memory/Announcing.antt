@@ -70,7 +70,7 @@ module _ (s : List ℕ) (x k : ℕ) (h : x < max-terms) where
         set true = refl
         set false = ap is-set as-before ∙ q
 
-    pub mark-announced : Announced s → Announced (with-mark s x k)
+    pub mark-announced : Announced s MARK BLOCK → Announced (with-mark s x k) MARK BLOCK
     unfolding is-set
     mark-announced z y g q = go (ℕ-discrete y x)
       where

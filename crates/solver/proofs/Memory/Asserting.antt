@@ -1,4 +1,4 @@
--- Asserting a literal: by its sign and the kind of its atom. A tester is compared by the marks of the solver's table.
+-- Asserting a literal: by its sign and the kind of its atom. A tester is compared by the marks that the solver's table lends.
 use Rattle.core.proofs.Kit.{ℕ, _<_, _≡_, refl, sym, ap, _∙_, subst, inl, inr, Bool, true, false, cond, not, true≢false, List, [], _∷_, none, some, arith, eqb, length}
 use borrow.Author.Tests.{not-true, not-false}
 use Rattle.core.specs.Limits.{max-terms}
@@ -13,12 +13,12 @@ use Rattle.solver.specs.State.{State}
 use Rattle.solver.specs.Records.{Outcome, record-tester, tester-conflict, assert-tester, assert}
 use Rattle.solver.specs.declared.answer.TCheck as TCheck
 use Rattle.solver.specs.Memory.Table.{REC-ATOM, registry, is-set, term-kind, state-with, state, StateSound}
-use Rattle.solver.specs.Memory.Work.{marks-only}
+use Rattle.solver.specs.Memory.Work.{marks-of}
 use Rattle.solver.specs.Memory.Levels.{Recordable, Recorded}
-use Rattle.solver.specs.Memory.Testing.{ConflictIs, TesterConflict, AssertAsked}
+use Rattle.solver.specs.Memory.Testing.{ConflictIs, TesterAsked, TesterConflict}
 use Rattle.solver.specs.Memory.Asserting.{TesterAssertable, AssertsTester, Assertable, Asserts}
 use Rattle.solver.proofs.Apps.{tester-app-is}
-use Rattle.solver.proofs.Memory.MarksOnly.{marks-view}
+use Rattle.solver.proofs.Memory.Blocks.{lent-sound, lent-view}
 use Rattle.solver.proofs.Memory.Roles.{kind-within, kind-no-tester}
 
 -- ---- a tester
@@ -38,25 +38,24 @@ recordable {s = s} {x = x} z = record {
   atom = tester-term (z .sound) x (z .tester);
 }
 
-pub assert-asked : {c e s o : List ℕ} {x : ℕ} → TesterAssertable c e s x o → AssertAsked c e s x o
+pub assert-asked : {c e s o : List ℕ} {x : ℕ} → TesterAssertable c e s x o → TesterAsked c e (marks-of s) x o
 assert-asked z = record {
   core = z .sound .core;
   formed = z .sound .formed;
   signed = z .sound .signed;
-  tables = record { engine = z .sound .engine; long = z .sound .solver .long };
-  marks = z .sound .marks;
-  announced = z .sound .announced;
+  engine = z .sound .engine;
+  table = inr (lent-sound (z .sound));
   tester = z .tester;
   long = z .long;
 }
 
 pub asserted : {c e s s′ o o′ : List ℕ} {l x : ℕ} {r : TCheck.TCheck} → TesterAssertable c e s x o →
-    TesterConflict c e (marks-only s) l x r o′ → Recorded s x l s′ → AssertsTester c e s l x r s′ o′
+    TesterConflict c e (marks-of s) l x r o′ → Recorded s x l s′ → AssertsTester c e s l x r s′ o′
 asserted {c} {e} {s} {s′} {o} {o′} {l} {x} {r} z t m = record {
   sound = m .state-sound c e (z .sound) (z .tester);
   app = t .app;
   is-tester = t .is-tester;
-  conflict = λ lv. subst (λ (S : State). ConflictIs r (tester-conflict S l (t .app)) o′) (marks-view c e s lv) (t .conflict s lv);
+  conflict = λ lv. subst (λ (S : State). ConflictIs r (tester-conflict S l (t .app)) o′) (lent-view c e s lv) (t .conflict s lv);
   state = m .state c e;
   marks = m .marks;
   readable = t .readable;

@@ -189,7 +189,7 @@ pub record Copying (s₀ w s : List ℕ) (x : ℕ) : Type 0 where
   pub kept : Kept solver-room (BLOCK ∷ MARK ∷ []) s₀ s
   pub copied : (y : ℕ) → y < x → at s MARK y ≡ at w W-MARK y
   pub behind : (y : ℕ) → y < max-terms → x ≤ y → at s MARK y ≡ at s₀ MARK y
-  pub announced : Announced s₀ → Announced s
+  pub announced : Announced s₀ MARK BLOCK → Announced s MARK BLOCK
 
 pub copying-first : {s w : List ℕ} → MarksFit s w → Copying s w s 0
 copying-first {s} f = record {

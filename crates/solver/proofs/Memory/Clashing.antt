@@ -28,9 +28,9 @@ use Rattle.solver.specs.Rules.{Ruled, pass, answered, go-on, then, try-e
 use Rattle.solver.specs.declared.answer.TCheck as TCheck
 use Rattle.solver.specs.declared.work.CtorOf as CtorOf
 use Rattle.solver.specs.Memory.Table.{REC-ATOM, REC-LIT, records#, is-set, term-kind, asserted-at, level-record, dt-with, state-with}
-use Rattle.solver.specs.Memory.Work.{state-at, apps-from, first-in-class, ctor-meaning, marks-only, ClassAsked, CtorOfClass, NowAsked, CheckSound}
+use Rattle.solver.specs.Memory.Work.{state-at, apps-from, first-in-class, ctor-meaning, CtorAsked, CtorOfClass, CheckSound}
 use Rattle.solver.specs.Memory.Answer.{Readable, Tried}
-use Rattle.solver.specs.Memory.Testing.{ConflictIs, DisagreeAsked, Disagrees, AgainstAsked, Against, TesterAsked, TesterConflict, AssertAsked}
+use Rattle.solver.specs.Memory.Testing.{ConflictIs, DisagreeAsked, Disagrees, AgainstAsked, Against, TesterAsked, TesterConflict}
 use Rattle.solver.proofs.Basics.{first-some}
 use Rattle.solver.proofs.Terms.{extends-self}
 use Rattle.solver.proofs.Apps.{op-is}
@@ -195,10 +195,10 @@ module _ {c e o : List ℕ} {x arg : ℕ} {k : CtorOf.CtorOf} (z : AgainstAsked 
         same : by-kind .2 ≡ arg
         same = ap (λ (xs : List ℕ). getD xs 0 0) (sym (by-kind .5) ∙ z .arg-is)
 
--- in a check, by the work table
-pub check-against : {c e w o args : List ℕ} {x : ℕ} {k : CtorOf.CtorOf} → TesterAsked c e w x o → args ≡ children (context c) x →
+-- by what is found in the argument's class
+pub found-against : {c e w o args : List ℕ} {x : ℕ} {k : CtorOf.CtorOf} → TesterAsked c e w x o → args ≡ children (context c) x →
     CtorOfClass c e w (getD args 0 0) k → AgainstAsked c e x (getD args 0 0) k o
-check-against {c} {x = x} z q f = record {
+found-against {c} {x = x} z q f = record {
   core = z .core;
   formed = z .formed;
   signed = z .signed;
@@ -213,38 +213,12 @@ check-against {c} {x = x} z q f = record {
 }
 
 pub class-asked : {c e w o args : List ℕ} {x : ℕ} → TesterAsked c e w x o → args ≡ children (context c) x →
-    ClassAsked c e w (getD args 0 0)
+    CtorAsked c e w (getD args 0 0)
 class-asked {c} {x = x} z q = record {
   core = z .core;
   signed = z .signed;
   engine = z .engine;
-  work = z .work;
-  is-node = arg-within c x (z .core) (z .formed) (z .signed) (z .tester) q;
-}
-
--- outside a check, by the marks of the solver's table
-pub assert-against : {c e s o args : List ℕ} {x : ℕ} {k : CtorOf.CtorOf} → AssertAsked c e s x o → args ≡ children (context c) x →
-    CtorOfClass c e (marks-only s) (getD args 0 0) k → AgainstAsked c e x (getD args 0 0) k o
-assert-against {c} {x = x} z q f = record {
-  core = z .core;
-  formed = z .formed;
-  signed = z .signed;
-  tester = z .tester;
-  arg-is = arg-is c x (z .core) (z .formed) (z .signed) (z .tester) q;
-  found = record {
-    engine = z .tables .engine;
-    first = arg-within c x (z .core) (z .formed) (z .signed) (z .tester) q;
-    equal = found-equal (z .core) f;
-    long = z .long;
-  };
-}
-
-pub now-asked : {c e s o args : List ℕ} {x : ℕ} → AssertAsked c e s x o → args ≡ children (context c) x → NowAsked c e s (getD args 0 0)
-now-asked {c} {x = x} z q = record {
-  core = z .core;
-  tables = z .tables;
-  marks = z .marks;
-  announced = z .announced;
+  table = z .table;
   is-node = arg-within c x (z .core) (z .formed) (z .signed) (z .tester) q;
 }
 
@@ -360,7 +334,7 @@ clash-asked {c} {s = s} {i = i} z h p =
       formed = st .formed;
       signed = st .signed;
       engine = st .engine;
-      work = z .check .work;
+      table = inl (z .check .work);
       tester = ap (term-kind (context c)) p ∙ st .records i (omega arith);
       long = z .long;
     }

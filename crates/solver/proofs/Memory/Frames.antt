@@ -64,7 +64,8 @@ module _ {ws s u : List ℕ} (k : Kept solver-room ws s u) where
             ap is-set (k .rest RECORDED x c h) ∙ z .recorded x h ∙ ap (any (eqb x)) (sym same);
       }
 
-  pub announced-kept : T (clear-of solver-room BLOCK ws) → T (clear-of solver-room MARK ws) → Announced s → Announced u
+  pub announced-kept : T (clear-of solver-room BLOCK ws) → T (clear-of solver-room MARK ws) → Announced s MARK BLOCK →
+      Announced u MARK BLOCK
   announced-kept b m z x h q =
       ap is-set (k .rest BLOCK (x / block-terms) b (omega arith)) ∙ z x h (sym (k .rest MARK x m h) ∙ q)
 

@@ -30,7 +30,7 @@ use Rattle.solver.specs.declared.answer.Guard as Guard
 use Rattle.solver.specs.declared.work.CtorOf as CtorOf
 use Rattle.solver.specs.Records.{is-some}
 use Rattle.solver.specs.Memory.Table.{LASTING, registry, is-set, flagged-from, dt-with, state-with, SolverSound}
-use Rattle.solver.specs.Memory.Work.{state-at, CheckSound, apps-from, first-in-class, ClassAsked, ctor-meaning, CtorOfClass}
+use Rattle.solver.specs.Memory.Work.{state-at, CheckSound, apps-from, first-in-class, CtorAsked, ctor-meaning, CtorOfClass}
 use Rattle.solver.specs.Memory.Answer.{Outcome, Tried, listed, guard-meaning}
 use Rattle.solver.specs.Memory.Making.{HandsOut, Making, Makeable, Equatable, MadeOutcome, MadeWithin, MakesTerm}
 use Rattle.solver.specs.Memory.Instantiation.{mint-over, instantiation, instantiate-term, instantiate-flagged, TermAsked, Coverable, Covers, Guardable, Guards, Instantiable}
@@ -530,12 +530,12 @@ module _ {c e s w : List ℕ} (C : CheckSound c e s w) (x : ℕ) where
                 let h = C .state .formed .lower x l (getD ch 0 0) i in
                 omega arith
 
-            pub class-asked : ClassAsked c e w (getD ch 0 0)
+            pub class-asked : CtorAsked c e w (getD ch 0 0)
             class-asked =
                 let h = arg-below in
                 let n = C .state .core .term-count in
                 let m = C .state .core .terms-fit in
-                record { core = C .state .core; signed = signed; engine = C .state .engine; work = C .work; is-node = omega arith }
+                record { core = C .state .core; signed = signed; engine = C .state .engine; table = inl (C .work); is-node = omega arith }
 
             pub instantiable : {u : List ℕ} → answer-size ≤ length u → Instantiable c e s w x (f .0) (getD ch 0 0) u
             instantiable h =

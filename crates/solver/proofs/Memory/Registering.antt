@@ -16,7 +16,7 @@ use Rattle.theory.specs.Memory.Registry.{registry-size, atoms, RegistrySound}
 use Rattle.theory.specs.Memory.Table.{Engine}
 use Rattle.theory.proofs.Members.{in-either}
 use Rattle.solver.specs.State.{empty-state, with-atoms}
-use Rattle.solver.specs.Memory.Table.{REGISTRY, COUNTS, RECORDS, MARK, COLLECTED, LASTING, EMITTED, SPLIT, RECORDED, REC-ATOM, solver-room, records#, registry, is-set, flagged, term-kind, asserted-at, level-record, dt-with, state-with, state, SolverSound, CollectedSound, Announced, StateSound}
+use Rattle.solver.specs.Memory.Table.{REGISTRY, COUNTS, RECORDS, MARK, BLOCK, COLLECTED, LASTING, EMITTED, SPLIT, RECORDED, REC-ATOM, solver-room, records#, registry, is-set, flagged, term-kind, asserted-at, level-record, dt-with, state-with, state, SolverSound, CollectedSound, Announced, StateSound}
 use Rattle.solver.specs.Memory.Recording.{flag-words, Wiped, SolverCleared, MayRegister, Registers}
 use Rattle.solver.proofs.Signature.{empty-signed}
 use Rattle.solver.proofs.Memory.Flags.{has, in-flagged, flagged-none}
@@ -260,7 +260,7 @@ not-set zero e = refl
 not-set (suc k) e = absurd (true≢false e)
 
 -- no mark, nothing to announce
-pub cleared-announced : (u : List ℕ) → SolverCleared u → Announced u
+pub cleared-announced : (u : List ℕ) → SolverCleared u → Announced u MARK BLOCK
 unfolding is-set
 cleared-announced u z x h q = absurd (true≢false (sym (ap is-set q) ∙ unflagged u MARK x (z .marks) h))
 

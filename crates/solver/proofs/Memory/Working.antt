@@ -20,7 +20,7 @@ use Rattle.theory.proofs.Sizes.{find-within}
 use Rattle.theory.proofs.Memory.Log.{merges-within}
 use Rattle.solver.specs.declared.work.CtorOf as CtorOf
 use Rattle.solver.specs.Memory.Table.{is-set, flagged-from, term-kind, MarksAre}
-use Rattle.solver.specs.Memory.Work.{W-MARK, ROOT, LOWEST, apps-from, first-in-class, app-word, lower-word, work-room, work-size, ctor-meaning, ClassAsked, CtorOfClass, NameAsked, NamesApp, Lowered, Markable, Marked}
+use Rattle.solver.specs.Memory.Work.{W-MARK, ROOT, LOWEST, apps-from, first-in-class, app-word, lower-word, work-room, work-size, ctor-meaning, ClassAsked, CtorOfClass, NamesApp, Lowered, Markable, Marked}
 use Rattle.solver.proofs.Basics.{by-test, none-some, some-is, first-some, gather-in}
 use Rattle.solver.proofs.Apps.{IsCtor, ctor-app-is, op-is, app-within}
 use Rattle.solver.proofs.Memory.Roles.{kind-ctor, kind-no-ctor, kind-within}
@@ -312,13 +312,6 @@ module _ (c : List ℕ) (word : ℕ) where
   pub names-ctor : {o : Op.Op} {f : SymbolId.SymbolId} {y : TermId.TermId} → (word ≡ 0 → ⊥) → OpAt c (word - 1) o →
       o ≡ Op.the-variants.Uninterpreted f → y .0 ≡ word - 1 → NamesApp c word (CtorOf.the-variants.At f y)
   names-ctor d r s n = record { names = λ e w x q. the-ctor c e w x word q d r s n }
-
-module _ {c e w : List ℕ} {x root word : ℕ} (z : ClassAsked c e w x) (p : root ≡ find (merges e) x) (q : word ≡ at w LOWEST root) where
-  pub class-named : NameAsked c word
-  class-named = record { core = z .core; within = lowest-within c e w x word (root-word z p q) }
-
-  pub class-answer : {r : CtorOf.CtorOf} → NamesApp c word r → CtorOfClass c e w x r
-  class-answer a = a .names e w x (root-word z p q)
 
 -- ---- the lowest of a class lowered
 

@@ -77,7 +77,7 @@ pub record Collecting (c s : List ℕ) : Type 0 where
   pub signed : Signed (context c)
   pub solver : SolverSound s
   pub marks : MarksAre (context c) s MARK
-  pub announced : Announced s
+  pub announced : Announced s MARK BLOCK
   pub collected : (x : ℕ) → x < max-terms → is-set (at s COLLECTED x) ≡ true → CollectedSound (context c) s x
 
 -- From s to u terms were collected, of which those that are new stand below x. No mark was taken back.

@@ -32,9 +32,13 @@ COUNTS = 3136
 abbrev pub RECORDS : ℕ
 RECORDS = 0
 
+-- for each term: what it was marked as, or 0
+abbrev pub MARK : ℕ
+MARK = 3168
+
 -- for each block of terms: whether a constructor application may be marked in it
 abbrev pub BLOCK : ℕ
-BLOCK = 3168
+BLOCK = 4192
 
 abbrev pub blocks : ℕ
 blocks = 32
@@ -42,11 +46,8 @@ blocks = 32
 abbrev pub block-terms : ℕ
 block-terms = 32
 
--- for each term: what it was marked as, or 0; whether it was collected, whether it stands in the lasting record, was handed out,
--- was split on, stands in the level record
-abbrev pub MARK : ℕ
-MARK = 3200
-
+-- for each term: whether it was collected, whether it stands in the lasting record, was handed out, was split on, stands in the level
+-- record
 abbrev pub COLLECTED : ℕ
 COLLECTED = 4224
 
@@ -74,8 +75,8 @@ abbrev pub layout : List (ℕ × ℕ)
 layout =
     (REGISTRY, registry-size)
     ∷ (COUNTS, 32)
-    ∷ (BLOCK, blocks)
     ∷ (MARK, max-terms)
+    ∷ (BLOCK, blocks)
     ∷ (COLLECTED, max-terms)
     ∷ (LASTING, max-terms)
     ∷ (EMITTED, max-terms)
@@ -134,9 +135,9 @@ watched-kind k = eqb k 1 || eqb k 3 || eqb k 5
 abbrev pub MarksAre : Context → List ℕ → ℕ → Type 0
 MarksAre cx t b = (x : ℕ) → x < max-terms → (at t b x ≡ 0) ⊎ (at t b x ≡ term-kind cx x)
 
--- a marked constructor application is announced in its block
-abbrev pub Announced : List ℕ → Type 0
-Announced s = (x : ℕ) → x < max-terms → at s MARK x ≡ 1 → is-set (at s BLOCK (x / block-terms)) ≡ true
+-- by two regions, of marks and of blocks: a marked constructor application is announced in its block
+abbrev pub Announced : List ℕ → ℕ → ℕ → Type 0
+Announced t m b = (x : ℕ) → x < max-terms → at t m x ≡ 1 → is-set (at t b (x / block-terms)) ≡ true
 
 -- ---- what a table means
 
@@ -196,7 +197,7 @@ pub record StateSound (c e s : List ℕ) : Type 0 where
   pub solver : SolverSound s
   pub registered : (r : Registered) → In r (atoms (registry s)) → r .atom < length (context c .terms)
   pub marks : MarksAre (context c) s MARK
-  pub announced : Announced s
+  pub announced : Announced s MARK BLOCK
   pub collected : (x : ℕ) → x < max-terms → is-set (at s COLLECTED x) ≡ true → CollectedSound (context c) s x
   -- the atoms of both records are tester applications
   pub lasting : (x : ℕ) → x < max-terms → is-set (at s LASTING x) ≡ true → term-kind (context c) x ≡ 4

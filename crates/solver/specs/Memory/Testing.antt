@@ -18,8 +18,8 @@ use Rattle.theory.specs.Memory.Answer.{answer-size, leaves}
 use Rattle.solver.specs.Records.{tester-conflict}
 use Rattle.solver.specs.declared.answer.TCheck as TCheck
 use Rattle.solver.specs.declared.work.CtorOf as CtorOf
-use Rattle.solver.specs.Memory.Table.{MARK, term-kind, MarksAre, Announced}
-use Rattle.solver.specs.Memory.Work.{state-at, WorkSound, MarksAsked, CtorOfClass}
+use Rattle.solver.specs.Memory.Table.{term-kind}
+use Rattle.solver.specs.Memory.Work.{state-at, ClassTable, CtorOfClass}
 use Rattle.solver.specs.Memory.Answer.{Readable}
 
 -- the leaves of a conflict of the definition, by the code's answer: `Sat` stands for none
@@ -65,7 +65,7 @@ pub record TesterAsked (c e w : List ℕ) (x : ℕ) (o : List ℕ) : Type 0 wher
   pub formed : Formed (context c)
   pub signed : Signed (context c)
   pub engine : EngineSound e
-  pub work : WorkSound c e w
+  pub table : ClassTable c e w
   pub tester : term-kind (context c) x ≡ 4
   pub long : answer-size ≤ length o
 
@@ -75,14 +75,3 @@ pub record TesterConflict (c e w : List ℕ) (l x : ℕ) (r : TCheck.TCheck) (o 
   pub is-tester : tester-app (context c) x ≡ some app
   pub conflict : (s : List ℕ) (lv : ℕ → ℕ) → ConflictIs r (tester-conflict (state-at c e s w lv) l app) o
   pub readable : Readable r o
-
--- a tester application outside a check
-pub record AssertAsked (c e s : List ℕ) (x : ℕ) (o : List ℕ) : Type 0 where
-  pub core : ContextSound c
-  pub formed : Formed (context c)
-  pub signed : Signed (context c)
-  pub tables : MarksAsked e s
-  pub marks : MarksAre (context c) s MARK
-  pub announced : Announced s
-  pub tester : term-kind (context c) x ≡ 4
-  pub long : answer-size ≤ length o

@@ -1,5 +1,6 @@
 -- The work table of a check, a local array: the marks, the root of each term, and for each class its marked constructor
--- applications, ascending. A check works on these marks, so that a check that does not fit has none to take back.
+-- applications, ascending. A check works on these marks, so that a check that does not fit has none to take back. Outside a check the
+-- marks and the words of the blocks alone, which the solver's table has side by side, are a short work table.
 use Prim.Native.Nat.{ℕ, zero, suc, _+_, _-_, _*_, _≤_, _<_}
 use mathlib.Core.Path.{_≡_}
 use mathlib.Core.Logic.{_⊎_}
@@ -7,7 +8,7 @@ use mathlib.Core.Bool.{true, cond}
 use mathlib.Core.List.{List, [], _∷_}
 use mathlib.Core.Option.{Option, none, some}
 use lib.Dec.{eqb, ltb}
-use lib.ListN.{length, getD}
+use lib.ListN.{length, getD, take, drop}
 use Rattle.core.specs.Limits.{max-terms, table-words}
 use Rattle.core.specs.Lists.{first, gather, insert}
 use Rattle.core.specs.Context.{Context, CtorApp, ctor-app, children}
@@ -18,7 +19,7 @@ use Rattle.theory.specs.EqEngine.{Merge, find, are-equal}
 use Rattle.theory.specs.Memory.Table.{merges, EngineSound}
 use Rattle.solver.specs.State.{State}
 use Rattle.solver.specs.declared.work.CtorOf as CtorOf
-use Rattle.solver.specs.Memory.Table.{MARK, block-terms, term-kind, is-set, flagged-from, MarksAre, Announced, state-with, StateSound}
+use Rattle.solver.specs.Memory.Table.{MARK, blocks, block-terms, term-kind, is-set, flagged-from, MarksAre, Announced, state-with, StateSound}
 
 -- ---- the layout
 
@@ -26,27 +27,36 @@ use Rattle.solver.specs.Memory.Table.{MARK, block-terms, term-kind, is-s
 abbrev pub W-MARK : ℕ
 W-MARK = 0
 
+-- for each block of terms whether a constructor application may be marked in it, as in the solver's table; 0 in a check, where the
+-- lowest application of a class stands at its root
+abbrev pub W-BLOCK : ℕ
+W-BLOCK = 1024
+
+-- a short work table ends here
+abbrev pub marks-size : ℕ
+marks-size = 1056
+
 -- for each term one more than the root of its class, or 0 where it was not asked yet
 abbrev pub ROOT : ℕ
-ROOT = 1024
+ROOT = 1056
 
 -- for each root one more than the lowest marked constructor application of its class, or 0
 abbrev pub LOWEST : ℕ
-LOWEST = 2048
+LOWEST = 2080
 
 -- for each marked constructor application one more than the next one of its class, or 0
 abbrev pub NEXT : ℕ
-NEXT = 3072
+NEXT = 3104
 
 abbrev pub work-layout : List (ℕ × ℕ)
 work-layout =
-    (W-MARK, max-terms) ∷ (ROOT, max-terms) ∷ (LOWEST, max-terms) ∷ (NEXT, max-terms) ∷ []
+    (W-MARK, max-terms) ∷ (W-BLOCK, blocks) ∷ (ROOT, max-terms) ∷ (LOWEST, max-terms) ∷ (NEXT, max-terms) ∷ []
 
 abbrev pub work-room : ℕ → ℕ
 work-room = room-in work-layout
 
 abbrev pub work-size : ℕ
-work-size = 4096
+work-size = 4128
 
 abbrev pub work-marks : List ℕ → List ℕ
 work-marks w = flagged-from w W-MARK 0
@@ -84,6 +94,13 @@ pub record WorkSound (c e w : List ℕ) : Type 0 where
   pub lowest : (x : ℕ) → x < max-terms →
       at w LOWEST (find (merges e) x) ≡ app-word (first-in-class (merges e) x (apps-from (context c) w 0))
 
+-- a short one: no roots and no chains, but the blocks say where constructor applications are marked
+pub record ShortSound (c w : List ℕ) : Type 0 where
+  pub long : marks-size ≤ length w
+  pub short : length w < work-size
+  pub marks : MarksAre (context c) w W-MARK
+  pub announced : Announced w W-MARK W-BLOCK
+
 -- the chain of each class: for an application the first of its class behind it
 pub record ChainSound (c e w : List ℕ) : Type 0 where
   pub next : (x : ℕ) → x < max-terms → at w W-MARK x ≡ 1 →
@@ -105,6 +122,18 @@ pub record ClassAsked (c e w : List ℕ) (x : ℕ) : Type 0 where
   pub work : WorkSound c e w
   pub is-node : x < max-terms
 
+-- a table that has a class's constructor: a work table, whole or short
+abbrev pub ClassTable : List ℕ → List ℕ → List ℕ → Type 0
+ClassTable c e w = WorkSound c e w ⊎ ShortSound c w
+
+-- the tables that the constructor of the class of x is asked of
+pub record CtorAsked (c e w : List ℕ) (x : ℕ) : Type 0 where
+  pub core : ContextSound c
+  pub signed : Signed (context c)
+  pub engine : EngineSound e
+  pub table : ClassTable c e w
+  pub is-node : x < max-terms
+
 -- the code's answer in the definition
 unfoldable pub ctor-meaning : Context → CtorOf.CtorOf → Option CtorApp
 ctor-meaning cx (CtorOf.the-variants.At f x) = some (record { app = x .0; ctor = f .0; fields = children cx (x .0) })
@@ -116,44 +145,42 @@ pub record CtorOfClass (c e w : List ℕ) (x : ℕ) (r : CtorOf.CtorOf) : Type 0
   pub within : (a : CtorApp) → ctor-meaning (context c) r ≡ some a → a .app < length (context c .terms)
   pub declared : (a : CtorApp) → ctor-meaning (context c) r ≡ some a → a .ctor < length (context c .symbols)
 
+-- the word for the first application from term i on that is in the class of x
+abbrev pub word-from : List ℕ → List ℕ → List ℕ → ℕ → ℕ → ℕ
+word-from c e w x i = app-word (first-in-class (merges e) x (apps-from (context c) w i))
+
 -- The word may stand for a term; if it stands for the first application of a class, its answer is that of `ctor_of_class`.
 pub record NameAsked (c : List ℕ) (word : ℕ) : Type 0 where
   pub core : ContextSound c
   pub within : (word ≡ 0 → ⊥) → word - 1 < length (context c .terms)
 
 pub record NamesApp (c : List ℕ) (word : ℕ) (r : CtorOf.CtorOf) : Type 0 where
-  pub names : (e w : List ℕ) (x : ℕ) → word ≡ app-word (first-in-class (merges e) x (apps-from (context c) w 0)) → CtorOfClass c e w x r
+  pub names : (e w : List ℕ) (x : ℕ) → word ≡ word-from c e w x 0 → CtorOfClass c e w x r
 
--- ---- the solver's marks without a work table
+-- ---- a short work table
 
--- a work table that has these marks and nothing else: no function makes it, but what the definition asks of marks is asked of it
-unfoldable pub marks-only : List ℕ → List ℕ
-marks-only s = counted (λ i. cond (ltb i max-terms) (at s MARK i) 0) work-size
-
--- the word for the first application from term i on that is in the class of x
-abbrev pub word-from : List ℕ → List ℕ → List ℕ → ℕ → ℕ → ℕ
-word-from c e s x i = app-word (first-in-class (merges e) x (apps-from (context c) (marks-only s) i))
+-- the one that the solver's table lends
+abbrev pub marks-of : List ℕ → List ℕ
+marks-of s = take marks-size (drop MARK s)
 
 -- tables that may be asked for the marked applications of a class
-pub record MarksAsked (e s : List ℕ) : Type 0 where
+pub record MarksAsked (e w : List ℕ) : Type 0 where
   pub engine : EngineSound e
-  pub long : table-words ≤ length s
+  pub long : marks-size ≤ length w
 
 -- the first application of block b in the class of a root, or 0: then those from this block on are those behind it
-pub record LowestInBlock (e s : List ℕ) (b root word : ℕ) : Type 0 where
-  pub is : (c : List ℕ) (x : ℕ) → MarksAre (context c) s MARK → root ≡ find (merges e) x →
-      word-from c e s x (b * block-terms) ≡ cond (eqb word 0) (word-from c e s x (b * block-terms + block-terms)) word
+pub record LowestInBlock (e w : List ℕ) (b root word : ℕ) : Type 0 where
+  pub is : (c : List ℕ) (x : ℕ) → MarksAre (context c) w W-MARK → root ≡ find (merges e) x →
+      word-from c e w x (b * block-terms) ≡ cond (eqb word 0) (word-from c e w x (b * block-terms + block-terms)) word
 
-pub record LowestMarked (e s : List ℕ) (root word : ℕ) : Type 0 where
-  pub is : (c : List ℕ) (x : ℕ) → MarksAre (context c) s MARK → root ≡ find (merges e) x → word ≡ word-from c e s x 0
+pub record LowestMarked (e w : List ℕ) (root word : ℕ) : Type 0 where
+  pub is : (c : List ℕ) (x : ℕ) → MarksAre (context c) w W-MARK → root ≡ find (merges e) x → word ≡ word-from c e w x 0
 
--- a term whose class is asked outside a check
-pub record NowAsked (c e s : List ℕ) (x : ℕ) : Type 0 where
-  pub core : ContextSound c
-  pub tables : MarksAsked e s
-  pub marks : MarksAre (context c) s MARK
-  pub announced : Announced s
-  pub is-node : x < max-terms
+-- ---- a check without a work table
+
+-- a work table that has the solver's marks and nothing else: no function makes it, but what the definition asks of marks is asked of it
+unfoldable pub marks-only : List ℕ → List ℕ
+marks-only s = counted (λ i. cond (ltb i max-terms) (at s MARK i) 0) work-size
 
 -- ---- a check begins
 

@@ -1,6 +1,6 @@
--- The class of its argument by the work table.
+-- The class of its argument, by a work table that is whole or short.
 use Rattle.core.proofs.Kit.{needs}
-use Rattle.solver.proofs.Memory.Clashing.{tester-within, one-arg, class-asked, check-against, against-class}
+use Rattle.solver.proofs.Memory.Clashing.{tester-within, one-arg, class-asked, found-against, against-class}
 use Rattle.solver.proofs.clashes.tester_conflict.Statement.{statement}
 use Rattle.solver.proofs.clashes.tester_conflict.Tie as tie
 
@@ -24,7 +24,7 @@ tester-against-requires c κs =
     let at-class = c .before in
     let at-children = at-class .before .before in
     let z = at-children .before .before .before .before .before .pre in
-    check-against z (at-children .children .ensures) (at-class .ctor-of-class .ensures)
+    found-against z (at-children .children .ensures) (at-class .ctor-of-class .ensures)
 
 returns : tie.Need-returns
 returns c =

@@ -1,5 +1,6 @@
 -- By the mark, then by the application of the class.
 use Rattle.core.proofs.Kit.{needs, sym, _∙_, ⊎-elim, inl, inr}
+use Rattle.solver.proofs.Memory.Blocks.{in-check}
 use Rattle.solver.proofs.Memory.Splitting.{passed-over, asked-some, asked-none}
 use Rattle.solver.proofs.exhaustiveness.is_undetermined.Statement.{statement}
 use Rattle.solver.proofs.exhaustiveness.is_undetermined.Tie as tie
@@ -30,5 +31,5 @@ returns-3 c =
 
 pub is-undetermined-spec : {M : Type 1} → statement M
 is-undetermined-spec =
-    tie.close (tie.spec (λ c κs. search needs) returns (λ c. search needs) (λ c κs. search needs) (λ c. search needs)
+    tie.close (tie.spec (λ c κs. search needs) returns (λ c. search needs) (λ c κs. in-check (search needs)) (λ c. search needs)
     (λ c. search needs) returns-2 returns-3)

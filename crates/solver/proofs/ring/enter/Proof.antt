@@ -1,5 +1,6 @@
 -- By the application of the field's class and its colour.
 use Rattle.core.proofs.Kit.{refl, needs, arith}
+use Rattle.solver.proofs.Memory.Blocks.{in-check}
 use Rattle.solver.proofs.Memory.RingSteps.{enters-nothing, app-below, enters-path, enters-finished, enters-room, enters-new, enters-lighter}
 use Rattle.solver.proofs.ring.enter.Statement.{statement}
 use Rattle.solver.proofs.ring.enter.Tie as tie
@@ -77,5 +78,5 @@ returns-4 c =
 pub enter-spec : {M : Type 1} → statement M
 enter-spec =
     tie.close
-    (tie.spec (λ c κs. search needs) (λ c. search needs) (λ c. search needs) (λ c. search needs) get-at-requires (λ c. search needs)
-    returns (λ c. search needs) returns-2 push-requires returns-3 (λ c. search needs) returns-4)
+    (tie.spec (λ c κs. in-check (search needs)) (λ c. search needs) (λ c. search needs) (λ c. search needs) get-at-requires
+    (λ c. search needs) returns (λ c. search needs) returns-2 push-requires returns-3 (λ c. search needs) returns-4)

@@ -1,15 +1,15 @@
 -- The first i terms of the block were passed.
 use Rattle.core.proofs.Kit.{_-_, needs, ⊎-elim}
 use Rattle.solver.specs.Memory.Table.{block-terms}
-use Rattle.solver.proofs.Memory.MarksOnly.{Blockwise, block-first, block-other, block-apart, block-found, block-done}
+use Rattle.solver.proofs.Memory.Blocks.{Blockwise, block-first, block-other, block-apart, block-found, block-done}
 use Rattle.solver.proofs.work.lowest_in_block.Statement.{statement}
 use Rattle.solver.proofs.work.lowest_in_block.Tie as tie
 
 abbrev Inv-loop : tie.InvT-loop
-Inv-loop e s b root i₀ i = Blockwise e s b (root .0) i
+Inv-loop e w b root i₀ i = Blockwise e w b (root .0) i
 
 abbrev μ-loop : tie.MeasureT-loop
-μ-loop e s b root i₀ i = block-terms - i
+μ-loop e w b root i₀ i = block-terms - i
 
 returns : tie.Need-returns Inv-loop μ-loop
 returns c =
