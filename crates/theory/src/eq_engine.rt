@@ -177,7 +177,7 @@ pub fn push(t: &mut [u32])
 // ---- the proof forest
 
 // Turns the way from a node up to the root of its tree and answers that root: the node becomes the root.
-fn turn_forest(t: &mut [u32], node: usize) -> usize
+fn reroot_forest(t: &mut [u32], node: usize) -> usize
     requires { ⌜ Turnable (now t) node ⌝ }
     ensures { λ r. ⌜ Turns (now (t .entry)) (now (t .exit)) node r ⌝ }
 {
@@ -216,7 +216,7 @@ fn splice(t: &mut [u32], a: usize, b: usize, i: usize)
     requires { ⌜ TwoNodes (now t) a b × (i < max-terms) ⌝ }
     ensures { λ _. ⌜ Spliced (now (t .entry)) (now (t .exit)) a b i ⌝ }
 {
-    let r = turn_forest(t, a);
+    let r = reroot_forest(t, a);
     put_at(t, FPARENT, a, b);
     put_at(t, FEDGE, a, i);
     put_at(t, FROOT, i, r);
@@ -499,7 +499,7 @@ fn undo(t: &mut [u32])
     let child = get_at(t, CHILD, i);
     let r = get_at(t, FROOT, i);
     put_at(t, FPARENT, a, a);
-    turn_forest(t, r);
+    reroot_forest(t, r);
     separate(t, child);
     put_at(t, COUNTS, MERGES, i);
 }

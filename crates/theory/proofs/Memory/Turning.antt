@@ -1,4 +1,4 @@
--- A way turned: what the loop of `turn_forest` keeps, and what it gives.
+-- A way turned: what the loop of `reroot_forest` keeps, and what it gives.
 use Rattle.core.proofs.Kit.{ℕ, _≤_, _<_, _≡_, refl, sym, subst, ap, _∙_, _⊎_, inl, inr, false, List, [], _∷_, _++_, append-assoc, append-cancel-right, arith, ℕ-discrete, ne-eqb, eqb, length}
 use Rattle.core.specs.Lists.{In, Apart}
 use Rattle.core.specs.Memory.Words.{put, Kept}

@@ -11,7 +11,7 @@ returns c =
     let first = second .before .before .before .before in
     let turn = first .before .before .before .before in
     let start = turn .before .before .before in
-    spliced (start .pre .0) (start .pre .1) (turn .turn-forest .ensures) (first .put-at .ensures) (second .put-at2 .ensures)
+    spliced (start .pre .0) (start .pre .1) (turn .reroot-forest .ensures) (first .put-at .ensures) (second .put-at2 .ensures)
     (third .put-at3 .ensures)
 
 pub splice-spec : {M : Type 1} → statement M

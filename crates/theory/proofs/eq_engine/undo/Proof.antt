@@ -15,8 +15,8 @@ put-at-requires c κs =
     (old-root .get-at4 .ensures .0) in
     search needs
 
-turn-forest-requires : tie.Need-turn-forest-requires
-turn-forest-requires c κs =
+reroot-forest-requires : tie.Need-reroot-forest-requires
+reroot-forest-requires c κs =
     let cut = c .before .before .before in
     let old-root = cut .before .before in
     let child = old-root .before .before in
@@ -36,7 +36,7 @@ separate-requires c κs =
     let count = side .before .before in
     let pre = count .before .before .before .pre in
     separate-asks (pre .0) (pre .1) (count .get-at .ensures .0) (side .get-at2 .ensures .0) (child .get-at3 .ensures .0)
-    (old-root .get-at4 .ensures .0) (cut .put-at .ensures) (turn .turn-forest .ensures)
+    (old-root .get-at4 .ensures .0) (cut .put-at .ensures) (turn .reroot-forest .ensures)
 
 returns : tie.Need-returns
 returns c =
@@ -50,11 +50,11 @@ returns c =
     let count = side .before .before in
     let pre = count .before .before .before .pre in
     undone-at (pre .0) (pre .1) (count .get-at .ensures .0) (side .get-at2 .ensures .0) (child .get-at3 .ensures .0)
-    (old-root .get-at4 .ensures .0) (cut .put-at .ensures) (turn .turn-forest .ensures) (class .separate .ensures)
+    (old-root .get-at4 .ensures .0) (cut .put-at .ensures) (turn .reroot-forest .ensures) (class .separate .ensures)
     (last .put-at2 .ensures)
 
 pub undo-spec : {M : Type 1} → statement M
 undo-spec =
     tie.close
     (tie.spec (λ c κs. search needs) (λ c. search needs) (λ c κs. search needs) (λ c κs. search needs) (λ c κs. search needs)
-    put-at-requires turn-forest-requires separate-requires (λ c κs. search needs) (λ c. search needs) returns)
+    put-at-requires reroot-forest-requires separate-requires (λ c κs. search needs) (λ c. search needs) returns)

@@ -3,8 +3,8 @@ use Rattle.core.proofs.Kit.{needs, length}
 use Rattle.theory.specs.EqEngine.{way}
 use Rattle.theory.specs.Memory.Table.{merges}
 use Rattle.theory.proofs.Memory.Turning.{Turning, turn-long, turn-first, turn-less, turn-next, turn-done}
-use Rattle.theory.proofs.eq_engine.turn_forest.Statement.{statement}
-use Rattle.theory.proofs.eq_engine.turn_forest.Tie as tie
+use Rattle.theory.proofs.eq_engine.reroot_forest.Statement.{statement}
+use Rattle.theory.proofs.eq_engine.reroot_forest.Tie as tie
 
 abbrev Inv-loop : tie.InvT-loop
 Inv-loop t₀ node prev₀ edge₀ cur₀ t prev edge cur = Turning t₀ t node prev edge cur
@@ -21,8 +21,8 @@ loop-again c =
     turn-next (test .before .loop .inv) (test .loop-test .taken) (first-put .put-at .ensures) (c .before .before .put-at2 .ensures)
     (first-get .get-at3 .ensures .0) (second-get .get-at4 .ensures .0) (second-get .get-at4 .ensures .1)
 
-pub turn-forest-spec : {M : Type 1} → statement M
-turn-forest-spec =
+pub reroot-forest-spec : {M : Type 1} → statement M
+reroot-forest-spec =
     tie.close
     (tie.spec Inv-loop μ-loop (λ c κs. search (needs, turn-long)) (λ c κs. search (needs, turn-long)) (λ c. search turn-first)
     (λ c κs. search needs) (λ c κs. search needs) (λ c κs. search needs) (λ c κs. search needs) (λ c. search turn-less) loop-again
