@@ -61,6 +61,7 @@ fn measure(script: &Script, least: f64) -> Measured {
 }
 
 struct FamilyMeasured {
+    kind: Option<&'static str>,
     name: &'static str,
     what: &'static str,
     scripts: Vec<Measured>,
@@ -69,7 +70,7 @@ struct FamilyMeasured {
 impl FamilyMeasured {
     fn of(family: &Family, least: f64) -> FamilyMeasured {
         let scripts = family.scripts.iter().map(|script| measure(script, least)).collect();
-        FamilyMeasured { name: family.name, what: family.what, scripts }
+        FamilyMeasured { kind: family.kind, name: family.name, what: family.what, scripts }
     }
 
     fn lines(&self) -> usize {
@@ -118,9 +119,50 @@ pub fn times(ratio: f64) -> String {
     }
 }
 
-fn geometric_mean(ratios: impl ExactSizeIterator<Item = f64>) -> f64 {
-    let count = ratios.len() as f64;
-    (ratios.map(f64::ln).sum::<f64>() / count).exp()
+fn geometric_mean(ratios: impl Iterator<Item = f64>) -> f64 {
+    let logs: Vec<f64> = ratios.map(f64::ln).collect();
+    (logs.iter().sum::<f64>() / logs.len() as f64).exp()
+}
+
+/// A kind of sheet for which the goals are set: the families that belong to it, and the times of all their scripts.
+struct KindMeasured {
+    name: &'static str,
+    families: Vec<&'static str>,
+    rust: f64,
+    library: f64,
+}
+
+impl KindMeasured {
+    fn ratio(&self) -> f64 {
+        self.rust / self.library
+    }
+
+    fn row(&self) -> String {
+        format!("| {} | {} | {} |", self.name, self.families.join(", "), times(self.ratio()))
+    }
+}
+
+/// The kinds in the order of their first families; growth is one more, with the time of one check of each shape and size.
+fn kinds(families: &[FamilyMeasured], grown: &[growth::Growth]) -> Vec<KindMeasured> {
+    let mut kinds: Vec<KindMeasured> = Vec::new();
+    for family in families {
+        let Some(name) = family.kind else { continue };
+        if !kinds.iter().any(|kind| kind.name == name) {
+            kinds.push(KindMeasured { name, families: Vec::new(), rust: 0.0, library: 0.0 });
+        }
+        let kind = kinds.iter_mut().find(|kind| kind.name == name).expect("it was pushed");
+        kind.families.push(family.name);
+        kind.rust += family.rust();
+        kind.library += family.library();
+    }
+    let points = || grown.iter().flat_map(|growth| &growth.points);
+    kinds.push(KindMeasured {
+        name: "growth",
+        families: grown.iter().map(|growth| growth.name).collect(),
+        rust: points().map(|point| point.rust).sum(),
+        library: points().map(|point| point.library).sum(),
+    });
+    kinds
 }
 
 /// Measures all families and the growth, each script for at least so many milliseconds a round and side; prints the
@@ -171,7 +213,20 @@ fn report(families: &[FamilyMeasured], grown: &[growth::Growth], zeroing: f64) -
         let _ = writeln!(text, "{}", family.row());
     }
     let mean = geometric_mean(families.iter().map(FamilyMeasured::ratio));
-    let _ = writeln!(text, "\nGeometric mean of the ratios: {}\n", times(mean));
+    let _ = writeln!(text, "\nGeometric mean over all families: {}\n", times(mean));
+    let kinds = kinds(families, grown);
+    text += "| kind of sheet | families | ratio |\n|---|---|---:|\n";
+    for kind in &kinds {
+        let _ = writeln!(text, "{}", kind.row());
+    }
+    let mean = geometric_mean(kinds.iter().map(KindMeasured::ratio));
+    let without_growth = geometric_mean(kinds.iter().filter(|kind| kind.name != "growth").map(KindMeasured::ratio));
+    let _ = writeln!(
+        text,
+        "\nGeometric mean over the kinds of sheet: {}; without growth: {}\n",
+        times(mean),
+        times(without_growth)
+    );
     let _ = writeln!(text, "Writing 0 to the words of three tables, which every run does: {:.1} µs\n", zeroing * 1e6);
     text += &growth::table(grown);
     text += "\n";

@@ -12,6 +12,8 @@ pub struct Script {
 }
 
 pub struct Family {
+    /// The kind of sheet for which the goals are set that the family belongs to, if any.
+    pub kind: Option<&'static str>,
     pub name: &'static str,
     /// What the scripts have in common, in a few words.
     pub what: &'static str,
@@ -21,29 +23,33 @@ pub struct Family {
 pub fn all() -> Vec<Family> {
     vec![
         family("examples", "the examples of 01", examples()),
-        family("short search", "generated searches of at most 60 lines", searches(1, 60)),
-        family("search", "generated searches of 200 lines and more", searches(200, usize::MAX)),
-        family("long search", "searches that go on until a limit is near", seeds(Kind::Long)),
-        family("stuck search", "the same, in a conflict that no pop takes back", seeds(Kind::Stuck)),
-        family("terms", "1,000 terms, 64 KiB of lookups", terms()),
+        of_kind("searches", "short search", "generated searches of at most 60 lines", searches(1, 60)),
+        of_kind("searches", "search", "generated searches of 200 lines and more", searches(200, usize::MAX)),
+        of_kind("searches", "long search", "searches that go on until a limit is near", seeds(Kind::Long)),
+        of_kind("searches", "stuck search", "the same, in a conflict that no pop takes back", seeds(Kind::Stuck)),
+        of_kind("terms", "terms", "1,000 terms, 64 KiB of lookups", terms()),
         family("collection", "atoms over deep and shared terms", collection()),
-        family("chains", "conflicts of hundreds of leaves along chains of joins", chains()),
-        family("congruences", "nested congruences", congruences()),
-        family("rings", "rings found, and walks that find none", rings()),
-        family("classes", "hundreds of constructor applications in few classes", classes()),
-        family("watched", "watched terms without a constructor", watched()),
+        of_kind("explanations", "chains", "conflicts of hundreds of leaves along chains of joins", chains()),
+        of_kind("explanations", "congruences", "nested congruences", congruences()),
+        of_kind("rings", "rings", "rings found, and walks that find none", rings()),
+        of_kind("big classes", "classes", "hundreds of constructor applications in few classes", classes()),
+        of_kind("watched terms", "watched", "watched terms without a constructor", watched()),
         family("testers", "testers asserted, instantiation, lemmas followed", testers()),
         family("asserts", "testers asserted with few constructor applications", asserts()),
-        family("levels", "push and pop", levels()),
+        of_kind("push and pop", "levels", "push and pop", levels()),
         family("small checks", "checks of a few terms", small_checks()),
         family("declarations", "sorts and symbols up to their limits", declarations()),
-        family("refusals", "lines refused by each question", refusals()),
-        family("damaged", "damaged bytes", damaged()),
+        of_kind("refused and damaged", "refusals", "lines refused by each question", refusals()),
+        of_kind("refused and damaged", "damaged", "damaged bytes", damaged()),
     ]
 }
 
 fn family(name: &'static str, what: &'static str, scripts: Vec<Script>) -> Family {
-    Family { name, what, scripts }
+    Family { kind: None, name, what, scripts }
+}
+
+fn of_kind(kind: &'static str, name: &'static str, what: &'static str, scripts: Vec<Script>) -> Family {
+    Family { kind: Some(kind), ..family(name, what, scripts) }
 }
 
 fn script(name: impl Into<String>, bytes: Vec<u8>) -> Script {
