@@ -27,30 +27,7 @@ pub fn write_text(buf: &mut [u8], at: usize, text: &[u8]) -> usize
     at + i
 }
 
-// Without leading zeros: the digits before the last, if there are any, then the last.
-fn write_digits(buf: &mut [u8], at: usize, n: u32) -> usize
-    requires { ⌜ Room (now buf) at (decimal n) ⌝ }
-    ensures { λ r. ⌜ Written (now (buf .entry)) at (decimal n) (now (buf .exit)) r ⌝ }
-{
-    if n < 10 {
-        return write_byte(buf, at, 48 + n as u8);
-    }
-    let last = write_digits(buf, at, n / 10);
-    write_byte(buf, last, 48 + (n % 10) as u8)
-}
-
-// The same; most numbers have one digit, which takes no call of a function that calls itself.
-pub fn write_decimal(buf: &mut [u8], at: usize, n: u32) -> usize
-    requires { ⌜ Room (now buf) at (decimal n) ⌝ }
-    ensures { λ r. ⌜ Written (now (buf .entry)) at (decimal n) (now (buf .exit)) r ⌝ }
-{
-    if n < 10 {
-        return write_byte(buf, at, 48 + n as u8);
-    }
-    write_digits(buf, at, n)
-}
-
-// How many digits write_decimal writes. Most numbers have one, which takes one test.
+// How many digits a number has. Most have one, which takes one test.
 pub fn decimal_length(n: u32) -> usize
     ensures { λ r. ⌜ (r ≡ length (decimal n)) × (r ≤ 10) ⌝ }
 {
@@ -61,4 +38,21 @@ pub fn decimal_length(n: u32) -> usize
         digits += 1;
     }
     digits
+}
+
+// Without leading zeros, from the last digit to the first.
+pub fn write_decimal(buf: &mut [u8], at: usize, n: u32) -> usize
+    requires { ⌜ Room (now buf) at (decimal n) ⌝ }
+    ensures { λ r. ⌜ Written (now (buf .entry)) at (decimal n) (now (buf .exit)) r ⌝ }
+{
+    let end = at + decimal_length(n);
+    let mut i = end - 1;
+    let mut rest = n;
+    while rest >= 10 {
+        buf[i] = 48 + (rest % 10) as u8;
+        rest /= 10;
+        i -= 1;
+    }
+    buf[i] = 48 + rest as u8;
+    end
 }
