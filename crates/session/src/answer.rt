@@ -234,7 +234,7 @@ pub fn write_answer(a: Answer, o: &[u32], buf: &mut [u8], at: usize) -> usize
 
 // ---- how long it is
 
-// Each gives how long the text is that its like above writes, and promises a bound, so that no sum overflows.
+// Each gives how long the text is that its like above writes; the parts promise a bound too, so that no sum overflows.
 
 fn parting_length(i: usize) -> usize
     ensures { λ r. ⌜ (r ≡ length (parting i)) × (r ≤ 1) ⌝ }

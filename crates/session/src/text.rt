@@ -27,7 +27,7 @@ pub fn write_text(buf: &mut [u8], at: usize, text: &[u8]) -> usize
     at + i
 }
 
-// How many digits a number has. Most have one, which takes one test.
+// How many digits a number has.
 pub fn decimal_length(n: u32) -> usize
     ensures { λ r. ⌜ (r ≡ length (decimal n)) × (r ≤ 10) ⌝ }
 {

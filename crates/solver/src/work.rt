@@ -122,7 +122,7 @@ fn lowest_of_class(t: &[u32], e: &[u32], w: &[u32], x: TermId) -> usize
     get_at(w, LOWEST, root)
 }
 
-// The lowest marked constructor application in a term's class, with its constructor, if any: the one way by which it is found.
+// The constructor of a term's class, if any, with its lowest marked application: the one way by which it is found.
 pub fn ctor_of_class(t: &[u32], e: &[u32], w: &[u32], x: TermId) -> CtorOf
     requires { ⌜ CtorAsked (now t) (now e) (now w) (x .0) ⌝ }
     ensures { λ r. ⌜ CtorOfClass (now (t .entry)) (now (e .entry)) (now (w .entry)) (x .0) r ⌝ }

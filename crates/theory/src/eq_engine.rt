@@ -10,7 +10,7 @@ use core::limits::MAX_PAIRS;
 use core::limits::MAX_TERMS;
 use core::table::get_at;
 use core::table::put_at;
-ghost use Prim.Native.Nat.{suc, _+_, _<_, _≤_};
+ghost use Prim.Native.Nat.{suc, _<_, _≤_};
 ghost use mathlib.Core.Path.{_≡_};
 ghost use mathlib.Core.Bool.{true, _&&_};
 ghost use mathlib.Core.List.{[], _∷_};
@@ -18,7 +18,7 @@ ghost use lib.Dec.{eqb};
 ghost use lib.ListN.{length};
 ghost use Rattle.core.specs.Lists.{zip};
 ghost use Rattle.theory.specs.Types.{Congruence};
-ghost use Rattle.theory.specs.EqEngine.{child, root, find, are-equal, merge, pairs-in-force, common, way, same-pair};
+ghost use Rattle.theory.specs.EqEngine.{child, root, find, are-equal, pairs-in-force, common, way, same-pair};
 ghost use Rattle.core.specs.Limits.{max-terms, max-pairs, max-levels};
 ghost use Rattle.core.specs.Memory.Words.{put};
 ghost use Rattle.theory.specs.Memory.Replay.{IsNode};
@@ -576,7 +576,7 @@ fn forest_nca(t: &[u32], a: usize, b: usize) -> usize
 }
 
 // Marks the argument pairs in force that are the pair of a and b: all of them have one first pair. The index may have pairs behind those in
-// force, and a first pair among them has no mark.
+// force, and a first pair among them may have no mark.
 fn mark_pairs(t: &[u32], a: usize, b: usize, marks: &mut [u32])
     requires { ⌜ EngineSound (now t) × IsNode a × IsNode b × (pairs-in-force (merges (now t)) ≤ length (now marks)) ⌝ }
     ensures { λ _. ⌜ MarksPair (now (t .entry)) a b (now (marks .entry)) (now (marks .exit)) ⌝ }
@@ -695,7 +695,7 @@ fn explain_many(t: &[u32], a: usize, b: usize, out: &mut [u32])
     explain_rec(t, a, b, &mut marks, out);
 }
 
-// Appends the leaves that the equality of two terms rests on, each once. All marks are set to 0 first, so there are no more than it needs.
+// Appends the leaves that the equality of two terms rests on, each once. All marks are set to 0 first, so there are few where few serve.
 pub fn explain(t: &[u32], a: TermId, b: TermId, out: &mut [u32])
     requires { ⌜ Explainable (now t) (a .0) (b .0) (now out) ⌝ }
     ensures { λ _. ⌜ Explains (now (t .entry)) (a .0) (b .0) (now (out .entry)) (now (out .exit)) ⌝ }

@@ -235,8 +235,7 @@ fn report(families: &[FamilyMeasured], grown: &[growth::Growth], zeroing: f64) -
     text
 }
 
-/// Scripts of other families are listed apart: the examples are so short that the start and the end of a run, which only the
-/// library has, decide.
+/// No goal is set for the scripts of other families: those that are slower are listed apart.
 fn verdicts(families: &[FamilyMeasured], grown: &[growth::Growth], mean: f64) -> String {
     let slow_families = families
         .iter()

@@ -43,6 +43,9 @@ module _ (cx cx′ : Context) (w w′ : List ℕ) (E : Extends cx cx′) (M : Ma
   unfolding symbol-of
   app-same x l = rw (extends-term cx cx′ x E l, old-children cx cx′ E x l)
 
+  symbol-same : (x : ℕ) → MarkedApp w x → symbol-of cx′ x ≡ symbol-of cx x
+  symbol-same x m = ap (λ (a : CtorApp). a .ctor) (app-same x (marked-app-within cx w M x m))
+
   module _ (more : (y : ℕ) → MarkedApp w y → MarkedApp w′ y) (less : (y : ℕ) → MarkedApp w′ y → MarkedApp w y) where
     mark-same : (y : ℕ) → y < max-terms → eqb (at w′ W-MARK y) 1 ≡ eqb (at w W-MARK y) 1
     mark-same y l = go (ℕ-discrete (at w W-MARK y) 1)
@@ -750,10 +753,7 @@ module _ {p : ℕ} {c e w c₁ w₁ : List ℕ} {known : Bool} {k : ℕ} (I : Al
         marked = I .ready .making .work .marks
 
         symbol-kept : (x : ℕ) → MarkedApp w₁ x → symbol-of (context c₂) x ≡ symbol-of (context c₁) x
-        symbol-kept x m =
-            ap (λ (a : CtorApp). a .ctor)
-            (app-same (context c₁) (context c₂) w₁ w₂ (X′ .moves .extends) marked (X′ .moves .making .work .marks) x
-            (marked-app-within (context c₁) w₁ marked x m))
+        symbol-kept = symbol-same (context c₁) (context c₂) w₁ w₂ (X′ .moves .extends) marked (X′ .moves .making .work .marks)
 
         here : symbol-of (context c₂) p ≡ symbol-of (context c₁) p
         here = symbol-kept p (I .lower)
@@ -867,9 +867,7 @@ module _ {c₁ e w₁ c₂ w₂ : List ℕ} {p : ℕ} (M : MarksAre (context c�
   selected-next x y l u m n h k = (λ f i. steps-give X f x (both f i .0), λ f i. steps-give X f y (both f i .1))
     where
       symbol-kept : (z : ℕ) → MarkedApp w₁ z → symbol-of (context c₂) z ≡ symbol-of (context c₁) z
-      symbol-kept z o =
-          ap (λ (a : CtorApp). a .ctor)
-          (app-same (context c₁) (context c₂) w₁ w₂ (X .moves .extends) M M₂ z (marked-app-within (context c₁) w₁ M z o))
+      symbol-kept = symbol-same (context c₁) (context c₂) w₁ w₂ (X .moves .extends) M M₂
 
       moved : (j k : ℕ) → j ≡ k → (f : ℕ) → In f (dt-selectors (context c₂) j) → In f (dt-selectors (context c₁) k)
       moved j k d f i =

@@ -98,12 +98,13 @@ pub record OneClass (c e w : List ℕ) (p q : ℕ) (known : Bool) : Type 0 where
   pub equal : are-equal (merges e) p q ≡ true
   pub has : known ≡ true → AllSelected (context c) (work-marks w) (symbol-of (context c) p) p
 
+-- two terms whose constructors may be asked
 pub record TwoTerms (c : List ℕ) (p q : ℕ) : Type 0 where
   pub core : ContextSound c
   pub first : p < length (context c .terms)
   pub second : q < length (context c .terms)
 
--- they were known before, or made for q, which has the constructor of p
+-- all selectors on p: they were known before, or made for q, which has the constructor of p
 abbrev pub KnownAfter : Context → ℕ → ℕ → Bool → Bool → Type 0
 KnownAfter cx p q known r = r ≡ true → (known ≡ true) ⊎ (symbol-of cx p ≡ symbol-of cx q)
 
