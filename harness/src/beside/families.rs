@@ -12,7 +12,7 @@ pub struct Script {
 }
 
 pub struct Family {
-    /// The kind of sheet for which the goals are set that the family belongs to, if any.
+    /// The kind of sheet, of those that the goals name, that the family belongs to, if any.
     pub kind: Option<&'static str>,
     pub name: &'static str,
     /// What the scripts have in common, in a few words.
