@@ -3,14 +3,15 @@ use crate::answer::TCheck;
 use crate::constructor_clash::symbol_of;
 use crate::layout::CTOR_APP;
 use crate::make::mint;
-use crate::work::LOWEST;
+use crate::work::CtorOf;
 use crate::work::NEXT;
 use crate::work::W_MARK;
-use crate::work::root_of;
+use crate::work::ctor_of_class;
 use core::context::Made;
 use core::context::arity;
 use core::context::term_count;
 use core::ids::SymbolId;
+use core::ids::TermId;
 use core::table::get_at;
 ghost use mathlib.Core.Path.{_≡_};
 ghost use mathlib.Core.Bool.{true};
@@ -100,12 +101,15 @@ fn covered(t: &[u32], e: &[u32], w: &[u32], p: usize) -> bool
     requires { ⌜ AppAsked (now t) (now e) (now w) p ⌝ }
     ensures { λ r. ⌜ (r ≡ true → Covered (now (t .entry)) (now (e .entry)) (now (w .entry)) p) ⌝ }
 {
-    let root = root_of(t, e, w, p);
-    let word = get_at(w, LOWEST, root);
-    if word == p + 1 {
-        return false;
+    match ctor_of_class(t, e, w, TermId(p as u32)) {
+        CtorOf::Nothing => false,
+        CtorOf::At(f, x) => {
+            if x.0 as usize == p {
+                return false;
+            }
+            f.0 as usize == symbol_of(t, p)
+        }
     }
-    symbol_of(t, word - 1) == symbol_of(t, p)
 }
 
 // Are all selectors on p known to be made and marked, once it was paired with q?

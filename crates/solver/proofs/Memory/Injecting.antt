@@ -5,11 +5,12 @@ use Rattle.core.specs.Limits.{max-symbols, max-terms}
 use Rattle.core.specs.Lists.{In, mem, insert, range, beside, pairs}
 use Rattle.core.specs.Term as Term
 use Rattle.core.specs.Term.{Term, Symbol, Constructor, Selector, Function}
-use Rattle.core.specs.Context.{Context, CtorApp, symbol, term, is-datatype-sort, mk-app, terms-fit, dt-selectors}
+use Rattle.core.specs.Context.{Context, CtorApp, children, symbol, term, is-datatype-sort, mk-app, terms-fit, dt-selectors}
 use Rattle.core.specs.Formed.{Signed, Extends}
 use Rattle.core.specs.Memory.Words.{at}
 use Rattle.core.specs.Memory.Table.{context}
 use Rattle.core.specs.declared.context.Made as Made
+use Rattle.core.specs.declared.ids.SymbolId as SymbolId
 use Rattle.core.specs.declared.ids.TermId as TermId
 use Rattle.core.proofs.Lists.{and-no, T-true, in-range}
 use Rattle.theory.specs.EqEngine.{find, are-equal}
@@ -18,11 +19,13 @@ use Rattle.theory.proofs.Classes.{equal-refl}
 use Rattle.solver.specs.State.{State, MadeIn, with-terms, with-marks, with-dt, ctor-apps, equal, mark, made-in, make-app, marked-in, mint}
 use Rattle.solver.specs.Rules.{pass, mint-on-both, same-constructor, mint-selectors, instantiate-injectivity-selectors}
 use Rattle.solver.specs.declared.answer.TCheck as TCheck
+use Rattle.solver.specs.declared.work.CtorOf as CtorOf
 use Rattle.solver.specs.Memory.Table.{is-set, flagged-from, term-kind, MarksAre, dt-with, state-with}
-use Rattle.solver.specs.Memory.Work.{W-MARK, LOWEST, NEXT, work-marks, apps-from, first-in-class, state-at, ChainSound}
+use Rattle.solver.specs.Memory.Work.{W-MARK, NEXT, work-marks, apps-from, first-in-class, app-word, ctor-meaning, state-at, ChainSound, CtorAsked, CtorOfClass}
 use Rattle.solver.specs.Memory.Making.{Making, Makeable, MakesTerm}
 use Rattle.solver.specs.Memory.ConstructorClash.{op-symbol, symbol-of, app-at, MarkedApp}
 use Rattle.solver.specs.Memory.Injecting.{Moves, StepOutcome, Steps, Selects, Selectable, SelectableBoth, Applies, AppliesBoth, OneClass, TwoTerms, KnownAfter, Injectable, HasSelector, AllSelected, SelectedBelow, InjectableAt, AppAsked, Covered, select-both, select-with, select-from, Injects}
+use Rattle.solver.proofs.Basics.{some-is}
 use Rattle.solver.proofs.Terms.{app, mk-app-makes, extends-self, extends-then, extends-symbol, extends-term, extends-length, extends-sort-of}
 use Rattle.solver.proofs.Signature.{constructor-selector, constructor-function, selector-function, declared-role}
 use Rattle.solver.proofs.Moves.{sort-by-op}
@@ -31,7 +34,7 @@ use Rattle.solver.proofs.Memory.Flags.{has, also, insert-members, mem-m
 use Rattle.solver.proofs.Memory.Roles.{kind-ctor, sel-kind, kind-kept}
 use Rattle.solver.proofs.Memory.Growing.{old-children, marked-within, only-below}
 use Rattle.solver.proofs.Memory.Unfitting.{Onward, onward-unfit, fold-onward, mint-onward, mint-on-both-onward, mint-selectors-onward}
-use Rattle.solver.proofs.Memory.AppNumbers.{apps-step, apps-none, marked-app-within, app-in, WordIs, word-is, word-less}
+use Rattle.solver.proofs.Memory.AppNumbers.{apps-step, apps-none, marked-app-within, app-in, first-at, WordIs, word-is, word-less}
 use Rattle.solver.proofs.Memory.ConstructorClash.{class-carries, turned, LowestIs, lowest-word}
 use Rattle.solver.proofs.Memory.Selected.{Has, both-keeps, pair-keeps, pair-gives, with-keeps, with-gives, mint-again, pair-again, idle}
 
@@ -618,29 +621,47 @@ from-node A = let l = A .within in let h = A .ready .making .core .terms-fit in 
 -- ---- an application that is not the lowest of its constructor in its class
 
 module _ {c e w : List ℕ} {p : ℕ} (A : AppAsked c e w p) where
-  pub cover-lowest : {k r : ℕ} → r ≡ find (merges e) p → k ≡ at w LOWEST r → LowestIs e w p k
-  cover-lowest f q = lowest-word (A .ready .making .work) (A .app) f q
-
-  pub cover-some : {k r : ℕ} → r ≡ find (merges e) p → k ≡ at w LOWEST r → 0 < k
-  cover-some {k} f q = let n = cover-lowest f q .some in omega arith
-
-  pub cover-within : {k r : ℕ} → r ≡ find (merges e) p → k ≡ at w LOWEST r → k - 1 < length (context c .terms)
-  cover-within {k} f q = marked-app-within (context c) w (A .ready .making .work .marks) (k - 1) (cover-lowest f q .app)
+  pub cover-asked : CtorAsked c e w p
+  cover-asked =
+      let M = A .ready .making in
+      record { core = M .core; signed = M .signed; engine = M .engine; table = inl (M .work); is-node = A .app .node }
 
   pub cover-own : p < length (context c .terms)
   cover-own = marked-app-within (context c) w (A .ready .making .work .marks) p (A .app)
 
-  pub cover-by : {k r i j : ℕ} → r ≡ find (merges e) p → k ≡ at w LOWEST r → (k ≡ p + 1 → ⊥) → i ≡ symbol-of (context c) (k - 1) →
-      j ≡ symbol-of (context c) p → eqb i j ≡ true → Covered c e w p
-  cover-by {k} {r} {i} {j} f q d g h t =
-      let L = cover-lowest f q in
-      record {
-        lowest = k - 1;
-        lower = omega (arith, L .some, L .below, d);
-        app = L .app;
-        equal = turned (merges e) p (k - 1) (L .equal);
-        symbol = sym g ∙ eqb-true i j t ∙ h;
-      }
+  module _ {r : CtorOf.CtorOf} {f : SymbolId.SymbolId} {x : TermId.TermId} (K : CtorOfClass c e w p r) (q : r ≡ CtorOf.the-variants.At f x) where
+    -- the application found is the first of the class, so its word stands at the root
+    found : some (record { app = x .0; ctor = f .0; fields = children (context c) (x .0) })
+        ≡ first-in-class (merges e) p (apps-from (context c) w 0)
+    unfolding ctor-meaning
+    found = ap (ctor-meaning (context c)) (sym q) ∙ K .is
+
+    word : suc (x .0) ≡ app-word (first-in-class (merges e) p (apps-from (context c) w 0))
+    unfolding app-word
+    word = ap app-word found
+
+    lowest : LowestIs e w p (suc (x .0))
+    lowest = lowest-word (A .ready .making .work) (A .app) refl (word ∙ sym (A .ready .making .work .lowest p (A .app .node)))
+
+    -- and its constructor is the symbol that it applies
+    symbol-is : f .0 ≡ symbol-of (context c) (suc (x .0) - 1)
+    unfolding first-in-class
+    symbol-is =
+        let passes : CtorApp → Bool = λ a. are-equal (merges e) p (a .app) in
+        let W = word-is (context c) w (A .ready .making .work .marks) passes 0 (suc (x .0)) (omega arith) word in
+        let n : suc (x .0) ≡ 0 → ⊥ = λ z. omega arith in
+        let first = first-at (context c) w (A .ready .making .work .marks) passes 0 (suc (x .0) - 1) (omega arith) (W .app n) (W .passes n)
+        (W .before) in
+        ap (λ (a : CtorApp). a .ctor) (some-is _ (app-at (context c) (suc (x .0) - 1)) (found ∙ first))
+
+    pub cover-by : {j : ℕ} → (x .0 ≡ p → ⊥) → j ≡ symbol-of (context c) p → eqb (f .0) j ≡ true → Covered c e w p
+    cover-by {j} d h t = record {
+      lowest = suc (x .0) - 1;
+      lower = omega (arith, lowest .below, d);
+      app = lowest .app;
+      equal = turned (merges e) p (suc (x .0) - 1) (lowest .equal);
+      symbol = sym symbol-is ∙ eqb-true (f .0) j t ∙ h;
+    }
 
 pub not-covered : {c e w : List ℕ} {p : ℕ} → false ≡ true → Covered c e w p
 not-covered q = absurd (false≢true q)
