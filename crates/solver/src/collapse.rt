@@ -8,10 +8,10 @@ use crate::layout::SEL_APP;
 use crate::layout::TESTER_APP;
 use crate::make::hand_out;
 use crate::work::CtorOf;
-use crate::work::LOWEST;
 use crate::work::NEXT;
 use crate::work::W_MARK;
 use crate::work::ctor_of_class;
+use crate::work::lowest_of_class;
 use crate::work::root_of;
 use core::context::Made;
 use core::context::children;
@@ -112,8 +112,7 @@ fn collapse_class(
     ensures { λ r. ⌜ Tried (by-apps (collapse-at (selection (f .0) (ctor .0) i arg))) (now (t .entry)) (now (e .entry)) (now
         (s .entry)) (now (w .entry)) r (now (t .exit)) (now (s .exit)) (now (w .entry)) (now (out .exit)) ⌝ }
 {
-    let root = root_of(t, e, w, arg);
-    let mut k = get_at(w, LOWEST, root);
+    let mut k = lowest_of_class(t, e, w, TermId(arg as u32));
     while k != 0 {
         let r = collapse_at(t, e, s, w, f, ctor, i, TermId((k - 1) as u32), out);
         match r {
@@ -330,8 +329,7 @@ fn tester_lemma_class(
     ensures { λ r. ⌜ Tried (by-apps (tester-lemma-at (testing (f .0) (ctor .0) arg))) (now (t .entry)) (now (e .entry)) (now
         (s .entry)) (now (w .entry)) r (now (t .exit)) (now (s .exit)) (now (w .entry)) (now (out .exit)) ⌝ }
 {
-    let root = root_of(t, e, w, arg);
-    let mut k = get_at(w, LOWEST, root);
+    let mut k = lowest_of_class(t, e, w, TermId(arg as u32));
     while k != 0 {
         let r = tester_lemma_at(t, s, f, ctor, TermId((k - 1) as u32), out);
         match r {

@@ -1,10 +1,9 @@
 // Constructor clash: two marked applications of different constructors in one class.
 use crate::answer::TCheck;
 use crate::layout::CTOR_APP;
-use crate::work::LOWEST;
 use crate::work::NEXT;
 use crate::work::W_MARK;
-use crate::work::root_of;
+use crate::work::lowest_of_class;
 use core::context::op;
 use core::context::term_count;
 use core::ids::TermId;
@@ -56,8 +55,7 @@ fn clash_at(t: &[u32], e: &[u32], w: &[u32], p: usize) -> usize
     if get_at(w, W_MARK, p) != CTOR_APP {
         return 0;
     }
-    let root = root_of(t, e, w, p);
-    if get_at(w, LOWEST, root) != p + 1 {
+    if lowest_of_class(t, e, w, TermId(p as u32)) != p + 1 {
         return 0;
     }
     other_constructor(t, e, w, p)

@@ -30,7 +30,7 @@ const W_BLOCK: usize = 1024;
 
 pub const ROOT: usize = 1056;
 
-pub const LOWEST: usize = 2080;
+const LOWEST: usize = 2080;
 
 pub const NEXT: usize = 3104;
 
@@ -110,7 +110,7 @@ fn lowest_marked(e: &[u32], w: &[u32], root: TermId) -> usize
 }
 
 // The same of a term's class. A short table has no roots: for one question, outside a check, a whole one does not pay.
-fn lowest_of_class(t: &[u32], e: &[u32], w: &[u32], x: TermId) -> usize
+pub fn lowest_of_class(t: &[u32], e: &[u32], w: &[u32], x: TermId) -> usize
     requires { ⌜ CtorAsked (now t) (now e) (now w) (x .0) ⌝ }
     ensures { λ r. ⌜ r ≡ word-from (now (t .entry)) (now (e .entry)) (now (w .entry)) (x .0) 0 ⌝ }
 {

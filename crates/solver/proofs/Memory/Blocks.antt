@@ -9,7 +9,7 @@ use Rattle.theory.specs.EqEngine.{find}
 use Rattle.theory.specs.Memory.Table.{merges}
 use Rattle.solver.specs.declared.work.CtorOf as CtorOf
 use Rattle.solver.specs.Memory.Table.{MARK, BLOCK, blocks, block-terms, is-set, term-kind, MarksAre, Announced, state, state-with, StateSound}
-use Rattle.solver.specs.Memory.Work.{W-MARK, W-BLOCK, marks-size, work-size, marks-of, state-at, word-from, WorkSound, ShortSound, ClassAsked, ClassTable, CtorAsked, CtorOfClass, NameAsked, NamesApp, MarksAsked, LowestInBlock, LowestMarked}
+use Rattle.solver.specs.Memory.Work.{W-MARK, W-BLOCK, marks-size, work-size, marks-of, state-at, word-from, WorkSound, ShortSound, ClassAsked, ClassTable, CtorAsked, CtorOfClass, CheckSound, NameAsked, NamesApp, MarksAsked, LowestInBlock, LowestMarked}
 use Rattle.solver.proofs.Memory.Flags.{has, flagged-same}
 use Rattle.solver.proofs.Memory.Working.{listed, class-step, class-none, lowest-within}
 use Rattle.solver.proofs.Memory.Beginning.{linked-here, not-here}
@@ -219,6 +219,10 @@ whole-asked {c} {e} {w} z h =
 -- in a check
 pub in-check : {c e w : List ℕ} {x : ℕ} → ClassAsked c e w x → CtorAsked c e w x
 in-check z = record { core = z .core; signed = z .signed; engine = z .engine; table = inl (z .work); is-node = z .is-node }
+
+pub check-asked : {c e s w : List ℕ} {x : ℕ} → CheckSound c e s w → x < max-terms → CtorAsked c e w x
+check-asked z h =
+    record { core = z .state .core; signed = z .state .signed; engine = z .state .engine; table = inl (z .work); is-node = h }
 
 -- the word of a class names its lowest application
 module _ {c e w : List ℕ} {x word : ℕ} (z : CtorAsked c e w x) (q : word ≡ word-from c e w x 0) where

@@ -14,7 +14,7 @@ use Rattle.solver.specs.State.{State, ctor-apps, equal}
 use Rattle.solver.specs.Rules.{Ruled, pass, go-on, then, try-each}
 use Rattle.solver.specs.declared.answer.TCheck as TCheck
 use Rattle.solver.specs.Memory.Table.{is-set, flagged-from, term-kind, MarksAre, dt-with, state-with}
-use Rattle.solver.specs.Memory.Work.{W-MARK, LOWEST, NEXT, state-at, apps-from, first-in-class, app-word, WorkSound, ChainSound, CheckSound}
+use Rattle.solver.specs.Memory.Work.{W-MARK, NEXT, state-at, apps-from, first-in-class, app-word, WorkSound, ChainSound, CheckSound, word-from}
 use Rattle.solver.specs.Memory.Answer.{Tried}
 use Rattle.solver.specs.Memory.Checks.{Underway}
 use Rattle.solver.specs.Memory.Collapse.{when, by-apps, if-marked}
@@ -198,10 +198,9 @@ module _ (rule : CtorApp → State → Ruled) (c s e w : List ℕ) (lv : ℕ →
       skip-apps (context c₀) w rule (λ (a : CtorApp). are-equal (merges e) arg (a .app)) (state-at c e s w lv)
       (λ a q. others a (state-at c e s w lv) refl q) i h
 
-pub walk-first : (rule : CtorApp → State → Ruled) {c e s w : List ℕ} {arg root k : ℕ} → PassesOthers rule (merges e) arg →
-    CheckSound c e s w → arg < max-terms → root ≡ find (merges e) arg → k ≡ at w LOWEST root → Walking rule c e s w arg c s k
-walk-first rule {c} {e} {s} {w} {arg} {root} {k} others C l p q =
-    let z : k ≡ app-word (first-in-class (merges e) arg (apps-from (context c) w 0)) = q ∙ ap (at w LOWEST) p ∙ C .work .lowest arg l in
+pub walk-first : (rule : CtorApp → State → Ruled) {c e s w : List ℕ} {arg k : ℕ} → PassesOthers rule (merges e) arg →
+    CheckSound c e s w → k ≡ word-from c e w arg 0 → Walking rule c e s w arg c s k
+walk-first rule {c} {e} {s} {w} {arg} others C z =
     subst⁻¹ (Walking rule c e s w arg c s) z (record {
       others = others;
       trying = try-as (try-first (by-apps rule) C) (λ lv. all-apps rule c s e w lv

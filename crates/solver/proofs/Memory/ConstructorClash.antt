@@ -17,7 +17,7 @@ use Rattle.solver.specs.Rules as Rules
 use Rattle.solver.specs.Rules.{clash, clash-answer, constructor-clash, answered}
 use Rattle.solver.specs.declared.answer.TCheck as TCheck
 use Rattle.solver.specs.Memory.Table.{MarksAre, dt-with, state-with}
-use Rattle.solver.specs.Memory.Work.{W-MARK, NEXT, LOWEST, apps-from, first-in-class, state-at, WorkSound}
+use Rattle.solver.specs.Memory.Work.{W-MARK, NEXT, apps-from, first-in-class, state-at, WorkSound, word-from}
 use Rattle.solver.specs.Memory.Answer.{Tried}
 use Rattle.solver.specs.Memory.ConstructorClash.{symbol-of, app-at, MarkedApp, clashing, NoClash, NoneBelow, FirstClash, ClashAt, ClashTables, ClassWalked, ClashAsked, ClashReady}
 use Rattle.solver.proofs.Basics.{none-some, some-none, some-is}
@@ -151,12 +151,10 @@ pub record LowestIs (e w : List ℕ) (p k : ℕ) : Type 0 where
   pub app : MarkedApp w (k - 1)
   pub equal : are-equal (merges e) p (k - 1) ≡ true
 
-pub lowest-word : {c e w : List ℕ} {p k r : ℕ} → WorkSound c e w → MarkedApp w p → r ≡ find (merges e) p → k ≡ at w LOWEST r →
-    LowestIs e w p k
+pub lowest-word : {c e w : List ℕ} {p k : ℕ} → WorkSound c e w → MarkedApp w p → k ≡ word-from c e w p 0 → LowestIs e w p k
 unfolding first-in-class
-lowest-word {c} {e} {w} {p} {k} {r} S m f q =
-    let W = word-is (context c) w (S .marks) (λ (a : CtorApp). are-equal (merges e) p (a .app)) 0 k (omega arith)
-    (q ∙ ap (at w LOWEST) f ∙ S .lowest p (m .node)) in
+lowest-word {c} {e} {w} {p} {k} S m q =
+    let W = word-is (context c) w (S .marks) (λ (a : CtorApp). are-equal (merges e) p (a .app)) 0 k (omega arith) q in
     let own = T-true (are-equal (merges e) p p) (equal-refl (merges e) p) in
     let n : k ≡ 0 → ⊥ = λ z. true≢false (sym own ∙ W .none z p (omega arith) m) in
     record { some = n; below = go (decLt p (k - 1)) own (λ l. W .before p (omega arith) l m); app = W .app n; equal = W .passes n }
@@ -257,8 +255,8 @@ module _ {c e w : List ℕ} where
   pub no-app : {p k : ℕ} → k ≡ at w W-MARK p → (k ≡ 1 → ⊥) → ClashAt c e w p 0
   no-app q d = record { fits = omega arith; none = λ z m. absurd (d (q ∙ m .mark)); found = λ n. absurd (n refl) }
 
-  pub not-lowest : {p k r : ℕ} → ClashAsked c e w p → r ≡ find (merges e) p → k ≡ at w LOWEST r → (k ≡ p + 1 → ⊥) → ClashAt c e w p 0
-  not-lowest {p} {k} {r} A f q d = record { fits = omega arith; none = λ z m. none m; found = λ n. absurd (n refl) }
+  pub not-lowest : {p k : ℕ} → ClashAsked c e w p → k ≡ word-from c e w p 0 → (k ≡ p + 1 → ⊥) → ClashAt c e w p 0
+  not-lowest {p} {k} A q d = record { fits = omega arith; none = λ z m. none m; found = λ n. absurd (n refl) }
     where
       none : MarkedApp w p → NoClash c e w p max-terms
       none m y l u m′ = go (are-equal (merges e) p y) refl
@@ -266,7 +264,7 @@ module _ {c e w : List ℕ} where
           go : (b : Bool) → are-equal (merges e) p y ≡ b → clashing c e p y ≡ false
           go false g = apart-clash-not c e p y g
           go true g =
-              let L = lowest-word (A .tables .work) m f q in
+              let L = lowest-word (A .tables .work) m q in
               let x = k - 1 in
               let below : k - 1 < p = omega (arith, L .some, L .below, d) in
               let h = L .equal in

@@ -13,7 +13,7 @@ use Rattle.core.specs.declared.context.Made as Made
 use Rattle.core.specs.declared.ids.SymbolId as SymbolId
 use Rattle.core.specs.declared.ids.TermId as TermId
 use Rattle.core.proofs.Lists.{and-no, T-true, in-range}
-use Rattle.theory.specs.EqEngine.{find, are-equal}
+use Rattle.theory.specs.EqEngine.{are-equal}
 use Rattle.theory.specs.Memory.Table.{merges}
 use Rattle.theory.proofs.Classes.{equal-refl}
 use Rattle.solver.specs.State.{State, MadeIn, with-terms, with-marks, with-dt, ctor-apps, equal, mark, made-in, make-app, marked-in, mint}
@@ -21,7 +21,7 @@ use Rattle.solver.specs.Rules.{pass, mint-on-both, same-constructor, min
 use Rattle.solver.specs.declared.answer.TCheck as TCheck
 use Rattle.solver.specs.declared.work.CtorOf as CtorOf
 use Rattle.solver.specs.Memory.Table.{is-set, flagged-from, term-kind, MarksAre, dt-with, state-with}
-use Rattle.solver.specs.Memory.Work.{W-MARK, NEXT, work-marks, apps-from, first-in-class, app-word, ctor-meaning, state-at, ChainSound, CtorAsked, CtorOfClass}
+use Rattle.solver.specs.Memory.Work.{W-MARK, NEXT, work-marks, apps-from, first-in-class, app-word, word-from, ctor-meaning, state-at, ChainSound, CtorAsked, CtorOfClass}
 use Rattle.solver.specs.Memory.Making.{Making, Makeable, MakesTerm}
 use Rattle.solver.specs.Memory.ConstructorClash.{op-symbol, symbol-of, app-at, MarkedApp}
 use Rattle.solver.specs.Memory.Injecting.{Moves, StepOutcome, Steps, Selects, Selectable, SelectableBoth, Applies, AppliesBoth, OneClass, TwoTerms, KnownAfter, Injectable, HasSelector, AllSelected, SelectedBelow, InjectableAt, AppAsked, Covered, select-both, select-with, select-from, Injects}
@@ -629,19 +629,20 @@ module _ {c e w : List ℕ} {p : ℕ} (A : AppAsked c e w p) where
   pub cover-own : p < length (context c .terms)
   cover-own = marked-app-within (context c) w (A .ready .making .work .marks) p (A .app)
 
-  module _ {r : CtorOf.CtorOf} {f : SymbolId.SymbolId} {x : TermId.TermId} (K : CtorOfClass c e w p r) (q : r ≡ CtorOf.the-variants.At f x) where
-    -- the application found is the first of the class, so its word stands at the root
+  module _ {r : CtorOf.CtorOf} {f : SymbolId.SymbolId} {x : TermId.TermId}
+      (K : CtorOfClass c e w p r) (q : r ≡ CtorOf.the-variants.At f x) where
+    -- the application found is the first of the class
     found : some (record { app = x .0; ctor = f .0; fields = children (context c) (x .0) })
         ≡ first-in-class (merges e) p (apps-from (context c) w 0)
     unfolding ctor-meaning
     found = ap (ctor-meaning (context c)) (sym q) ∙ K .is
 
-    word : suc (x .0) ≡ app-word (first-in-class (merges e) p (apps-from (context c) w 0))
+    word : suc (x .0) ≡ word-from c e w p 0
     unfolding app-word
     word = ap app-word found
 
     lowest : LowestIs e w p (suc (x .0))
-    lowest = lowest-word (A .ready .making .work) (A .app) refl (word ∙ sym (A .ready .making .work .lowest p (A .app .node)))
+    lowest = lowest-word (A .ready .making .work) (A .app) word
 
     -- and its constructor is the symbol that it applies
     symbol-is : f .0 ≡ symbol-of (context c) (suc (x .0) - 1)

@@ -39,6 +39,7 @@ use Rattle.solver.proofs.Terms.{Below, app, extends-self, extends-then,
 use Rattle.solver.proofs.Signature.{declared-role, constructor-function, selector-function}
 use Rattle.solver.proofs.Moves.{mint-makes, one-below, sort-by-op}
 use Rattle.solver.proofs.Lemmas.{Selects, selects-kept, selects-more, selects-below, selects-sorts, whole-tail, one-arg}
+use Rattle.solver.proofs.Memory.Blocks.{check-asked}
 use Rattle.solver.proofs.Memory.Growing.{kind-within, all-below, made-eq, may-equate, only-below}
 use Rattle.solver.proofs.Memory.Unfitting.{onward-unfit, fold-onward, mint-field-onward, mint-onward, equate-with-onward, guard-onward, Onward, then-unfit, try-onward, instantiate-at-onward}
 use Rattle.solver.proofs.Memory.Flags.{has, flagged-step, flagged-none}
@@ -535,7 +536,7 @@ module _ {c e s w : List ℕ} (C : CheckSound c e s w) (x : ℕ) where
                 let h = arg-below in
                 let n = C .state .core .term-count in
                 let m = C .state .core .terms-fit in
-                record { core = C .state .core; signed = signed; engine = C .state .engine; table = inl (C .work); is-node = omega arith }
+                check-asked C (omega arith)
 
             pub instantiable : {u : List ℕ} → answer-size ≤ length u → Instantiable c e s w x (f .0) (getD ch 0 0) u
             instantiable h =

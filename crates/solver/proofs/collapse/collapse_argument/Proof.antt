@@ -1,5 +1,6 @@
 -- By the lowest application of the class.
-use Rattle.core.proofs.Kit.{inl, needs, arith}
+use Rattle.core.proofs.Kit.{needs, arith}
+use Rattle.solver.proofs.Memory.Blocks.{check-asked}
 use Rattle.solver.proofs.Memory.Once.{not-once, lowest-is}
 use Rattle.solver.proofs.collapse.collapse_argument.Statement.{statement}
 use Rattle.solver.proofs.collapse.collapse_argument.Tie as tie
@@ -13,8 +14,7 @@ ctor-of-class-requires : tie.Need-ctor-of-class-requires
 ctor-of-class-requires c κs =
     let start = c .before .before .before .before .before .before .before in
     let on = start .pre .0 in
-    let z = on .under .check in
-    record { core = z .state .core; signed = z .state .signed; engine = z .state .engine; table = inl (z .work); is-node = on .within }
+    check-asked (on .under .check) (on .within)
 
 collapse-class-requires : tie.Need-collapse-class-requires
 collapse-class-requires c κs =

@@ -5,52 +5,47 @@ use Rattle.solver.specs.Rules.{tester-lemma-at}
 use Rattle.solver.specs.Memory.Collapse.{testing}
 use Rattle.solver.proofs.Memory.Unfitting.{tester-lemma-at-onward}
 use Rattle.solver.proofs.Memory.Trying.{not-sat}
+use Rattle.solver.proofs.Memory.Blocks.{check-asked}
 use Rattle.solver.proofs.Memory.Chains.{Walking, chain-left, walk-first, walk-at, walk-next, walk-answer, walk-less, walk-done}
 use Rattle.solver.proofs.Memory.TesterLemmas.{tester-others, walk-testable}
 use Rattle.solver.proofs.collapse.tester_lemma_class.Statement.{statement}
 use Rattle.solver.proofs.collapse.tester_lemma_class.Tie as tie
 
 abbrev Inv-loop : tie.InvT-loop
-Inv-loop t₀ e s₀ w f ctor arg out₀ root k₀ t s out k =
+Inv-loop t₀ e s₀ w f ctor arg out₀ k₀ t s out k =
     Walking (tester-lemma-at (testing (f .0) (ctor .0) arg)) t₀ e s₀ w arg t s k
     × (length t ≡ length t₀)
     × (length s ≡ length s₀)
     × (length out ≡ length out₀)
 
 abbrev μ-loop : tie.MeasureT-loop
-μ-loop t₀ e s₀ w f ctor arg out₀ root k₀ t s out k = chain-left k
+μ-loop t₀ e s₀ w f ctor arg out₀ k₀ t s out k = chain-left k
 
-root-of-requires : tie.Need-root-of-requires Inv-loop μ-loop
-root-of-requires c κs =
+cast-arg : tie.Need-cast-t13 Inv-loop μ-loop
+cast-arg c = let start = c .before .before .before .before .before .before in record { fits = omega (arith, start .pre .within) }
+
+lowest-of-class-requires : tie.Need-lowest-of-class-requires Inv-loop μ-loop
+lowest-of-class-requires c κs =
     let pre = c .before .before .before .before .before .before .pre in
-    let z = pre .under .check in
-    record { core = z .state .core; signed = z .state .signed; engine = z .state .engine; work = z .work; is-node = pre .within }
-
-get-at-requires : tie.Need-get-at-requires Inv-loop μ-loop
-get-at-requires c κs =
-    let start = c .before .before .before .before .before .before .before in
-    let l = start .pre .under .check .work .long in omega (arith, c .root-of .ensures .1)
+    check-asked (pre .under .check) (pre .within)
 
 loop-holds : tie.Need-loop-holds Inv-loop μ-loop
 loop-holds c =
-    let first = c .before in
-    let start = first .before .before .before .before .before .before .before in
-    let pre = start .pre in
-    let root = first .root-of .ensures .0 in
-    (walk-first _ (tester-others _ _) (pre .under .check) (pre .within) root (c .get-at .ensures .0), refl, refl, refl)
+    let pre = c .before .before .before .before .before .before .before .pre in
+    (walk-first _ (tester-others _ _) (pre .under .check) (c .lowest-of-class .ensures), refl, refl, refl)
 
 -- the application at hand is a term
 within : (c : tie.In-loop Inv-loop μ-loop) → c .before .loop .k - 1 < max-terms
 within c = walk-at (c .before .loop .inv .0) (c .loop-test .taken) .within
 
-cast : tie.Need-cast-t20 Inv-loop μ-loop
+cast : tie.Need-cast-t21 Inv-loop μ-loop
 cast c = record { fits = omega (arith, within (c .before .before)) }
 
 tester-lemma-at-requires : tie.Need-tester-lemma-at-requires Inv-loop μ-loop
 tester-lemma-at-requires c κs =
     let turn = c .before .before .before in
     let at-loop = turn .before in
-    let start = at-loop .before .before .before .before .before .before .before .before .before in
+    let start = at-loop .before .before .before .before .before .before .before .before in
     walk-testable (start .pre) (at-loop .loop .inv .0) (turn .loop-test .taken) (at-loop .loop .inv .3)
 
 returns : tie.Need-returns Inv-loop μ-loop
@@ -63,19 +58,19 @@ returns c =
     (called .tester-lemma-at .ensures _ _ (walking .trying .sound) _ (walk-at walking (turn .loop-test .taken) .equal))
     (not-sat (c .match .keys2)) (tester-lemma-at-onward _)
 
-get-at-requires-2 : tie.Need-get-at-requires-2 Inv-loop μ-loop
-get-at-requires-2 c κs =
+get-at-requires : tie.Need-get-at-requires Inv-loop μ-loop
+get-at-requires c κs =
     let tested = c .before .before .before .before .before .before .before .before .before .before .before .before in
-    let start = tested .before .before .before .before .before .before .before .before .before .before in
+    let start = tested .before .before .before .before .before .before .before .before .before in
     let l = start .pre .under .check .work .long in omega (arith, within tested)
 
 loop-less : tie.Need-loop-less Inv-loop μ-loop
 loop-less c =
     let turn = c .before .before .before .before .before .before .before .before .before .before .before .before .before in
     let at-loop = turn .before in
-    let start = at-loop .before .before .before .before .before .before .before .before .before in
+    let start = at-loop .before .before .before .before .before .before .before .before in
     let pre = start .pre in
-    walk-less (at-loop .loop .inv .0) (turn .loop-test .taken) (pre .under .check .work) (pre .under .chain) (c .get-at2 .ensures .0)
+    walk-less (at-loop .loop .inv .0) (turn .loop-test .taken) (pre .under .check .work) (pre .under .chain) (c .get-at .ensures .0)
 
 loop-again : tie.Need-loop-again Inv-loop μ-loop
 loop-again c =
@@ -83,12 +78,12 @@ loop-again c =
     let called = told .before .before .before .before .before .before .before .before in
     let turn = called .before .before .before .before in
     let at-loop = turn .before in
-    let start = at-loop .before .before .before .before .before .before .before .before .before in
+    let start = at-loop .before .before .before .before .before .before .before .before in
     let walking = at-loop .loop .inv .0 in
     let pre = start .pre in (
       walk-next walking (turn .loop-test .taken)
           (called .tester-lemma-at .ensures _ _ (walking .trying .sound) _ (walk-at walking (turn .loop-test .taken) .equal))
-          (pre .under .check .work) (pre .under .chain) (told .enum-told .given .1) (c .get-at2 .ensures .0),
+          (pre .under .check .work) (pre .under .chain) (told .enum-told .given .1) (c .get-at .ensures .0),
       called .tester-lemma-at .kept .0 ∙ at-loop .loop .inv .1,
       called .tester-lemma-at .kept .1 .0 ∙ at-loop .loop .inv .2,
       called .tester-lemma-at .kept .1 .1 .1 .1 .1 .0 ∙ at-loop .loop .inv .3,
@@ -97,7 +92,7 @@ loop-again c =
 pub tester-lemma-class-spec : {M : Type 1} → statement M
 tester-lemma-class-spec =
     tie.close
-    (tie.spec Inv-loop μ-loop root-of-requires get-at-requires loop-holds (λ c. search needs) cast tester-lemma-at-requires
-    (λ c. search needs) (λ c. search needs) (λ c. search needs) (λ c. search needs) returns (λ c. search needs) get-at-requires-2
+    (tie.spec Inv-loop μ-loop cast-arg lowest-of-class-requires loop-holds (λ c. search needs) cast tester-lemma-at-requires
+    (λ c. search needs) (λ c. search needs) (λ c. search needs) (λ c. search needs) returns (λ c. search needs) get-at-requires
     loop-less loop-again (λ c. search needs) (λ c. search needs) (λ c. search needs)
     (λ c. walk-done (c .before .loop .inv .0) (c .loop-test .left)))
