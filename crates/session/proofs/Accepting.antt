@@ -2,40 +2,40 @@
 use Prim.Native.Nat.{ℕ, suc, _≤_, _<_}
 use mathlib.Core.Path.{_≡_, refl, sym, subst, subst⁻¹, ap, _∙_}
 use mathlib.Core.Logic.{_⊎_, inl, inr, _≢_}
-use mathlib.Core.Bool.{Bool, true, false, cond, not, false≢true}
+use mathlib.Core.Bool.{Bool, true, false, cond, not, false≢true, _&&_}
 use mathlib.Core.List.{List, [], _∷_, _++_, map}
 use mathlib.Core.Option.{Option, none, some}
 use native.Mathlib.Omega.{arith}
 use lib.Dec.{T, eqb, eqb→eq, ltb→lt}
-use borrow.Author.Tests.{eqb-true}
+use borrow.Author.Tests.{eqb-true, eq-eqb}
 use lib.ListN.{length, length-append}
-use Rattle.core.specs.Lists.{insert, every, same-list}
+use Rattle.core.specs.Lists.{every, same-list}
 use Rattle.core.specs.Ids as Ids
 use Rattle.core.specs.Term as Term
 use Rattle.core.specs.Term.{Term, Op, Eq, Symbol}
 use Rattle.core.specs.Sort.{SortNode}
 use Rattle.core.specs.Context.{Context, Made, CtorApp, TesterApp, term, all-grounded, sort-of, symbol, tester-app, declare-sort, dt-add-constructor, declare-fun, with-symbols, is-datatype-sort, mk-app, mk-eq}
 use Rattle.core.specs.Reading.{Reading}
-use Rattle.core.proofs.Lists.{In, true-T, every-in, same-list-eq}
+use Rattle.core.proofs.Lists.{In, T-both, T-true, true-T, every-in, same-list-eq}
 use Rattle.core.proofs.Readings.{has-reading}
 use Rattle.theory.specs.Types.{EqLeaf}
 use Rattle.theory.specs.EqEngine.{Merge}
 use Rattle.theory.specs.Atom as Atom
 use Rattle.theory.proofs.Explain.{Justified, TwoTerms}
 use Rattle.theory.proofs.Members.{in-either}
-use Rattle.solver.specs.State.{State, AssertedTester, with-terms, with-level, with-level-record, with-lasting, with-dt, ctor-of-class}
+use Rattle.solver.specs.State.{State, AssertedTester, with-terms, with-level, with-level-record, with-negative-record, with-lasting, with-dt, ctor-apps, equal, ctor-of-class}
 use Rattle.solver.specs.Records as Records
 use Rattle.solver.specs.Records.{relevant}
 use Rattle.solver.specs.Rules as Rules
 use Rattle.solver.specs.Rules.{Phase, TCheck, Conflict, Split}
 use Rattle.solver.specs.Check as Check
 use Rattle.solver.specs.Check.{before-ring}
-use Rattle.solver.proofs.Basics.{Ascending, some-is, none-some, some-none, T-no, false-T}
+use Rattle.solver.proofs.Basics.{Ascending, none-some, some-none, first-none, T-no, false-T}
 use Rattle.solver.proofs.Terms.{Extends, extends-sorts, extends-symbols, Below, Agrees, Formed, Makes, mk-app-makes, mk-app-formed, app}
 use Rattle.solver.proofs.Signature.{Signed, sort-signed, fun-signed, ctor-signed}
-use Rattle.solver.proofs.Apps.{ctor-app-is, tester-app-is}
+use Rattle.solver.proofs.Apps.{op-is, ctor-app-is, tester-app-is}
 use Rattle.solver.proofs.Walk.{class-ctor}
-use Rattle.solver.proofs.Clash.{Refuted, Recorded, tester-refuted}
+use Rattle.solver.proofs.Clash.{Refuted, signed-record, Recorded, ctor-in, tester-refuted, negative-refuted}
 use Rattle.solver.proofs.Moves.{Follows, follows-self, AnswerHolds}
 use Rattle.solver.proofs.Answers.{CheckedWell, RingDecides, full-check-decides, full-check-well}
 use Rattle.solver.proofs.Collection.{relevant-kept}
@@ -44,11 +44,11 @@ use Rattle.session.specs.Line.{Command, DeclareSort, DeclareCtor, Declar
 use Rattle.session.specs.Answer.{Refusal, Answer, Ok, TermIs, Checked, Refused}
 use Rattle.session.specs.Session.{Session, Performed, Asked, first-no, term-exists, one-sort, perform, done, numbered, conflict-or-ok}
 use Rattle.session.specs.History.{History, level, level-after, HoldsNow, IsAtom}
-use Rattle.session.specs.Claim.{AllInForce, Impossible, Valid, Ring, Cause, Against, Determined, Undetermined, Before, After, SaysConflict}
+use Rattle.session.specs.Claim.{AllInForce, Impossible, Valid, Ring, Cause, Against, Denied, Determined, Undetermined, Before, After, SaysConflict}
 use Rattle.session.proofs.Forces.{kind}
 use Rattle.session.proofs.Invariant.{signature, declared, kept-self, kept-extends, kept-terms, atom-one, registered-atom, Entry, Entries, entries-on, Inv}
 use Rattle.session.proofs.Truth.{two-terms, SaidNow, conflict-holds, lemma-holds}
-use Rattle.session.proofs.Rings.{lowest-stands, ring-there, there-ring}
+use Rattle.session.proofs.Rings.{marked-ctor-in, now, lowest-stands, ring-there, there-ring}
 use Rattle.session.proofs.Causes.{determined, undetermined, cause-now}
 use Rattle.session.proofs.Steps.{plain-kept, register-kept, pop-kept}
 
@@ -149,7 +149,7 @@ declare-kept s h d cx I o k e S b l p q =
       atoms = refl;
       level-up = omega arith;
       level = I .level ∙ sym l;
-      entries = entries-on (s .state .dt .level-record) (s .state .level) (s .state .level) h d (λ w. omega arith) (omega arith) (I .entries);
+      entries = entries-on (signed-record (s .state)) (s .state .level) (s .state .level) h d (λ w. omega arith) (omega arith) (I .entries);
       marks = λ t i. i;
       ascending = I .ascending;
       bool-there = b;
@@ -238,7 +238,7 @@ same-kept s h d k c I q l e z g u =
       atoms = refl;
       level-up = l;
       level = e;
-      entries = entries-on (s .state .dt .level-record) (s .state .level) k h d (λ w. omega arith) l (I .entries);
+      entries = entries-on (signed-record (s .state)) (s .state .level) k h d (λ w. omega arith) l (I .entries);
       marks = λ t i. i;
       ascending = I .ascending;
       bool-there = I .bool-there;
@@ -287,7 +287,8 @@ follows-inv s h d st I c q l z F =
       atoms = F .atoms;
       level-up = let e = F .level in omega arith;
       level = F .level ∙ I .level ∙ sym l;
-      entries = subst⁻¹ (λ (es : List AssertedTester). Entries es (st .level) (d ∷ h)) (F .entries) (entries-on (s .state .dt .level-record) (s .state .level) (st .level) h d (λ w. omega arith) (let e = F .level in omega arith) (I .entries));
+      entries = λ b x i. entries-on (signed-record (s .state)) (s .state .level) (st .level) h d (λ w. omega arith)
+          (let e = F .level in omega arith) (I .entries) b x (subst (λ (es : List AssertedTester). In x es) (F .entries b) i);
       marks = F .marks;
       ascending = F .ascending (I .ascending);
       bool-there = subst⁻¹ (λ (ss : List SortNode). 0 < length ss) (extends-sorts (s .state .terms) (st .terms) (F .extends)) (I .bool-there);
@@ -311,7 +312,16 @@ number-good : (s : Session) (h : History) (d : Command) (o : Op) (as′ : List �
 unfolding numbered done with-terms answer-kind line-kind
 number-good s h d o as′ I c k l z n B A f g = record {
   inv = follows-inv s h d (with-terms (s .state) (m .context)) I c k l z
-      (record { extends = M .extends; formed = mk-app-formed (s .state .terms) o as′ (I .ready .formed) B A; eq = refl; atoms = refl; level = refl; entries = refl; marks = λ t i. i; ascending = λ a. a });
+      (record {
+        extends = M .extends;
+        formed = mk-app-formed (s .state .terms) o as′ (I .ready .formed) B A;
+        eq = refl;
+        atoms = refl;
+        level = refl;
+        entries = λ b. refl;
+        marks = λ t i. i;
+        ascending = λ a. a;
+      });
   spoken = λ q e. let w : _≡_ {A = ℕ} 1 3 = ap answer-kind e in omega arith;
   conflict = λ ls e. let w : _≡_ {A = ℕ} 1 2 = ap answer-kind e in absurd (omega arith);
   cause = λ ls e. let w : _≡_ {A = ℕ} 1 2 = ap answer-kind e in absurd (omega arith);
@@ -358,12 +368,13 @@ eq-good s h t u I c a b e =
 
 -- ---- checks
 
--- the entries of the level record are lines in force
+-- the entries of the records of testers are lines in force
 recorded-said : (s : Session) (h : History) (I : Inv s h) → SaidNow s h I (Recorded (s .state))
-recorded-said s h I k t (e, i, p, q) =
-    let E = I .entries e i in
-    subst (λ (x : ℕ). HoldsNow h (Assert x) × IsAtom h x t × T (Ids.is-positive x)) p
-    (subst (λ (x : ℕ). HoldsNow h (Assert (e .lit)) × IsAtom h (e .lit) x × T (Ids.is-positive (e .lit))) q ((e .level, E .force), E .atom, E .positive))
+recorded-said s h I b k t (e, i, p, q) =
+    let E = I .entries b e i in
+    subst (λ (x : ℕ). HoldsNow h (Assert x) × IsAtom h x t × (Ids.is-positive x ≡ b)) p
+    (subst (λ (x : ℕ). HoldsNow h (Assert (e .lit)) × IsAtom h (e .lit) x × (Ids.is-positive (e .lit) ≡ b)) q
+    ((e .level, E .force), E .atom, E .sign))
 
 pub full-good : (s : Session) (h : History) → Inv s h → T (s .closed) → Good s (Line.Check true) (perform s (Line.Check true)) h
 unfolding perform done Check.check kind level level-after signature declared answer-kind
@@ -445,7 +456,7 @@ idle-good s h I c = record {
 
 -- ---- assert
 
--- only the level record and the lasting record change
+-- only the records of testers change
 record Noted (s : State) (s′ : State) : Type 0 where
   terms : s′ .terms ≡ s .terms
   eq : s′ .eq ≡ s .eq
@@ -453,7 +464,8 @@ record Noted (s : State) (s′ : State) : Type 0 where
   level : s′ .level ≡ s .level
   marks : s′ .dt .marks ≡ s .dt .marks
 
-noted-inv : (s : Session) (h : History) (l : ℕ) (st : State) → Inv s h → Noted (s .state) st → Entries (st .dt .level-record) (st .level) (Assert l ∷ h) → Inv (record { state = st; closed = s .closed }) (Assert l ∷ h)
+noted-inv : (s : Session) (h : History) (l : ℕ) (st : State) → Inv s h → Noted (s .state) st →
+    Entries (signed-record st) (st .level) (Assert l ∷ h) → Inv (record { state = st; closed = s .closed }) (Assert l ∷ h)
 unfolding kind level level-after signature declared
 noted-inv s h l st I N E =
     plain-kept s (record { state = st; closed = s .closed }) h (Assert l) I (record {
@@ -512,11 +524,15 @@ unfolding conflict-or-ok check-kind
 never-unknown none e = let w : _≡_ {A = ℕ} 0 4 = ap check-kind e in omega arith
 never-unknown (some ks) e = let w : _≡_ {A = ℕ} 2 4 = ap check-kind e in omega arith
 
+-- what is said of the atom t by the literal l alone
+abbrev SaidBy : ℕ → ℕ → Bool → ℕ → ℕ → Type 0
+SaidBy l t b k u = (Ids.is-positive l ≡ b) × (k ≡ l) × (u ≡ t)
+
 -- what an assertion leaves: notes about the atom t of the literal l
 record AssertWell (s : Session) (h : History) (l t : ℕ) (o : Records.Outcome) : Type 1 where
   noted : Noted (s .state) (o .state)
-  entries : Entries (o .state .dt .level-record) (o .state .level) (Assert l ∷ h)
-  refutes : (ls : List EqLeaf) → o .conflict ≡ some ls → T (Ids.is-positive l) × Refuted (s .state) (λ k u. (k ≡ l) × (u ≡ t)) ls
+  entries : Entries (signed-record (o .state)) (o .state .level) (Assert l ∷ h)
+  refutes : (ls : List EqLeaf) → o .conflict ≡ some ls → Refuted (s .state) (SaidBy l t) ls
 
 module _ (s : Session) (h : History) (l : ℕ) (I : Inv s h) (closed : T (s .closed))
     (v : T (Atom.is-registered (s .state .atoms) (Ids.var l))) where
@@ -527,63 +543,71 @@ module _ (s : Session) (h : History) (l : ℕ) (I : Inv s h) (closed : T (s .clo
   unfolding atom-t
   at = registered-atom (s .state .terms) (s .state .atoms) h (I .named) (Ids.var l) v
 
-  old-entries : Entries (s .state .dt .level-record) (s .state .level) (Assert l ∷ h)
+  old-entries : Entries (signed-record (s .state)) (s .state .level) (Assert l ∷ h)
   unfolding kind
-  old-entries = entries-on (s .state .dt .level-record) (s .state .level) (s .state .level) h (Assert l) (λ e. omega arith) (omega arith) (I .entries)
+  old-entries = entries-on (signed-record (s .state)) (s .state .level) (s .state .level) h (Assert l) (λ e. omega arith) (omega arith)
+      (I .entries)
 
   -- the session with nothing noted, under the longer history
   unnoted : Inv s (Assert l ∷ h)
   unnoted = noted-inv s h l (s .state) I (record { terms = refl; eq = refl; atoms = refl; level = refl; marks = refl }) old-entries
 
-  new-entry : AssertedTester
-  new-entry = record { atom = atom-t; lit = l; level = s .state .level }
-
-  new-entry-is : T (Ids.is-positive l) → Entry (s .state .level) (Assert l ∷ h) new-entry
-  unfolding new-entry
-  new-entry-is p = record { force = inl (refl, I .level); atom = inr at; positive = p; low = omega arith }
-
-  more-entries : T (Ids.is-positive l) → Entries (s .state .dt .level-record ++ (new-entry ∷ [])) (s .state .level) (Assert l ∷ h)
-  more-entries p e i = go (in-either e (s .state .dt .level-record) (new-entry ∷ []) i)
+  -- one entry more, unless the atom has one
+  entered-well : (b : Bool) → Ids.is-positive l ≡ b → (t : ℕ) → t ≡ atom-t → (e : AssertedTester) →
+      In e (Records.entered (s .state .level) t l (signed-record (s .state) b)) → Entry b (s .state .level) (Assert l ∷ h) e
+  unfolding Records.entered
+  entered-well b p t w e i = go (Records.recorded (signed-record (s .state) b) t) i
     where
-      go : In e (s .state .dt .level-record) ⊎ In e (new-entry ∷ []) → Entry (s .state .level) (Assert l ∷ h) e
-      go (inl j) = old-entries e j
-      go (inr (inl q)) = subst⁻¹ (Entry (s .state .level) (Assert l ∷ h)) q (new-entry-is p)
-      go (inr (inr j)) = absurd j
+      new : AssertedTester
+      new = record { atom = t; lit = l; level = s .state .level }
 
-  record-well : T (Ids.is-positive l) → (b : Bool) → Noted (s .state) (cond b (with-lasting (s .state) (insert atom-t (s .state .dt .lasting))) (with-level-record (with-lasting (s .state) (insert atom-t (s .state .dt .lasting))) (s .state .dt .level-record ++ (new-entry ∷ [])))) × Entries (cond b (with-lasting (s .state) (insert atom-t (s .state .dt .lasting))) (with-level-record (with-lasting (s .state) (insert atom-t (s .state .dt .lasting))) (s .state .dt .level-record ++ (new-entry ∷ []))) .dt .level-record) (cond b (with-lasting (s .state) (insert atom-t (s .state .dt .lasting))) (with-level-record (with-lasting (s .state) (insert atom-t (s .state .dt .lasting))) (s .state .dt .level-record ++ (new-entry ∷ []))) .level) (Assert l ∷ h)
-  unfolding with-lasting with-level-record with-dt
-  record-well p true = (record { terms = refl; eq = refl; atoms = refl; level = refl; marks = refl }, old-entries)
-  record-well p false = (record { terms = refl; eq = refl; atoms = refl; level = refl; marks = refl }, more-entries p)
+      is : In e (signed-record (s .state) b) ⊎ In e (new ∷ []) → Entry b (s .state .level) (Assert l ∷ h) e
+      is (inl j) = old-entries b e j
+      is (inr (inl q)) =
+          subst⁻¹ (Entry b (s .state .level) (Assert l ∷ h)) q
+          (record { force = inl (refl, I .level); atom = inr (subst⁻¹ (IsAtom h l) w at); sign = p; low = omega arith })
+      is (inr (inr j)) = absurd j
 
-  nothing-well : AssertWell s h l atom-t (record { conflict = none; state = s .state })
-  nothing-well = record {
+      go : (c : Bool) → In e (cond c (signed-record (s .state) b) (signed-record (s .state) b ++ (new ∷ []))) →
+          Entry b (s .state .level) (Assert l ∷ h) e
+      go true j = old-entries b e j
+      go false j = is (in-either e (signed-record (s .state) b) (new ∷ []) j)
+
+  tester-well : (b : Bool) → Ids.is-positive l ≡ b → (x : TesterApp) → tester-app (s .state .terms) atom-t ≡ some x →
+      AssertWell s h l atom-t (Records.assert-tester (s .state) l b x)
+  unfolding Records.assert-tester Records.record-tester Records.record-negative with-lasting with-level-record with-negative-record with-dt
+  tester-well true p x q = record {
+    noted = record { terms = refl; eq = refl; atoms = refl; level = refl; marks = refl };
+    entries = entries;
+    refutes = λ ls w. tester-refuted (s .state) (I .ready) (SaidBy l atom-t) l atom-t x ls q (p, refl, refl) w;
+  }
+    where
+      entries : Entries (signed-record (Records.record-tester (s .state) (x .app) l)) (s .state .level) (Assert l ∷ h)
+      entries true = entered-well true p (x .app) (tester-app-is (s .state .terms) atom-t x q .app)
+      entries false = old-entries false
+  tester-well false p x q = record {
+    noted = record { terms = refl; eq = refl; atoms = refl; level = refl; marks = refl };
+    entries = entries;
+    refutes = λ ls w. negative-refuted (s .state) (I .ready) (SaidBy l atom-t) l atom-t x ls q (p, refl, refl) w;
+  }
+    where
+      entries : Entries (signed-record (Records.record-negative (s .state) (x .app) l)) (s .state .level) (Assert l ∷ h)
+      entries true = old-entries true
+      entries false = entered-well false p (x .app) (tester-app-is (s .state .terms) atom-t x q .app)
+
+  atom-well : (o : Option TesterApp) → tester-app (s .state .terms) atom-t ≡ o →
+      AssertWell s h l atom-t (Records.assert-atom (s .state) l o)
+  unfolding Records.assert-atom
+  atom-well none q = record {
     noted = record { terms = refl; eq = refl; atoms = refl; level = refl; marks = refl };
     entries = old-entries;
     refutes = λ ls e. absurd (none-some ls e);
   }
-
-  tester-well : T (Ids.is-positive l) → (x : TesterApp) → tester-app (s .state .terms) atom-t ≡ some x → x .app ≡ atom-t → AssertWell s h l atom-t (record { conflict = Records.tester-conflict (s .state) l x; state = Records.record-tester (s .state) atom-t l })
-  unfolding Records.record-tester new-entry
-  tester-well p x q e = record {
-    noted = record-well p (Records.recorded (s .state) atom-t) .0;
-    entries = record-well p (Records.recorded (s .state) atom-t) .1;
-    refutes = λ ls w. (p, tester-refuted (s .state) (I .ready) (λ k u. (k ≡ l) × (u ≡ atom-t)) l atom-t x ls q (refl, refl) w);
-  }
-
-  by-tester : T (Ids.is-positive l) → (o : Option TesterApp) → tester-app (s .state .terms) atom-t ≡ o → AssertWell s h l atom-t (Records.assert-tester (s .state) l o)
-  unfolding Records.assert-tester
-  by-tester p none q = nothing-well
-  by-tester p (some x) q =
-      let e = tester-app-is (s .state .terms) atom-t x q .app in
-      subst⁻¹ (λ (u : ℕ). AssertWell s h l atom-t (record { conflict = Records.tester-conflict (s .state) l x; state = Records.record-tester (s .state) u l })) e (tester-well p x q e)
-
-  by-sign : (b : Bool) → Ids.is-positive l ≡ b → AssertWell s h l atom-t (cond b (Records.assert-tester (s .state) l (tester-app (s .state .terms) atom-t)) (record { conflict = none; state = s .state }))
-  by-sign true e = by-tester (true-T (Ids.is-positive l) e) (tester-app (s .state .terms) atom-t) refl
-  by-sign false e = nothing-well
+  atom-well (some x) q = tester-well (Ids.is-positive l) refl x q
 
   assert-well : AssertWell s h l atom-t (Records.assert (s .state) l)
   unfolding Records.assert atom-t
-  assert-well = by-sign (Ids.is-positive l) refl
+  assert-well = atom-well (tester-app (s .state .terms) atom-t) refl
 
   outcome-good : (o : Records.Outcome) → AssertWell s h l atom-t o → Good s (Assert l) (done s (conflict-or-ok (o .conflict)) (o .state)) h
   unfolding done line-kind
@@ -602,21 +626,23 @@ module _ (s : Session) (h : History) (l : ℕ) (I : Inv s h) (closed : T (s .clo
     made-eq = λ t u n e q. absurd (never-number (o .conflict) n q);
   }
     where
-      said : T (Ids.is-positive l) → (k u : ℕ) → (k ≡ l) × (u ≡ atom-t) → HoldsNow (Assert l ∷ h) (Assert k) × IsAtom (Assert l ∷ h) k u × T (Ids.is-positive k)
-      said p k u (e, q) =
-          subst⁻¹ (λ (x : ℕ). HoldsNow (Assert l ∷ h) (Assert x) × IsAtom (Assert l ∷ h) x u × T (Ids.is-positive x)) e
-          (subst⁻¹ (λ (x : ℕ). HoldsNow (Assert l ∷ h) (Assert l) × IsAtom (Assert l ∷ h) l x × T (Ids.is-positive l)) q ((level h, inl (refl, refl)), inr at, p))
+      said : SaidNow s (Assert l ∷ h) unnoted (SaidBy l atom-t)
+      said b k u (p, e, q) =
+          subst⁻¹ (λ (x : ℕ). HoldsNow (Assert l ∷ h) (Assert x) × IsAtom (Assert l ∷ h) x u × (Ids.is-positive x ≡ b)) e
+          (subst⁻¹ (λ (x : ℕ). HoldsNow (Assert l ∷ h) (Assert l) × IsAtom (Assert l ∷ h) l x × (Ids.is-positive l ≡ b)) q
+          ((level h, inl (refl, refl)), inr at, p))
 
-      holds : (ls : List EqLeaf) → T (Ids.is-positive l) × Refuted (s .state) (λ k u. (k ≡ l) × (u ≡ atom-t)) ls → AllInForce (Assert l ∷ h) ls × Impossible (o .state .terms) (Assert l ∷ h) ls × (ls ≢ [])
-      holds ls (p, R) =
+      holds : (ls : List EqLeaf) → Refuted (s .state) (SaidBy l atom-t) ls →
+          AllInForce (Assert l ∷ h) ls × Impossible (o .state .terms) (Assert l ∷ h) ls × (ls ≢ [])
+      holds ls R =
           subst⁻¹ (λ (z : Context). AllInForce (Assert l ∷ h) ls × Impossible z (Assert l ∷ h) ls × (ls ≢ [])) (W .noted .terms)
-          (conflict-holds s (Assert l ∷ h) unnoted (λ k u. (k ≡ l) × (u ≡ atom-t)) (said p) ls R)
+          (conflict-holds s (Assert l ∷ h) unnoted (SaidBy l atom-t) said ls R)
 
-      why : (ls : List EqLeaf) → T (Ids.is-positive l) × Refuted (s .state) (λ k u. (k ≡ l) × (u ≡ atom-t)) ls → Cause (o .state .terms) (o .state .dt .marks) (Assert l ∷ h)
-      why ls (p, R) =
+      why : (ls : List EqLeaf) → Refuted (s .state) (SaidBy l atom-t) ls → Cause (o .state .terms) (o .state .dt .marks) (Assert l ∷ h)
+      why ls R =
           subst⁻¹ (λ (z : Context). Cause z (o .state .dt .marks) (Assert l ∷ h)) (W .noted .terms)
           (subst⁻¹ (λ (ms : List ℕ). Cause (s .state .terms) ms (Assert l ∷ h)) (W .noted .marks)
-          (cause-now s (Assert l ∷ h) unnoted (λ k u. (k ≡ l) × (u ≡ atom-t)) (said p) (R .cause)))
+          (cause-now s (Assert l ∷ h) unnoted (SaidBy l atom-t) said (R .cause)))
 
   pub assert-good : Good s (Assert l) (perform s (Assert l)) h
   unfolding perform
@@ -636,30 +662,43 @@ module _ (s : Session) (h : History) (l : ℕ) (I : Inv s h) (closed : T (s .clo
       go true w = absurd (n (eqb-true (d .ctor) (x .ctor) w))
       go false w = unfold conflict-or-ok in (Records.tester-leaves (s .state) l (x .arg) d, refl)
 
-  -- it is said
-  pub assert-says : Before Against s h l → SaysConflict (perform s (Assert l) .answer)
-  unfolding perform done Records.assert atom-t
-  assert-says (a, c, x, p, at′, q, low, n) = go (Ids.is-positive l) refl
+  own-says : (x : TesterApp) (d : CtorApp) → In d (ctor-apps (s .state)) → T (equal (s .state) (x .arg) (d .app)) → d .ctor ≡ x .ctor →
+      SaysConflict (conflict-or-ok (Records.negative-conflict (s .state) l x))
+  unfolding Records.negative-conflict Records.own-app Records.denies
+  own-says x d i e n = go (Records.own-app (s .state) x) refl
     where
-      is-tester : tester-app (s .state .terms) atom-t ≡ some x
-      is-tester = ap (tester-app (s .state .terms)) (atom-one (s .state .terms) (s .state .atoms) h (I .named) l atom-t a at at′) ∙ q
+      own : CtorApp → Bool
+      own c = eqb (c .ctor) (x .ctor) && equal (s .state) (x .arg) (c .app)
 
+      go : (o : Option CtorApp) → Records.own-app (s .state) x ≡ o → SaysConflict (conflict-or-ok (Records.denies (s .state) l x o))
+      go none w = absurd (false-T (own d) (first-none own (ctor-apps (s .state)) d w i)
+          (T-both (eqb (d .ctor) (x .ctor)) (equal (s .state) (x .arg) (d .app)) (true-T (eqb (d .ctor) (x .ctor)) (eq-eqb (d .ctor)
+          (x .ctor) n)) e))
+      go (some c) w = unfold conflict-or-ok in (Records.tester-leaves (s .state) l (x .arg) c, refl)
+
+  -- the answer of a tester's literal is that of its sign
+  sign-says : (a : ℕ) (x : TesterApp) (b : Bool) → IsAtom h l a → tester-app (s .state .terms) a ≡ some x → Ids.is-positive l ≡ b →
+      SaysConflict (conflict-or-ok (Records.assert-tester (s .state) l b x .conflict)) → SaysConflict (perform s (Assert l) .answer)
+  unfolding perform done Records.assert atom-t
+  sign-says a x b at′ q p w =
+      subst⁻¹ (λ (o : Option TesterApp). SaysConflict (conflict-or-ok (Records.assert-atom (s .state) l o .conflict)))
+      (ap (tester-app (s .state .terms)) (atom-one (s .state .terms) (s .state .atoms) h (I .named) l atom-t a at at′) ∙ q)
+      (unfold Records.assert-atom in
+      subst⁻¹ (λ (c : Bool). SaysConflict (conflict-or-ok (Records.assert-tester (s .state) l c x .conflict))) p w)
+
+  -- it is said
+  pub assert-says : Before Against s h l ⊎ Before Denied s h l → SaysConflict (perform s (Assert l) .answer)
+  unfolding Records.assert-tester
+  assert-says (inl (a, c, x, p, at′, q, low, n)) =
+      let (d, f, w) = lowest-stands s h I (x .arg) c low in
+      sign-says a x true at′ q (T-true (Ids.is-positive l) p) (tester-says x d f (apart d f w))
+    where
       apart : (d : CtorApp) → ctor-of-class (s .state) (x .arg) ≡ some d → d .app ≡ c → d .ctor ≡ x .ctor → ⊥
       apart d e w z =
           let C = ctor-app-is (s .state .terms) (d .app) d (class-ctor (s .state) (x .arg) d e .1) in
           n (ap (λ (t : ℕ). term (s .state .terms) t .op) (sym w) ∙ C .op ∙ ap Term.Uninterpreted z)
-
-      tester : (o : Option TesterApp) → tester-app (s .state .terms) atom-t ≡ o →
-          SaysConflict (conflict-or-ok (Records.assert-tester (s .state) l o .conflict))
-      tester none e = absurd (none-some x (sym e ∙ is-tester))
-      tester (some y) e =
-          unfold Records.assert-tester in
-          let (d, f, w) = lowest-stands s h I (x .arg) c low in
-          subst⁻¹ (λ (z : TesterApp). SaysConflict (conflict-or-ok (Records.tester-conflict (s .state) l z)))
-          (some-is y x (sym e ∙ is-tester)) (tester-says x d f (apart d f w))
-
-      go : (b : Bool) → Ids.is-positive l ≡ b →
-          SaysConflict (conflict-or-ok (cond b (Records.assert-tester (s .state) l (tester-app (s .state .terms) atom-t))
-          (record { conflict = none; state = s .state }) .conflict))
-      go true e = tester (tester-app (s .state .terms) atom-t) refl
-      go false e = absurd (false-T (Ids.is-positive l) e p)
+  assert-says (inr (a, c, x, p, at′, q, m, e, o)) =
+      let (d, w, i) = marked-ctor-in s h I c m in
+      let t = subst⁻¹ (λ (z : ℕ). T (equal (s .state) (x .arg) z)) w (now s h I (x .arg) c .1 e) in
+      sign-says a x false at′ q (T-no (Ids.is-positive l) p)
+      (own-says x d i t (op-is (d .ctor) (x .ctor) (sym (ctor-in (s .state) d i .op) ∙ ap (λ (z : ℕ). term (s .state .terms) z .op) w ∙ o)))

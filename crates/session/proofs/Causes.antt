@@ -2,14 +2,15 @@
 use Prim.Native.Nat.{ℕ}
 use mathlib.Core.Path.{_≡_, refl, sym, subst, subst⁻¹, ap, _∙_}
 use mathlib.Core.Logic.{inl, inr}
-use mathlib.Core.Bool.{Bool, false, not}
+use mathlib.Core.Bool.{Bool, true, false, not}
 use mathlib.Core.Option.{Option, none, some}
 use lib.Dec.{T, eqb}
-use borrow.Author.Tests.{eqb-false}
+use borrow.Author.Tests.{eqb-true, eqb-false}
 use Rattle.core.specs.Lists.{any}
+use Rattle.core.specs.Ids as Ids
 use Rattle.core.specs.Term as Term
-use Rattle.core.specs.Context.{CtorApp, term, ctor-app, tester-app}
-use Rattle.core.proofs.Lists.{In, T-and, any-in}
+use Rattle.core.specs.Context.{CtorApp, TesterApp, term, ctor-app, tester-app}
+use Rattle.core.proofs.Lists.{In, T-and, T-true, true-T, any-in}
 use Rattle.theory.proofs.Members.{in-any}
 use Rattle.solver.specs.State.{ctor-apps, ctor-of-class, watched-dt-terms, equal}
 use Rattle.solver.specs.Records.{is-some}
@@ -17,10 +18,11 @@ use Rattle.solver.specs.Rules.{clash, has-undetermined-class}
 use Rattle.solver.proofs.Basics.{gather-in, false-T, T-no}
 use Rattle.solver.proofs.Apps.{op-is, ctor-app-is}
 use Rattle.solver.proofs.Walk.{class-ctor, Stands}
-use Rattle.solver.proofs.Clash.{Against, Caused, ctor-in}
+use Rattle.solver.proofs.Clash.{Against, Denied, Caused, signed-record, ctor-in}
 use Rattle.session.specs.Session.{Session}
-use Rattle.session.specs.History.{History}
-use Rattle.session.specs.Claim.{MarkedCtor, Lowest, ConstructorClash, TesterClash, Clash, Cause, Determined, Undetermined}
+use Rattle.session.specs.Line.{Assert}
+use Rattle.session.specs.History.{History, HoldsNow, IsAtom, EqualNow}
+use Rattle.session.specs.Claim.{MarkedCtor, Lowest, ConstructorClash, TesterClash, NegativeClash, Clash, Cause, Determined, Undetermined}
 use Rattle.session.proofs.Invariant.{Inv}
 use Rattle.session.proofs.Truth.{SaidNow}
 use Rattle.solver.proofs.Clear.{Clear}
@@ -73,9 +75,10 @@ module _ (s : Session) (h : History) (I : Inv s h) where
         λ o. eqb-false (p .ctor) (q .ctor) (T-no (eqb (p .ctor) (q .ctor)) n) (op-is (p .ctor) (q .ctor) (sym (ctor-in (s .state) p i .op) ∙ o ∙ ctor-in (s .state) q j .op)),
       )
 
-  tester : (Said : ℕ → ℕ → Type 0) → SaidNow s h I Said → (k t : ℕ) → Said k t → Against (s .state) t → TesterClash (s .state .terms) (s .state .dt .marks) h
+  tester : (Said : Bool → ℕ → ℕ → Type 0) → SaidNow s h I Said → (k t : ℕ) → Said true k t → Against (s .state) t →
+      TesterClash (s .state .terms) (s .state .dt .marks) h
   tester Said S k t w (x, c, y, q, n) =
-      let (force, at, positive) = S k t w in
+      let (force, at, sign) = S true k t w in
       let C = ctor-app-is (s .state .terms) (c .app) c (class-ctor (s .state) (x .arg) c q .1) in (
         k,
         force,
@@ -83,7 +86,7 @@ module _ (s : Session) (h : History) (I : Inv s h) where
           t,
           c .app,
           x,
-          positive,
+          true-T (Ids.is-positive k) sign,
           at,
           y,
           stands-lowest s h I (x .arg) (c .app) (c, q, refl),
@@ -92,10 +95,31 @@ module _ (s : Session) (h : History) (I : Inv s h) where
         ),
       )
 
-  pub cause-now : (Said : ℕ → ℕ → Type 0) → SaidNow s h I Said → Caused (s .state) Said → Cause (s .state .terms) (s .state .dt .marks) h
+  negative : (Said : Bool → ℕ → ℕ → Type 0) → SaidNow s h I Said → (k t : ℕ) → Said false k t → Denied (s .state) t →
+      NegativeClash (s .state .terms) (s .state .dt .marks) h
+  negative Said S k t w (x, c, y, i, e, o) =
+      let (force, at, sign) = S false k t w in (
+        k,
+        force,
+        (
+          t,
+          c .app,
+          x,
+          subst⁻¹ (λ (b : Bool). T (not b)) sign tt,
+          at,
+          y,
+          in-marked-ctor c i,
+          now s h I (x .arg) (c .app) .0 e,
+          ctor-in (s .state) c i .op ∙ ap Term.Uninterpreted o,
+        ),
+      )
+
+  pub cause-now : (Said : Bool → ℕ → ℕ → Type 0) → SaidNow s h I Said → Caused (s .state) Said →
+      Cause (s .state .terms) (s .state .dt .marks) h
   cause-now Said S (inl (p, q, i, j, t)) = inl (inl (constructors p q i j t))
-  cause-now Said S (inr (inl (k, t, w, a))) = inl (inr (tester Said S k t w a))
-  cause-now Said S (inr (inr r)) = inr (there-ring s h I r)
+  cause-now Said S (inr (inl (k, t, w, a))) = inl (inr (inl (tester Said S k t w a)))
+  cause-now Said S (inr (inr (inl (k, t, w, a)))) = inl (inr (inr (negative Said S k t w a)))
+  cause-now Said S (inr (inr (inr r))) = inr (there-ring s h I r)
 
   -- ---- no clash
 
@@ -103,8 +127,19 @@ module _ (s : Session) (h : History) (I : Inv s h) where
       Term.Uninterpreted (p .ctor)
   app-op c p e i = subst (λ (z : ℕ). term (s .state .terms) z .op ≡ Term.Uninterpreted (p .ctor)) e (ctor-in (s .state) p i .op)
 
+  -- an asserted tester's sign says whether a marked application of its term's class has its constructor
+  sign-is : Asserted (s .state .terms) (s .state .atoms) (signed-record (s .state)) h → Clear (s .state) → (l a c : ℕ) (x : TesterApp) →
+      HoldsNow h (Assert l) → IsAtom h l a → tester-app (s .state .terms) a ≡ some x →
+      MarkedCtor (s .state .terms) (s .state .dt .marks) h c → EqualNow (s .state .terms) h (x .arg) c →
+      (p : CtorApp) × (p .app ≡ c) × In p (ctor-apps (s .state)) × (eqb (p .ctor) (x .ctor) ≡ Ids.is-positive l)
+  sign-is A C l a c x (v, i) at q m e =
+      let (p, y, j) = marked-ctor-in s h I c m in
+      let (w, k, n, u) = A .entry v l a x i at q in
+      let t = subst⁻¹ (λ (z : ℕ). T (equal (s .state) (x .arg) z)) y (now s h I (x .arg) c .1 e) in
+      (p, y, j, C .testers (Ids.is-positive l) w x p k (ap (tester-app (s .state .terms)) n ∙ q) j t)
+
   -- where the definition finds no clash and every asserted tester is recorded, there is none
-  pub clear-now : Asserted (s .state .terms) (s .state .atoms) (s .state .dt .level-record) h → Clear (s .state) →
+  pub clear-now : Asserted (s .state .terms) (s .state .atoms) (signed-record (s .state)) h → Clear (s .state) →
       Clash (s .state .terms) (s .state .dt .marks) h → ⊥
   clear-now A C (inl (c, d, m, n, e, o)) =
       let (p, x, i) = marked-ctor-in s h I c m in
@@ -112,8 +147,9 @@ module _ (s : Session) (h : History) (I : Inv s h) where
       let t = subst⁻¹ (λ (z : ℕ). T (equal (s .state) z (q .app))) x (subst⁻¹ (λ (z : ℕ). T (equal (s .state) c z)) y
       (now s h I c d .1 e)) in
       o (app-op c p x i ∙ ap Term.Uninterpreted (C .constructors p q i j t) ∙ sym (app-op d q y j))
-  clear-now A C (inr (l, (v, i), (a, c, x, positive, at, q, (m, e, low), o))) =
-      let (p, y, j) = marked-ctor-in s h I c m in
-      let (w, k, n, u) = A .entry v l a x i positive at q in
-      let t = subst⁻¹ (λ (z : ℕ). T (equal (s .state) (x .arg) z)) y (now s h I (x .arg) c .1 e) in
-      o (app-op c p y j ∙ ap Term.Uninterpreted (C .testers w x p k (ap (tester-app (s .state .terms)) n ∙ q) j t))
+  clear-now A C (inr (inl (l, f, (a, c, x, positive, at, q, (m, e, low), o)))) =
+      let (p, y, j, t) = sign-is A C l a c x f at q m e in
+      o (app-op c p y j ∙ ap Term.Uninterpreted (eqb-true (p .ctor) (x .ctor) (t ∙ T-true (Ids.is-positive l) positive)))
+  clear-now A C (inr (inr (l, f, (a, c, x, negative, at, q, m, e, o)))) =
+      let (p, y, j, t) = sign-is A C l a c x f at q m e in
+      eqb-false (p .ctor) (x .ctor) (t ∙ T-no (Ids.is-positive l) negative) (op-is (p .ctor) (x .ctor) (sym (app-op c p y j) ∙ o))

@@ -1,5 +1,5 @@
--- Each kind of accepted line keeps two things: what is asserted stands in the level record (Asserted), and marks and atoms handed out are
--- settled (Marking). So the definition's clashes are those of the claim.
+-- Each kind of accepted line keeps two things: what is asserted stands in the record of its sign (Asserted), and marks and atoms handed
+-- out are settled (Marking). So the definition's clashes are those of the claim.
 use Prim.Native.Nat.{ℕ, zero, suc, _≤_, _<_}
 use mathlib.Core.Path.{_≡_, refl, sym, subst, subst⁻¹, ap, _∙_}
 use mathlib.Core.Logic.{_⊎_, inl, inr}
@@ -17,10 +17,9 @@ use Rattle.core.specs.Term.{Term, Op, Eq}
 use Rattle.core.specs.Context.{Context, TesterApp, ctor-app, sel-app, tester-app, is-datatype-sort, sort-of, children, declare-sort, dt-add-constructor, declare-fun, with-symbols, mk-app, mk-eq}
 use Rattle.core.proofs.Lists.{In, T-and}
 use Rattle.theory.specs.Types.{AssertedLeaf}
-use Rattle.theory.specs.EqEngine.{pop-merges}
 use Rattle.theory.specs.Atom as Atom
 use Rattle.theory.specs.Atom.{Registered, var-of-atom}
-use Rattle.solver.specs.State.{State, AssertedTester, with-terms, with-eq, with-atoms, with-level, with-level-record, with-lasting, with-marks, with-dt}
+use Rattle.solver.specs.State.{State, with-terms, with-eq, with-atoms, with-level, with-level-record, with-negative-record, with-lasting, with-marks, with-dt}
 use Rattle.solver.specs.Records as Records
 use Rattle.solver.specs.Records.{is-some, relevant}
 use Rattle.solver.specs.Rules.{TCheck, Sat, Conflict}
@@ -31,23 +30,24 @@ use Rattle.solver.proofs.Terms.{Formed, mk-app-makes}
 use Rattle.solver.proofs.Apps.{tester-app-is}
 use Rattle.solver.proofs.Collection.{Beneath, children-lower, Marks, new-var-marks}
 use Rattle.solver.proofs.Answers.{before-ring-well}
+use Rattle.solver.proofs.Clash.{signed-record}
 use Rattle.session.specs.Line as Line
 use Rattle.session.specs.Line.{Command, DeclareSort, DeclareCtor, DeclareFun, Close, MkTerm, MkEq, Register, Equate, Cong, Iface, Assert, Push, Pop}
-use Rattle.session.specs.Session.{Session, empty-session, term-exists, var-exists, atom-of, before-close, after-close, exist, agree, unregistered, questions, first-no, perform, done, numbered, merged, merge-sides, pop-to}
+use Rattle.session.specs.Session.{Session, empty-session, term-exists, var-exists, atom-of, before-close, after-close, exist, agree, unregistered, questions, first-no, perform, done, numbered, merged, merge-sides, popped, pop-to}
 use Rattle.session.specs.Answer.{Checked}
 use Rattle.session.specs.History.{History, LeafInForce, IsAtom}
-use Rattle.session.specs.Claim.{Against, Clash, Before, After, SaysConflict}
+use Rattle.session.specs.Claim.{Against, Denied, Clash, Before, After, SaysConflict}
 use Rattle.session.proofs.Forces.{kind}
-use Rattle.session.proofs.Invariant.{registered-atom, atom-within, Inv}
+use Rattle.session.proofs.Invariant.{registered-atom, atom-within, popped-record, Inv}
 use Rattle.session.proofs.Causes.{clear-now}
 use Rattle.session.proofs.Accepting.{no-refusal, check-rule, check-state, assert-says}
 use Rattle.solver.proofs.Clear.{Clear, clash-found}
 use Rattle.solver.proofs.Moves.{tester-app-kept}
 use Rattle.solver.proofs.Marking.{CtorAt, Settled, SettledIn, settled-terms, before-ring-keeps, still-clear}
-use Rattle.session.proofs.Asserted.{Asserted, asserted-on, asserted-pop, asserted-register, asserted-more}
+use Rattle.session.proofs.Asserted.{Asserted, asserted-as, asserted-on, asserted-pop, asserted-register, asserted-more}
 
 abbrev pub AssertedIn : State → History → Type 0
-AssertedIn st h = Asserted (st .terms) (st .atoms) (st .dt .level-record) h
+AssertedIn st h = Asserted (st .terms) (st .atoms) (signed-record st) h
 
 pub record Complete (s : Session) (h : History) : Type 0 where
   pub settled : SettledIn (s .state)
@@ -157,16 +157,14 @@ module _ (s : Session) (h : History) (I : Inv s h) (C : Complete s h) where
   sides-complete l (x ∷ y ∷ z ∷ zs) = record { settled = C .settled; asserted = still (Equate l) (λ w. omega arith) (λ w. omega arith) }
 
   pop-complete : (k : ℕ) → Complete (perform s (Pop k) .session) (Pop k ∷ h)
-  unfolding perform done pop-to with-level-record with-eq with-level with-dt kind
+  unfolding perform done pop-to popped with-negative-record with-level-record with-eq with-level with-dt kind
   pop-complete k = go (ltb k (s .state .level))
     where
-      go : (b : Bool) → Complete
-          (record {
-            state = cond b (with-level-record (with-eq (with-level (s .state) k) (pop-merges k (s .state .eq)))
-                (Records.pop-testers k (s .state .dt .level-record))) (s .state);
-            closed = s .closed;
-          }) (Pop k ∷ h)
-      go true = record { settled = C .settled; asserted = asserted-pop k (C .asserted) }
+      go : (b : Bool) → Complete (record { state = cond b (popped (s .state) k) (s .state); closed = s .closed }) (Pop k ∷ h)
+      go true = record {
+        settled = C .settled;
+        asserted = asserted-pop k (signed-record (popped (s .state) k)) (popped-record (s .state) k) (C .asserted);
+      }
       go false = record { settled = C .settled; asserted = still (Pop k) (λ w. omega arith) (λ w. omega arith) }
 
   -- ---- registrations
@@ -231,27 +229,19 @@ module _ (s : Session) (h : History) (I : Inv s h) (C : Complete s h) where
         named = λ u i. lasting u (insert-in u t (s .state .dt .lasting) i);
       }
 
-      noted : SettledIn (Records.record-tester (s .state) t l)
-      noted = unfold Records.record-tester in go (Records.recorded (s .state) t)
-        where
-          go : (b : Bool) → SettledIn (cond b (with-lasting (s .state) (insert t (s .state .dt .lasting)))
-              (with-level-record (with-lasting (s .state) (insert t (s .state .dt .lasting)))
-              (s .state .dt .level-record ++ (record { atom = t; lit = l; level = s .state .level } ∷ []))))
-          go true = unfold with-lasting with-dt in more
-          go false = unfold with-lasting with-level-record with-dt in more
-
-      tester : (o : Option TesterApp) → tester-app (s .state .terms) t ≡ o → SettledIn (Records.assert-tester (s .state) l o .state)
-      tester none e = unfold Records.assert-tester in C .settled
-      tester (some x) e = unfold Records.assert-tester in subst⁻¹ (λ (z : ℕ). SettledIn (Records.record-tester (s .state) z l))
-          (tester-app-is (s .state .terms) t x e .app) noted
+      tester : (b : Bool) (x : TesterApp) → x .app ≡ t → SettledIn (Records.assert-tester (s .state) l b x .state)
+      tester true x e =
+          unfold Records.assert-tester Records.record-tester with-lasting with-level-record with-dt in
+          subst⁻¹ (λ (z : ℕ). Settled (s .state .terms) (s .state .atoms) (s .state .dt .marks) (s .state .dt .emitted)
+          (insert z (s .state .dt .lasting))) e more
+      tester false x e = unfold Records.assert-tester Records.record-negative with-negative-record with-dt in C .settled
 
       settled : SettledIn (Records.assert (s .state) l .state)
-      settled = unfold Records.assert in go (Ids.is-positive l)
+      settled = unfold Records.assert in go (tester-app (s .state .terms) t) refl
         where
-          go : (b : Bool) → SettledIn (cond b (Records.assert-tester (s .state) l (tester-app (s .state .terms) t))
-              (record { conflict = none; state = s .state }) .state)
-          go true = tester (tester-app (s .state .terms) t) refl
-          go false = C .settled
+          go : (o : Option TesterApp) → tester-app (s .state .terms) t ≡ o → SettledIn (Records.assert-atom (s .state) l o .state)
+          go none e = unfold Records.assert-atom in C .settled
+          go (some x) e = unfold Records.assert-atom in tester (Ids.is-positive l) x (tester-app-is (s .state .terms) t x e .app)
 
   -- ---- checks
 
@@ -261,9 +251,8 @@ module _ (s : Session) (h : History) (I : Inv s h) (C : Complete s h) where
     settled = subst⁻¹ SettledIn (check-state s) (before-ring-keeps (s .state) (I .ready) (C .settled) .settled);
     asserted = subst⁻¹ (λ (st : State). AssertedIn st (Line.Check true ∷ h)) (check-state s)
         (subst⁻¹ (λ (rs : List Registered). Asserted (before-ring (s .state) .state .terms) rs
-        (before-ring (s .state) .state .dt .level-record) (Line.Check true ∷ h)) (F .atoms)
-        (subst⁻¹ (λ (es : List AssertedTester). Asserted (before-ring (s .state) .state .terms) (s .state .atoms) es
-        (Line.Check true ∷ h)) (F .entries)
+        (signed-record (before-ring (s .state) .state)) (Line.Check true ∷ h)) (F .atoms)
+        (asserted-as (signed-record (before-ring (s .state) .state)) (F .entries)
         (asserted-on (before-ring (s .state) .state .terms) (Line.Check true) (λ w. omega arith) (λ w. omega arith)
         (λ a l. tester-app-kept (s .state .terms) (before-ring (s .state) .state .terms) a (F .extends) l) (I .named)
         (C .asserted))));
@@ -318,8 +307,8 @@ module _ (s : Session) (h : History) (I : Inv s h) (C : Complete s h) where
       let (ls, e) = clash-found (s .state) (λ c. clear-now s h I (C .asserted) c k) in
       (ls, check-rule s (Conflict ls) e)
 
-  -- so does an assertion of a tester against its class
-  pub assert-said : (l : ℕ) → first-no (questions s (Assert l)) ≡ none → Before Against s h l →
+  -- so does an assertion of a tester against its class, positive or negative
+  pub assert-said : (l : ℕ) → first-no (questions s (Assert l)) ≡ none → Before Against s h l ⊎ Before Denied s h l →
       SaysConflict (perform s (Assert l) .answer)
   unfolding questions after-close exist
   assert-said l e k =
@@ -340,8 +329,8 @@ module _ (s : Session) (h : History) (I : Inv s h) (C : Complete s h) where
           (q ∙ ap {B = Option TCheck} some (answer-is a (sym (check-rule s a q) ∙ e)))
       go none q =
           clear-now (perform s (Line.Check true) .session) (Line.Check true ∷ h) J (check-complete .asserted)
-          (subst⁻¹ Clear (check-state s) (still-clear (s .state) (I .ready) (C .settled) q (λ y i. atom-within (s .state .terms)
-          (s .state .atoms) h (I .named) (y .lit) (y .atom) (I .entries y i .atom)))) k
+          (subst⁻¹ Clear (check-state s) (still-clear (s .state) (I .ready) (C .settled) q (λ b y i. atom-within (s .state .terms)
+          (s .state .atoms) h (I .named) (y .lit) (y .atom) (I .entries b y i .atom)))) k
 
   -- ---- atoms
 

@@ -1,4 +1,4 @@
--- What ties a session to its accepted lines, part by part: names, merges, entries of the level record, marks.
+-- What ties a session to its accepted lines, part by part: names, merges, entries of the records of testers, marks.
 use Prim.Native.Nat.{ℕ, zero, suc, _≤_, _<_}
 use mathlib.Core.Path.{_≡_, refl, sym, subst, subst⁻¹, ap, ap₂, _∙_}
 use mathlib.Core.Logic.{_⊎_, inl, inr, _↔_}
@@ -20,14 +20,14 @@ use Rattle.theory.specs.Atom as Atom
 use Rattle.theory.specs.Atom.{Registered}
 use Rattle.theory.proofs.Members.{in-left, in-right, in-either, in-any}
 use Rattle.theory.proofs.Classes.{Suffix, suffix-self, in-suffix, equal-suffix, pop-suffix, pop-pop, pop-more, merge-equal, Linked, equal-linked, equal-refl, equal-sym, equal-trans}
-use Rattle.solver.specs.State.{AssertedTester}
+use Rattle.solver.specs.State.{State, AssertedTester, with-eq, with-level, with-level-record, with-negative-record, with-dt}
 use Rattle.solver.specs.Records.{relevant, pop-testers}
 use Rattle.solver.proofs.Basics.{first-some, first-none, Ascending, false-T}
 use Rattle.solver.proofs.Terms.{Extends, extends-length, extends-term}
-use Rattle.solver.proofs.Clash.{Ready}
+use Rattle.solver.proofs.Clash.{Ready, signed-record}
 use Rattle.solver.proofs.Collection.{Beneath}
 use Rattle.session.specs.Line.{Command, DeclareSort, DeclareCtor, DeclareFun, Close, MkTerm, MkEq, Register, Equate, Cong, Iface, Assert, Push, Pop, Check}
-use Rattle.session.specs.Session.{Session}
+use Rattle.session.specs.Session.{Session, popped}
 use Rattle.session.specs.History.{History, level, InForce, Accepted, IsAtom, IsEquation, Sides, Chain, EqualNow}
 use Rattle.session.proofs.Forces.{kind, force-on, force-pop, force-other, pop-back, accepted-other}
 
@@ -365,34 +365,53 @@ module _ (cx : Context) (atoms : List Registered) (eq : List Merge) (lvl : ℕ) 
   pub classes-agree : (x y : ℕ) → T (are-equal eq x y) ↔ EqualNow cx h x y
   classes-agree x y = (λ t. let (n, l) = equal-linked eq x y t in (n, linked-chain n x y l), λ c. chain-equal (c .0) x y (c .1))
 
--- ---- the level record
+-- ---- the records of testers
 
-pub record Entry (lvl : ℕ) (h : History) (e : AssertedTester) : Type 0 where
+-- an entry of the record of a sign
+pub record Entry (b : Bool) (lvl : ℕ) (h : History) (e : AssertedTester) : Type 0 where
   pub force : InForce h (e .level) (Assert (e .lit))
   pub atom : IsAtom h (e .lit) (e .atom)
-  pub positive : T (Ids.is-positive (e .lit))
+  pub sign : Ids.is-positive (e .lit) ≡ b
   pub low : e .level ≤ lvl
 
-abbrev pub Entries : List AssertedTester → ℕ → History → Type 0
-Entries es lvl h = (e : AssertedTester) → In e es → Entry lvl h e
+abbrev pub Entries : (Bool → List AssertedTester) → ℕ → History → Type 0
+Entries es lvl h = (b : Bool) (e : AssertedTester) → In e (es b) → Entry b lvl h e
 
-pub entries-on : (es : List AssertedTester) (lvl lvl′ : ℕ) (h : History) (d : Command) → (kind d ≡ 6 → ⊥) → lvl ≤ lvl′ → Entries es lvl h → Entries es lvl′ (d ∷ h)
-entries-on es lvl lvl′ h d n l E e i =
-    let x = E e i in
-    record { force = force-on d h (e .level) (Assert (e .lit)) n (x .force); atom = inr (x .atom); positive = x .positive; low = let q = x .low in omega arith }
+pub entries-on : (es : Bool → List AssertedTester) (lvl lvl′ : ℕ) (h : History) (d : Command) → (kind d ≡ 6 → ⊥) → lvl ≤ lvl′ →
+    Entries es lvl h → Entries es lvl′ (d ∷ h)
+entries-on es lvl lvl′ h d n l E b e i =
+    let x = E b e i in
+    record {
+      force = force-on d h (e .level) (Assert (e .lit)) n (x .force);
+      atom = inr (x .atom);
+      sign = x .sign;
+      low = let q = x .low in omega arith;
+    }
 
-pub entries-pop : (es : List AssertedTester) (lvl k : ℕ) (h : History) → Entries es lvl h → Entries (pop-testers k es) k (Pop k ∷ h)
+pub entries-pop : (es : Bool → List AssertedTester) (lvl k : ℕ) (h : History) → Entries es lvl h →
+    Entries (λ b. pop-testers k (es b)) k (Pop k ∷ h)
 unfolding pop-testers
-entries-pop es lvl k h E e i =
-    let (j, t) = keep-in (λ (x : AssertedTester). leb (x .level) k) es e i in
-    let x = E e j in
+entries-pop es lvl k h E b e i =
+    let (j, t) = keep-in (λ (x : AssertedTester). leb (x .level) k) (es b) e i in
+    let x = E b e j in
     let l = lib.Dec.leb→le (e .level) k t in
-    record { force = force-pop k h (e .level) (Assert (e .lit)) l (x .force); atom = inr (x .atom); positive = x .positive; low = l }
+    record { force = force-pop k h (e .level) (Assert (e .lit)) l (x .force); atom = inr (x .atom); sign = x .sign; low = l }
 
-pub entries-stay : (es : List AssertedTester) (lvl k : ℕ) (h : History) → lvl ≤ k → Entries es lvl h → Entries es lvl (Pop k ∷ h)
-entries-stay es lvl k h l E e i =
-    let x = E e i in
-    record { force = force-pop k h (e .level) (Assert (e .lit)) (let q = x .low in omega arith) (x .force); atom = inr (x .atom); positive = x .positive; low = x .low }
+pub entries-stay : (es : Bool → List AssertedTester) (lvl k : ℕ) (h : History) → lvl ≤ k → Entries es lvl h → Entries es lvl (Pop k ∷ h)
+entries-stay es lvl k h l E b e i =
+    let x = E b e i in
+    record {
+      force = force-pop k h (e .level) (Assert (e .lit)) (let q = x .low in omega arith) (x .force);
+      atom = inr (x .atom);
+      sign = x .sign;
+      low = x .low;
+    }
+
+-- a pop to a lower level takes from the record of either sign
+pub popped-record : (st : State) (k : ℕ) (b : Bool) → signed-record (popped st k) b ≡ pop-testers k (signed-record st b)
+unfolding popped with-negative-record with-level-record with-eq with-level with-dt
+popped-record st k true = refl
+popped-record st k false = refl
 
 -- ---- marks
 
@@ -413,5 +432,5 @@ pub record Inv (s : Session) (h : History) : Type 0 where
   pub ascending : Ascending (s .state .dt .marks)
   pub named : Named (s .state .terms) (s .state .atoms) h
   pub merged : Merged (s .state .terms) (s .state .atoms) (s .state .eq) (s .state .level) h
-  pub entries : Entries (s .state .dt .level-record) (s .state .level) h
+  pub entries : Entries (signed-record (s .state)) (s .state .level) h
   pub marked : AllMarked (s .state .terms) (s .state .dt .marks) h

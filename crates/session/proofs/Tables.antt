@@ -3,18 +3,16 @@ use Prim.Native.Nat.{ℕ}
 use mathlib.Core.Path.{_≡_, refl, sym, subst, subst⁻¹, ap, _∙_}
 use mathlib.Core.Logic.{_⊎_, inl, inr}
 use mathlib.Core.Bool.{Bool, true, false, cond}
-use mathlib.Core.List.{List, [], _∷_, _++_}
+use mathlib.Core.List.{List, [], _∷_}
 use mathlib.Core.Option.{Option, none, some}
 use native.Mathlib.Omega.{arith}
 use native.Mathlib.Decide.{ℕ-discrete}
 use lib.Dec.{T, ltb}
 use Rattle.core.specs.Ids as Ids
-use Rattle.core.specs.Lists.{insert}
 use Rattle.core.specs.Context.{TesterApp, tester-app, children}
 use Rattle.core.proofs.Lists.{In}
 use Rattle.theory.specs.Atom as Atom
-use Rattle.theory.specs.EqEngine.{pop-merges}
-use Rattle.solver.specs.State.{State, with-terms, with-eq, with-atoms, with-level, with-level-record, with-lasting, with-marks, with-dt}
+use Rattle.solver.specs.State.{State, with-terms, with-eq, with-atoms, with-level, with-level-record, with-negative-record, with-lasting, with-marks, with-dt}
 use Rattle.solver.specs.Records as Records
 use Rattle.solver.specs.Check as Check
 use Rattle.solver.proofs.Collection.{Beneath, new-var-marks}
@@ -22,7 +20,7 @@ use Rattle.solver.proofs.Clash.{Ready}
 use Rattle.solver.proofs.Answers.{full-check-well}
 use Rattle.session.specs.Line as Line
 use Rattle.session.specs.Line.{Command, DeclareSort, DeclareCtor, DeclareFun, Close, MkTerm, MkEq, Register, Equate, Cong, Iface, Assert, Push, Pop}
-use Rattle.session.specs.Session.{Session, done, numbered, merged, merge-sides, pop-to, perform, atom-of}
+use Rattle.session.specs.Session.{Session, done, numbered, merged, merge-sides, popped, pop-to, perform, atom-of}
 use Rattle.session.specs.History.{History, Makes, Accepted}
 use Rattle.session.specs.Claim.{Collected, After}
 use Rattle.session.proofs.Accepting.{line-kind}
@@ -41,32 +39,25 @@ sides-same s l (x ∷ y ∷ []) = record { terms = refl; marks = refl }
 sides-same s l (x ∷ y ∷ z ∷ zs) = record { terms = refl; marks = refl }
 
 pop-same : (st : State) (k : ℕ) → Same st (pop-to st k)
-unfolding pop-to with-level-record with-eq with-level with-dt
+unfolding pop-to popped with-negative-record with-level-record with-eq with-level with-dt
 pop-same st k = go (ltb k (st .level))
   where
-    go : (b : Bool) → Same st (cond b (with-level-record (with-eq (with-level st k) (pop-merges k (st .eq))) (Records.pop-testers k (st .dt .level-record))) st)
+    go : (b : Bool) → Same st (cond b (popped st k) st)
     go true = record { terms = refl; marks = refl }
     go false = record { terms = refl; marks = refl }
 
-recorded-same : (st : State) (a l : ℕ) → Same st (Records.record-tester st a l)
-unfolding Records.record-tester with-lasting with-level-record with-dt
-recorded-same st a l = go (Records.recorded st a)
-  where
-    go : (b : Bool) → Same st (cond b (with-lasting st (insert a (st .dt .lasting))) (with-level-record (with-lasting st (insert a (st .dt .lasting))) (st .dt .level-record ++ (record { atom = a; lit = l; level = st .level } ∷ []))))
-    go true = record { terms = refl; marks = refl }
-    go false = record { terms = refl; marks = refl }
+tester-same : (st : State) (l : ℕ) (b : Bool) (x : TesterApp) → Same st (Records.assert-tester st l b x .state)
+unfolding Records.assert-tester Records.record-tester Records.record-negative with-lasting with-level-record with-negative-record with-dt
+tester-same st l true x = record { terms = refl; marks = refl }
+tester-same st l false x = record { terms = refl; marks = refl }
 
 assert-same : (st : State) (l : ℕ) → Same st (Records.assert st l .state)
 unfolding Records.assert
-assert-same st l = go (Ids.is-positive l) (tester-app (st .terms) (Atom.atom (st .atoms) (Ids.var l)))
+assert-same st l = go (tester-app (st .terms) (Atom.atom (st .atoms) (Ids.var l)))
   where
-    tester : (o : Option TesterApp) → Same st (Records.assert-tester st l o .state)
-    tester none = unfold Records.assert-tester in record { terms = refl; marks = refl }
-    tester (some x) = unfold Records.assert-tester in recorded-same st (x .app) l
-
-    go : (b : Bool) (o : Option TesterApp) → Same st (cond b (Records.assert-tester st l o) (record { conflict = none; state = st }) .state)
-    go true o = tester o
-    go false o = record { terms = refl; marks = refl }
+    go : (o : Option TesterApp) → Same st (Records.assert-atom st l o .state)
+    go none = unfold Records.assert-atom in record { terms = refl; marks = refl }
+    go (some x) = unfold Records.assert-atom in tester-same st l (Ids.is-positive l) x
 
 -- ---- each line
 

@@ -16,17 +16,17 @@ use Rattle.core.specs.Term.{Term, Op, Eq}
 use Rattle.core.specs.Context.{Context, term, children, sort-of}
 use Rattle.core.specs.Reading.{Reading, Values, truth, cons, same-value, value, app-value}
 use Rattle.core.proofs.Lists.{In, T-true, true-T}
-use Rattle.theory.specs.Types.{EqJust, Asserted, Congruence, Interface, EqLeaf, AssertedLeaf}
+use Rattle.theory.specs.Types.{EqJust, Asserted, Congruence, Interface, EqLeaf}
 use Rattle.theory.specs.EqEngine.{Merge, are-equal}
 use Rattle.theory.specs.Atom as Atom
 use Rattle.theory.specs.Atom.{Registered}
 use Rattle.theory.proofs.Classes.{equal-refl}
-use Rattle.theory.proofs.Explain.{Labels, Cites, SoundLabel, Sound, TwoTerms}
+use Rattle.theory.proofs.Explain.{Labels, SoundLabel, Sound, TwoTerms}
 use Rattle.solver.proofs.Basics.{none-some, some-is, first-some, false-T}
 use Rattle.solver.proofs.Terms.{Agrees, Formed}
 use Rattle.solver.proofs.Values.{values-of, value-is, same-value-eq}
 use Rattle.solver.proofs.Apps.{equation-is, truth-is}
-use Rattle.solver.proofs.Clash.{Refuted}
+use Rattle.solver.proofs.Clash.{Cited, Refuted}
 use Rattle.solver.proofs.Moves.{SomeLit, SomeTrue, SplitHolds}
 use Rattle.session.specs.Line.{Register, Assert}
 use Rattle.session.specs.Session.{Session}
@@ -82,10 +82,11 @@ two-terms cx F eq a b l m e n = go (differ (children cx a) (children cx b) (same
 -- ---- readings
 
 module _ (s : Session) (h : History) (I : Inv s h) where
-  -- a positive literal that is true makes its atom true
-  pub lit-true : (r : Reading (s .state .terms)) (l t : ℕ) → IsAtom h l t → T (Ids.is-positive l) → LitTrue r h l → value r t ≡ truth true
-  lit-true r l t at p (u, w, e) =
-      ap (value r) (atom-one (s .state .terms) (s .state .atoms) h (I .named) l t u at w) ∙ e ∙ ap truth (T-true (Ids.is-positive l) p)
+  -- in a reading where a literal is true, its atom's value is its sign
+  pub lit-true : (r : Reading (s .state .terms)) (l t : ℕ) (b : Bool) → IsAtom h l t → Ids.is-positive l ≡ b → LitTrue r h l →
+      value r t ≡ truth b
+  lit-true r l t b at p (u, w, e) =
+      ap (value r) (atom-one (s .state .terms) (s .state .atoms) h (I .named) l t u at w) ∙ e ∙ ap truth p
 
   equation-sides : (r : Reading (s .state .terms)) (t x y : ℕ) → t < length (s .state .terms .terms) → IsEquation (s .state .terms) t x y → value r t ≡ truth true → value r x ≡ value r y
   equation-sides r t x y l (p, q) e =
@@ -101,7 +102,8 @@ module _ (s : Session) (h : History) (I : Inv s h) where
       ∙ sym (value-is r b m (F .lower b m))
 
   label-sound : (r : Reading (s .state .terms)) (a b v : ℕ) (j : EqJust) → MergeFrom (s .state .terms) h a b v j → SoundLabel (value r) (LeafTrue r h) j a b
-  label-sound r a b v (Asserted l) (t, i, at, p, w, e) = λ q. equation-sides r t a b w e (lit-true r l t at p q)
+  label-sound r a b v (Asserted l) (t, i, at, p, w, e) = λ q. equation-sides r t a b w e
+      (lit-true r l t true at (T-true (Ids.is-positive l) p) q)
   label-sound r a b v (Congruence ps) (i, l, m, e, z) = λ q. congruent-values r a b l m e (λ p k. q p (subst⁻¹ (λ (zs : List (ℕ × ℕ)). In p zs) z k))
   label-sound r a b v (Interface i g) w = λ q. q a b (v, w)
 
@@ -113,13 +115,13 @@ module _ (s : Session) (h : History) (I : Inv s h) where
   cited a b v (Congruence ps) l w e = absurd e
   cited a b v (Interface i g) l w e = subst⁻¹ (LeafInForce h) e (a, b, (v, w))
 
-  -- literals that were said of tester atoms by lines in force
-  abbrev pub SaidNow : (ℕ → ℕ → Type 0) → Type 0
-  SaidNow Said = (k t : ℕ) → Said k t → HoldsNow h (Assert k) × IsAtom h k t × T (Ids.is-positive k)
+  -- literals that were said, by their sign, of tester atoms by lines in force
+  abbrev pub SaidNow : (Bool → ℕ → ℕ → Type 0) → Type 0
+  SaidNow Said = (b : Bool) (k t : ℕ) → Said b k t → HoldsNow h (Assert k) × IsAtom h k t × (Ids.is-positive k ≡ b)
 
-  leaf-force : (Said : ℕ → ℕ → Type 0) → SaidNow Said → (l : EqLeaf) → Cites (s .state .eq) l ⊎ ((k t : ℕ) × Said k t × (l ≡ AssertedLeaf k)) → LeafInForce h l
+  leaf-force : (Said : Bool → ℕ → ℕ → Type 0) → SaidNow Said → (l : EqLeaf) → Cited (s .state) Said l → LeafInForce h l
   leaf-force Said S l (inl (m, i, w)) = cited (m .a) (m .b) (m .level) (m .just) l (I .merged .from m i) w
-  leaf-force Said S l (inr (k, t, w, e)) = subst⁻¹ (LeafInForce h) e (inr (S k t w .0))
+  leaf-force Said S l (inr (b, k, t, w, e)) = subst⁻¹ (LeafInForce h) e (inr (S b k t w .0))
 
   all-force : (ls : List EqLeaf) → ((l : EqLeaf) → In l ls → LeafInForce h l) → AllInForce h ls
   all-force [] f = tt
@@ -131,10 +133,12 @@ module _ (s : Session) (h : History) (I : Inv s h) where
   each-true r (k ∷ ls) (x, a) l (inr i) = each-true r ls a l i
 
   -- a refutation is a conflict
-  pub conflict-holds : (Said : ℕ → ℕ → Type 0) → SaidNow Said → (ls : List EqLeaf) → Refuted (s .state) Said ls → AllInForce h ls × Impossible (s .state .terms) h ls × (ls ≢ [])
+  pub conflict-holds : (Said : Bool → ℕ → ℕ → Type 0) → SaidNow Said → (ls : List EqLeaf) → Refuted (s .state) Said ls →
+      AllInForce h ls × Impossible (s .state .terms) h ls × (ls ≢ [])
   conflict-holds Said S ls R = (
     all-force ls (λ l i. leaf-force Said S l (R .cites l i)),
-    λ r a. R .impossible r (LeafTrue r h) (merges-sound r) (λ k t w q. lit-true r k t (S k t w .1) (S k t w .2) q) (each-true r ls a),
+    λ r a. R .impossible r (LeafTrue r h) (merges-sound r) (λ b k t w q. lit-true r k t b (S b k t w .1) (S b k t w .2) q)
+        (each-true r ls a),
     R .some-leaf,
   )
 

@@ -5,7 +5,7 @@
 use Prim.Native.Nat.{ℕ, zero, suc, _≤_}
 use mathlib.Core.Path.{_≡_}
 use mathlib.Core.Logic.{_≢_, _⊎_, _↔_}
-use mathlib.Core.Bool.{true}
+use mathlib.Core.Bool.{true, not}
 use mathlib.Core.List.{List, [], _∷_}
 use mathlib.Core.Option.{none, some}
 use lib.Dec.{T}
@@ -94,8 +94,18 @@ module _ (cx : Context) (marks : List ℕ) (h : History) where
   abbrev pub TesterClash : Type 0
   TesterClash = (l : ℕ) × HoldsNow h (Line.Assert l) × Against l
 
+  -- 02 (i): a negative tester literal whose term's class has a marked application of that very constructor
+  abbrev pub Denied : ℕ → Type 0
+  Denied l =
+      (a c : ℕ) × (x : TesterApp) × T (not (is-positive l)) × IsAtom h l a × (tester-app cx a ≡ some x)
+      × MarkedCtor c × EqualNow cx h (x .arg) c × (term cx c .op ≡ Uninterpreted (x .ctor))
+
+  -- 02 (i): an asserted one
+  abbrev pub NegativeClash : Type 0
+  NegativeClash = (l : ℕ) × HoldsNow h (Line.Assert l) × Denied l
+
   abbrev pub Clash : Type 0
-  Clash = ConstructorClash ⊎ TesterClash
+  Clash = ConstructorClash ⊎ (TesterClash ⊎ NegativeClash)
 
   -- what a conflict comes from
   abbrev pub Cause : Type 0
@@ -128,12 +138,12 @@ pub record AtLine (s : Session) (h : History) (line : List ℕ) (p : Performed) 
   -- each cited leaf is in force, a conflict's leaves are true together in no reading, and a conflict is not empty
   pub conflict : (ls : List EqLeaf) → p .answer ≡ Checked (Conflict ls) →
       AllInForce h′ ls × Impossible (p .session .state .terms) h′ ls × (ls ≢ [])
-  -- a conflict has a cause: a constructor clash, a tester clash or a ring
+  -- a conflict has a cause: a constructor clash, a tester clash, a negative tester's clash or a ring
   pub cause : (ls : List EqLeaf) → p .answer ≡ Checked (Conflict ls) → After Cause p h′
-  -- an accepted full check that finds a constructor clash or a tester clash says conflict, and so does an `assert` of such a tester
+  -- an accepted full check that finds a clash says conflict, and so does an `assert` of such a tester, positive or negative
   pub clash : read-line line ≡ some (Line.Check true) → NotRefused (p .answer) → Before Clash s h → SaysConflict (p .answer)
-  pub assert-clash : (l : ℕ) → read-line line ≡ some (Line.Assert l) → NotRefused (p .answer) → Before Against s h l →
-      SaysConflict (p .answer)
+  pub assert-clash : (l : ℕ) → read-line line ≡ some (Line.Assert l) → NotRefused (p .answer) →
+      Before Against s h l ⊎ Before Denied s h l → SaysConflict (p .answer)
   -- each lemma is true in all readings
   pub lemma : (atoms guards : List ℕ) (phases : List Phase) → p .answer ≡ Checked (Split atoms guards phases) →
       Valid (p .session .state .terms) h′ atoms guards

@@ -2,7 +2,7 @@
 use Prim.Native.Nat.{ℕ}
 use Prim.Native.String as S
 use mathlib.Core.Bool.{Bool, _&&_}
-use mathlib.Core.List.{List, [], _∷_}
+use mathlib.Core.List.{List, [], _∷_, _++_}
 use lib.Dec.{T, eqb}
 use lib.ListN.{length}
 use Rattle.core.specs.Lists.{every, same-list}
@@ -159,3 +159,64 @@ idle-pops = record {
 pub idle-pops-accepted : T (holds idle-pops)
 unfolding definitions gives holds idle-pops
 idle-pops-accepted = tt
+
+-- 02 (i): a table of negative testers. The same lines stand before each row: x, y, zero, the successors of y and of zero; as the atoms
+-- of variables x = zero (0), x = the successor of y (1), x = the successor of zero (7), is x zero? (2 and 4), is x a successor? (3),
+-- y = zero (5), is y zero? (6).
+unfoldable pub setting : S.String
+setting = "sort=d\nctor=1\nctor=1,1\nfun=1\nfun=1\nclose=1\nterm=5\nterm=6\nterm=0\nterm=2,1\nterm=2,2\neq=0,2\neq=0,3\neq=0,4\nterm=1,0\nterm=3,0\neq=1,2\nterm=1,1\nvar=0,5\nvar=1,6\nvar=2,8\nvar=3,9\nvar=4,8\nvar=5,10\nvar=6,11\nvar=7,7\n"
+
+-- their answers
+unfoldable pub setting-answers : S.String
+setting-answers = "ok=1\nok=1\nok=1\nok=1\nok=1\nok=1\nterm=0\nterm=1\nterm=2\nterm=3\nterm=4\nterm=5\nterm=6\nterm=7\nterm=8\nterm=9\nterm=10\nterm=11\nok=1\nok=1\nok=1\nok=1\nok=1\nok=1\nok=1\nok=1\n"
+
+-- the lines of a row, and their answers
+pub record Row : Type 0 where
+  pub script : S.String
+  pub answers : S.String
+
+unfoldable pub row-holds : Row → Bool
+row-holds r =
+    same-list (run program-sizes (bytes setting ++ bytes (r .script)) .written) (bytes setting-answers ++ bytes (r .answers))
+
+pub negatives : List Row
+negatives =
+    -- at its `assert`: the literal, then the term explained to the application
+    record { script = "equate=0\nassert=5\n"; answers = "ok=1\nconflict=a5,a0\n" }
+    -- that `assert` is accepted, and its entry stays
+    ∷ record { script = "equate=0\nassert=5\ncheck=1\n"; answers = "ok=1\nconflict=a5,a0\nconflict=a5,a0\n" }
+    -- in the check
+    ∷ record { script = "assert=5\nequate=0\ncheck=1\n"; answers = "ok=1\nok=1\nconflict=a5,a0\n" }
+    -- an application of another constructor is no conflict
+    ∷ record { script = "equate=0\nassert=7\n"; answers = "ok=1\nok=1\n" }
+    -- both signs of an atom are no conflict by themselves
+    ∷ record { script = "assert=4\nassert=5\n"; answers = "ok=1\nok=1\n" }
+    -- the lowest application of its constructor, which is not the lowest of the class
+    ∷ record { script = "equate=0\nequate=2\nassert=7\n"; answers = "ok=1\nok=1\nconflict=a7,a2\n" }
+    -- the lowest of two applications of its constructor
+    ∷ record { script = "equate=14\nequate=2\nassert=7\n"; answers = "ok=1\nok=1\nconflict=a7,a2\n" }
+    -- after constructor clash
+    ∷ record { script = "assert=5\nequate=0\nequate=2\ncheck=1\n"; answers = "ok=1\nok=1\nok=1\nconflict=a0,a2\n" }
+    -- after tester clash, though asserted before it
+    ∷ record { script = "assert=5\nassert=6\nequate=0\ncheck=1\n"; answers = "ok=1\nok=1\nok=1\nconflict=a6,a0\n" }
+    -- in order of assertion
+    ∷ record { script = "assert=13\nassert=5\nequate=0\nequate=10\ncheck=1\n"; answers = "ok=1\nok=1\nok=1\nok=1\nconflict=a13,a10\n" }
+    -- a negative literal of an equation gives no entry
+    ∷ record { script = "assert=1\nequate=0\ncheck=1\n"; answers = "ok=1\nok=1\nsplit=12;;\n" }
+    -- taken back by `pop`: the tester lemma answers
+    ∷ record { script = "push=1\nassert=5\npop=0\nequate=0\ncheck=1\n"; answers = "ok=1\nok=1\nok=1\nok=1\nsplit=12;;\n" }
+    -- not taken back by a `pop` to its level
+    ∷ record { script = "assert=5\npush=1\npop=0\nequate=0\ncheck=1\n"; answers = "ok=1\nok=1\nok=1\nok=1\nconflict=a5,a0\n" }
+    -- the literal that first asserted an atom
+    ∷ record { script = "assert=9\nassert=5\nequate=0\ncheck=1\n"; answers = "ok=1\nok=1\nok=1\nconflict=a9,a0\n" }
+    -- not taken back with a later assertion of the same atom
+    ∷ record { script = "push=1\nassert=5\npush=1\nassert=9\npop=1\nequate=0\ncheck=1\n"; answers = "ok=1\nok=1\nok=1\nok=1\nok=1\nok=1\nconflict=a5,a0\n" }
+    -- asserted again after `pop`: it stands at the end
+    ∷ record { script = "push=1\nassert=5\npop=0\nassert=13\nassert=5\nequate=0\nequate=10\ncheck=1\n"; answers = "ok=1\nok=1\nok=1\nok=1\nok=1\nok=1\nok=1\nconflict=a13,a10\n" }
+    -- asserted again after `pop`, by another variable
+    ∷ record { script = "push=1\nassert=5\npop=0\nassert=9\nequate=0\ncheck=1\n"; answers = "ok=1\nok=1\nok=1\nok=1\nok=1\nconflict=a9,a0\n" }
+    ∷ []
+
+pub negatives-shown : T (every row-holds negatives)
+unfolding definitions setting setting-answers row-holds negatives
+negatives-shown = tt

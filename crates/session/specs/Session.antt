@@ -14,7 +14,7 @@ use Rattle.core.specs.Context.{Made, declare-sort, dt-add-constructor, declare-
 use Rattle.theory.specs.Types.{EqLeaf, EqJust, Asserted, Congruence, Interface}
 use Rattle.theory.specs.EqEngine.{merge, pop-merges, pairs-in-force}
 use Rattle.theory.specs.Atom as Atom
-use Rattle.solver.specs.State.{State, empty-state, with-terms, with-eq, with-atoms, with-level, with-level-record, equal}
+use Rattle.solver.specs.State.{State, empty-state, with-terms, with-eq, with-atoms, with-level, with-level-record, with-negative-record, equal}
 use Rattle.solver.specs.Records as Records
 use Rattle.solver.specs.Rules.{Conflict}
 use Rattle.solver.specs.Check as Check
@@ -160,12 +160,17 @@ unfoldable pub conflict-or-ok : Option (List EqLeaf) → Answer
 conflict-or-ok none = Ok
 conflict-or-ok (some ls) = Checked (Conflict ls)
 
--- `pop` to K restores classes, forest and level record of that level; K at or above the level count changes nothing
+-- what is left of level K or lower
+unfoldable pub popped : State → ℕ → State
+popped st k =
+    let testers = Records.pop-testers k in
+    with-negative-record
+    (with-level-record (with-eq (with-level st k) (pop-merges k (st .eq))) (testers (st .dt .level-record)))
+    (testers (st .dt .negative-record))
+
+-- `pop` to K restores classes, forest and the records by levels; K at or above the level count changes nothing
 unfoldable pub pop-to : State → ℕ → State
-pop-to st k =
-    cond (ltb k (st .level))
-    (with-level-record (with-eq (with-level st k) (pop-merges k (st .eq))) (Records.pop-testers k (st .dt .level-record)))
-    st
+pop-to st k = cond (ltb k (st .level)) (popped st k) st
 
 unfoldable pub perform : Session → Command → Performed
 perform s (DeclareSort n) = done s Ok (with-terms (s .state) (declare-sort (s .state .terms) n))
@@ -210,5 +215,5 @@ unfoldable pub step : Session → List ℕ → Performed
 step s line = answer-read s (read-line line)
 
 unfoldable pub session-definitions : Unit {0}
-unfolding empty-session sort-exists symbol-exists term-exists var-exists atom-of argument-pairs before-close after-close exist agree one-sort unregistered equation congruent inhabited questions first-no done numbered merged merge-sides conflict-or-ok pop-to perform fits refused if-fits asked answer-read step
+unfolding empty-session sort-exists symbol-exists term-exists var-exists atom-of argument-pairs before-close after-close exist agree one-sort unregistered equation congruent inhabited questions first-no done numbered merged merge-sides conflict-or-ok popped pop-to perform fits refused if-fits asked answer-read step
 session-definitions = tt

@@ -20,7 +20,7 @@ use crate::solving::var_line;
 use core::limits::MAX_LEVELS;
 ghost use Rattle.session.specs.Memory.Sessions.{beside, Performable, Performs, Steppable, Steps};
 
-// A line that was read is answered: `counts` has the mark counts of the level record, `closed` whether a `close` was accepted.
+// A line that was read is answered: `counts` has the mark counts of the records of testers, `closed` whether a `close` was accepted.
 fn perform(
     c: &mut [u32],
     e: &mut [u32],

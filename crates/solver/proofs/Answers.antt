@@ -10,13 +10,13 @@ use Rattle.core.proofs.Lists.{In, true-T}
 use Rattle.theory.specs.Types.{EqLeaf}
 use Rattle.theory.specs.EqEngine.{explain, firsts}
 use Rattle.solver.specs.State.{State, AssertedTester, ctor-apps}
-use Rattle.solver.specs.Records.{tester-conflict}
-use Rattle.solver.specs.Rules.{TCheck, Sat, Conflict, Unknown, Ruled, pass, answered, go-on, then, clash, clash-answer, constructor-clash, conflict-of, tester-clash-at, tester-clash, instantiate-injectivity-selectors, collapse-lemma, tester-lemma, instantiate-constructor, exhaustiveness-split, has-undetermined-class, unknown-fence}
+use Rattle.solver.specs.Records.{tester-conflict, negative-conflict}
+use Rattle.solver.specs.Rules.{TCheck, Sat, Conflict, Unknown, Ruled, pass, answered, go-on, then, clash, clash-answer, constructor-clash, conflict-of, tester-clash-at, tester-clash, negative-clash-at, negative-clash, instantiate-injectivity-selectors, collapse-lemma, tester-lemma, instantiate-constructor, exhaustiveness-split, has-undetermined-class, unknown-fence}
 use Rattle.solver.specs.Ring.{Edge, constructor-graph-find-cycle, acyclicity-conflict}
 use Rattle.solver.specs.Check.{before-ring, ring-answer, Checked, or-ring, full-check}
 use Rattle.solver.proofs.Basics.{none-some, some-none, first-some, pairs-in}
 use Rattle.solver.proofs.Walk.{HasRing, WalkSays, walk-says, ringed-ring}
-use Rattle.solver.proofs.Clash.{Ready, Refuted, Recorded, clash-refuted, tester-refuted, ring-refuted}
+use Rattle.solver.proofs.Clash.{Ready, Refuted, Recorded, clash-refuted, tester-refuted, negative-refuted, ring-refuted}
 use Rattle.solver.proofs.Moves.{Follows, follows-self, follows-ready, AnswerHolds, RuledWell, pass-well, answered-well, base-well, then-well, try-well}
 use Rattle.solver.proofs.Lemmas.{collapse-well, tester-lemma-well, instantiate-constructor-well, injectivity-follows, exhaustiveness-well}
 
@@ -44,6 +44,14 @@ module _ (s : State) (R : Ready s) where
   tester-at e i (some x) q =
       conflict-well (tester-conflict s (e .lit) x) (λ ls w. tester-refuted s R (Recorded s) (e .lit) (e .atom) x ls q (e, i, refl, refl) w)
 
+  negative-at : (e : AssertedTester) → In e (s .dt .negative-record) → (o : Option TesterApp) → tester-app (s .terms) (e .atom) ≡ o →
+      RuledWell s (negative-clash-at (e .lit) o s)
+  unfolding negative-clash-at
+  negative-at e i none q = pass-well s s (follows-self s (R .formed))
+  negative-at e i (some x) q =
+      conflict-well (negative-conflict s (e .lit) x)
+      (λ ls w. negative-refuted s R (Recorded s) (e .lit) (e .atom) x ls q (e, i, refl, refl) w)
+
   unknown-well : RuledWell s (unknown-fence s)
   unfolding unknown-fence
   unknown-well = go (has-undetermined-class s) refl
@@ -57,7 +65,17 @@ unfolding tester-clash
 tester-clash-well s R =
     try-well s (λ (e : AssertedTester) s′. tester-clash-at (e .lit) (tester-app (s′ .terms) (e .atom)) s′) (s .dt .level-record)
     (λ e i s′ f. base-well s s′ (tester-clash-at (e .lit) (tester-app (s′ .terms) (e .atom)) s′) f
-    (tester-at s′ (follows-ready s s′ f R) e (subst⁻¹ (λ (es : List AssertedTester). In e es) (f .entries) i) (tester-app (s′ .terms) (e .atom)) refl))
+    (tester-at s′ (follows-ready s s′ f R) e (subst⁻¹ (λ (es : List AssertedTester). In e es) (f .entries true) i)
+    (tester-app (s′ .terms) (e .atom)) refl))
+    s (follows-self s (R .formed))
+
+negative-clash-well : (s : State) → Ready s → RuledWell s (negative-clash s)
+unfolding negative-clash
+negative-clash-well s R =
+    try-well s (λ (e : AssertedTester) s′. negative-clash-at (e .lit) (tester-app (s′ .terms) (e .atom)) s′) (s .dt .negative-record)
+    (λ e i s′ f. base-well s s′ (negative-clash-at (e .lit) (tester-app (s′ .terms) (e .atom)) s′) f
+    (negative-at s′ (follows-ready s s′ f R) e (subst⁻¹ (λ (es : List AssertedTester). In e es) (f .entries false) i)
+    (tester-app (s′ .terms) (e .atom)) refl))
     s (follows-self s (R .formed))
 
 -- one rule after another
@@ -69,6 +87,7 @@ unfolding before-ring
 before-ring-well s R =
     and-then s (constructor-clash s) _ R (constructor-clash-well s R) λ s R.
     and-then s (tester-clash s) _ R (tester-clash-well s R) λ s R.
+    and-then s (negative-clash s) _ R (negative-clash-well s R) λ s R.
     and-then s (pass (instantiate-injectivity-selectors s)) _ R (pass-well s (instantiate-injectivity-selectors s) (injectivity-follows s R)) λ s R.
     and-then s (collapse-lemma s) _ R (collapse-well s R) λ s R.
     and-then s (tester-lemma s) _ R (tester-lemma-well s R) λ s R.
@@ -103,6 +122,7 @@ unfolding before-ring
 before-ring-determined s =
     then-determined (constructor-clash s) _ λ s.
     then-determined (tester-clash s) _ λ s.
+    then-determined (negative-clash s) _ λ s.
     then-determined (pass (instantiate-injectivity-selectors s)) _ λ s.
     then-determined (collapse-lemma s) _ λ s.
     then-determined (tester-lemma s) _ λ s.

@@ -1,16 +1,16 @@
--- Conflicts: the leaves of a constructor clash, a tester clash and a ring are true together in no reading. Values of two
--- constructors differ, a tester true of a value names its constructor, and a value is smaller than what is built over it.
+-- Conflicts: the leaves of a constructor clash, a tester's clash of either sign and a ring are true together in no reading. Values of
+-- two constructors differ, a tester is true of the values of its constructor and of no others, and a value is smaller than what is
+-- built over it.
 use Prim.Native.Nat.{ℕ, suc, _+_, _≤_, _<_}
 use mathlib.Core.Path.{_≡_, refl, sym, subst, subst⁻¹, ap, _∙_}
 use mathlib.Core.Logic.{_⊎_, inl, inr, _≢_}
-use mathlib.Core.Bool.{Bool, true, false, cond, not}
+use mathlib.Core.Bool.{Bool, true, false, cond, not, _&&_}
 use mathlib.Core.List.{List, [], _∷_, cons≢nil}
 use mathlib.Core.Option.{Option, none, some}
 use native.Mathlib.Omega.{arith}
-use lib.Dec.{T, eqb}
+use lib.Dec.{T, eqb, eqb→eq}
 use borrow.Author.Tests.{eqb-true, eqb-false}
 use Rattle.core.specs.Lists.{keep}
-use Rattle.core.specs.Term as Term
 use Rattle.core.specs.Context.{Context, CtorApp, TesterApp, term, ctor-app, tester-app, is-datatype-sort, sort-of}
 use Rattle.core.specs.Reading.{Value, Values, truth, element, tree, nil, cons, Reading, built-by, value}
 use Rattle.core.proofs.Lists.{In, T-and, keep-in}
@@ -19,10 +19,10 @@ use Rattle.theory.specs.EqEngine.{Merge, explain, firsts}
 use Rattle.theory.proofs.Members.{in-left, in-right, in-either}
 use Rattle.theory.proofs.Explain.{Cites, Justified, Sound, TwoTerms, explain-cites, explain-forces, explain-nonempty, firsts-in, firsts-empty}
 use Rattle.solver.specs.State.{State, AssertedTester, ctor-apps, ctor-of-class, equal}
-use Rattle.solver.specs.Records.{tester-leaves, disagrees, tester-conflict}
+use Rattle.solver.specs.Records.{tester-leaves, disagrees, tester-conflict, own-app, denies, negative-conflict}
 use Rattle.solver.specs.Rules.{clash}
 use Rattle.solver.specs.Ring.{Edge, kids, edge-leaves, acyclicity-conflict}
-use Rattle.solver.proofs.Basics.{none-some, some-is, gather-in, reverse-in, by-test, T-no}
+use Rattle.solver.proofs.Basics.{none-some, some-is, first-some, gather-in, reverse-in, by-test, T-no}
 use Rattle.solver.proofs.Terms.{Formed}
 use Rattle.solver.proofs.Signature.{Signed}
 use Rattle.solver.proofs.Values.{values-of}
@@ -40,22 +40,37 @@ pub record Ready (s : State) : Type 0 where
 abbrev pub Against : State → ℕ → Type 0
 Against s t = (x : TesterApp) × (c : CtorApp) × (tester-app (s .terms) t ≡ some x) × (ctor-of-class s (x .arg) ≡ some c) × (c .ctor ≡ x .ctor → ⊥)
 
--- why there is a conflict: two marked applications, a tester that was said, or a ring
-abbrev pub Caused : State → (ℕ → ℕ → Type 0) → Type 0
+-- the class of the tester application t's term has a marked application of that very constructor
+abbrev pub Denied : State → ℕ → Type 0
+Denied s t =
+    (x : TesterApp) × (c : CtorApp) × (tester-app (s .terms) t ≡ some x) × In c (ctor-apps s) × T (equal s (x .arg) (c .app))
+    × (c .ctor ≡ x .ctor)
+
+-- why there is a conflict: two marked applications, a tester that was said to be true, one that was said to be false, or a ring
+abbrev pub Caused : State → (Bool → ℕ → ℕ → Type 0) → Type 0
 Caused s Said =
     ((p q : CtorApp) × In p (ctor-apps s) × In q (ctor-apps s) × T (clash s (p, q)))
-    ⊎ (((k t : ℕ) × Said k t × Against s t) ⊎ HasRing s)
+    ⊎ (((k t : ℕ) × Said true k t × Against s t) ⊎ (((k t : ℕ) × Said false k t × Denied s t) ⊎ HasRing s))
+
+-- a leaf is that of a merge, or a literal that was said, by its sign, of a tester atom
+abbrev pub Cited : State → (Bool → ℕ → ℕ → Type 0) → EqLeaf → Type 0
+Cited s Said l = Cites (s .eq) l ⊎ ((b : Bool) × (k t : ℕ) × Said b k t × (l ≡ AssertedLeaf k))
 
 -- The leaves are those of merges, or literals that were said of tester atoms; whoever takes them for true is refuted; and there is one.
-pub record Refuted (s : State) (Said : ℕ → ℕ → Type 0) (ls : List EqLeaf) : Type 1 where
-  pub cites : (l : EqLeaf) → In l ls → Cites (s .eq) l ⊎ ((k t : ℕ) × Said k t × (l ≡ AssertedLeaf k))
-  pub impossible : (r : Reading (s .terms)) (True : EqLeaf → Type 0) → Sound (value r) True (s .eq) → ((k t : ℕ) → Said k t → True (AssertedLeaf k) → value r t ≡ truth true) → ((l : EqLeaf) → In l ls → True l) → ⊥
+pub record Refuted (s : State) (Said : Bool → ℕ → ℕ → Type 0) (ls : List EqLeaf) : Type 1 where
+  pub cites : (l : EqLeaf) → In l ls → Cited s Said l
+  pub impossible : (r : Reading (s .terms)) (True : EqLeaf → Type 0) → Sound (value r) True (s .eq) →
+      ((b : Bool) (k t : ℕ) → Said b k t → True (AssertedLeaf k) → value r t ≡ truth b) → ((l : EqLeaf) → In l ls → True l) → ⊥
   pub some-leaf : ls ≢ []
   pub cause : Caused s Said
 
--- an entry of the level record
-abbrev pub Recorded : State → ℕ → ℕ → Type 0
-Recorded s k t = (e : AssertedTester) × In e (s .dt .level-record) × (e .lit ≡ k) × (e .atom ≡ t)
+-- the record of the testers of a sign: the level record has those that were said to be true
+abbrev pub signed-record : State → Bool → List AssertedTester
+signed-record s b = cond b (s .dt .level-record) (s .dt .negative-record)
+
+-- an entry of it
+abbrev pub Recorded : State → Bool → ℕ → ℕ → Type 0
+Recorded s b k t = (e : AssertedTester) × In e (signed-record s b) × (e .lit ≡ k) × (e .atom ≡ t)
 
 pub ctor-in : (s : State) (c : CtorApp) → In c (ctor-apps s) → IsCtor (s .terms) (c .app) c
 unfolding ctor-apps
@@ -64,9 +79,18 @@ ctor-in s c i =
     let k = ctor-app-is (s .terms) u c p in
     subst⁻¹ (λ (z : ℕ). IsCtor (s .terms) z c) (k .app) k
 
+-- the application that a negative tester is against
+pub own-is : (s : State) (x : TesterApp) (c : CtorApp) → own-app s x ≡ some c →
+    In c (ctor-apps s) × T (equal s (x .arg) (c .app)) × (c .ctor ≡ x .ctor)
+unfolding own-app
+own-is s x c e =
+    let (i, t) = first-some (λ (d : CtorApp). eqb (d .ctor) (x .ctor) && equal s (x .arg) (d .app)) (ctor-apps s) c e in
+    let (n, k) = T-and (eqb (c .ctor) (x .ctor)) (equal s (x .arg) (c .app)) t in
+    (i, k, eqb→eq (c .ctor) (x .ctor) n)
+
 module _ (s : State) (R : Ready s) where
   -- leaves of an explanation
-  explained-cites : (Said : ℕ → ℕ → Type 0) (x y : ℕ) (l : EqLeaf) → In l (firsts (explain (s .eq) x y)) → Cites (s .eq) l ⊎ ((k t : ℕ) × Said k t × (l ≡ AssertedLeaf k))
+  explained-cites : (Said : Bool → ℕ → ℕ → Type 0) (x y : ℕ) (l : EqLeaf) → In l (firsts (explain (s .eq) x y)) → Cited s Said l
   explained-cites Said x y l i = inl (explain-cites (s .eq) x y l (firsts-in (explain (s .eq) x y) l .0 i))
 
   forced : (r : Reading (s .terms)) (True : EqLeaf → Type 0) (x y : ℕ) → Sound (value r) True (s .eq) → T (equal s x y) → ((l : EqLeaf) → In l (explain (s .eq) x y) → True l) → value r x ≡ value r y
@@ -82,7 +106,8 @@ module _ (s : State) (R : Ready s) where
   same-op : (p q : CtorApp) → IsCtor (s .terms) (p .app) p → IsCtor (s .terms) (q .app) q → p .app ≡ q .app → p .ctor ≡ q .ctor
   same-op p q P Q e = op-is (p .ctor) (q .ctor) (sym (P .op) ∙ ap (λ (t : ℕ). term (s .terms) t .op) e ∙ Q .op)
 
-  pub clash-refuted : (Said : ℕ → ℕ → Type 0) (p q : CtorApp) → In p (ctor-apps s) → In q (ctor-apps s) → T (clash s (p, q)) → Refuted s Said (firsts (explain (s .eq) (p .app) (q .app)))
+  pub clash-refuted : (Said : Bool → ℕ → ℕ → Type 0) (p q : CtorApp) → In p (ctor-apps s) → In q (ctor-apps s) → T (clash s (p, q)) →
+      Refuted s Said (firsts (explain (s .eq) (p .app) (q .app)))
   unfolding clash
   clash-refuted Said p q i j t = go (T-and (not (eqb (p .ctor) (q .ctor))) (equal s (p .app) (q .app)) t) (ctor-in s p i) (ctor-in s q j)
     where
@@ -99,54 +124,72 @@ module _ (s : State) (R : Ready s) where
         cause = inl (p, q, i, j, t);
       }
 
-  -- ---- tester clash
+  -- ---- testers
 
-  -- a tester's term whose value is another constructor's
-  built-apart : {E : Type 0} (v : Value E) (c d : ℕ) (vs : Values E) → v ≡ tree d vs → (d ≡ c → ⊥) → Path (Value E) (truth (built-by c v)) (truth true) → ⊥
+  -- of a value of the constructor d, a tester says whether d is its constructor
+  built-is : {E : Type 0} (v : Value E) (c d : ℕ) (vs : Values E) (b : Bool) → v ≡ tree d vs →
+      Path (Value E) (truth (built-by c v)) (truth b) → eqb c d ≡ b
   unfolding built-by
-  built-apart v c d vs e n h =
-      n (sym (eqb-true c d (sym (ap (built-by c) e) ∙ truth-is (built-by c v) true h)))
+  built-is v c d vs b e h = sym (ap (built-by c) e) ∙ truth-is (built-by c v) b h
 
-  disagreement : (Said : ℕ → ℕ → Type 0) (l : ℕ) (x : TesterApp) (o : Option CtorApp) (ls : List EqLeaf) → ctor-of-class s (x .arg) ≡ o → tester-app (s .terms) (x .app) ≡ some x → Said l (x .app) → disagrees s l x o ≡ some ls → Refuted s Said ls
-  unfolding disagrees tester-leaves
-  disagreement Said l x none ls q y w e = absurd (none-some ls e)
-  disagreement Said l x (some c) ls q y w e = go (eqb (c .ctor) (x .ctor)) refl e
-    where
-      leaves : List EqLeaf
-      leaves = AssertedLeaf l ∷ explain (s .eq) (x .arg) (c .app)
+  -- the tester application t, which the literal l says something of
+  module _ (Said : Bool → ℕ → ℕ → Type 0) (l t : ℕ) (x : TesterApp) (ls : List EqLeaf) (y : tester-app (s .terms) t ≡ some x) where
+    -- an application of its term's class that does not go with the literal's sign
+    sign-refuted : (b : Bool) (c : CtorApp) → Said b l t → IsCtor (s .terms) (c .app) c → T (equal s (x .arg) (c .app)) →
+        (eqb (x .ctor) (c .ctor) ≡ b → ⊥) → Caused s Said → Refuted s Said (tester-leaves s l (x .arg) c)
+    unfolding tester-leaves
+    sign-refuted b c w C q n z = record {
+      cites = λ k i. cited k (firsts-in leaves k .0 i);
+      impossible = λ r True S H h. n (built-is (value r (x .arg)) (x .ctor) (c .ctor) (values-of r (c .fields)) b
+          (forced r True (x .arg) (c .app) S q (λ k i. h k (firsts-in leaves k .1 (inr i)))
+          ∙ ctor-value r (R .formed) (c .app) (c .ctor) (c .fields) (C .op) (C .args) (C .role))
+          (sym (test-value r (R .formed) t (x .tester) (x .ctor) (x .arg) (X .rest) (X .op) (X .args) (X .role))
+          ∙ H b l t w (h (AssertedLeaf l) (firsts-in leaves (AssertedLeaf l) .1 (inl refl)))));
+      some-leaf = λ e. cons≢nil (firsts-empty leaves e);
+      cause = z;
+    }
+      where
+        leaves : List EqLeaf
+        leaves = AssertedLeaf l ∷ explain (s .eq) (x .arg) (c .app)
 
-      cited : (k : EqLeaf) → In k leaves → Cites (s .eq) k ⊎ ((j t : ℕ) × Said j t × (k ≡ AssertedLeaf j))
-      cited k (inl z) = inr (l, x .app, w, z)
-      cited k (inr i) = inl (explain-cites (s .eq) (x .arg) (c .app) k i)
+        X : IsTester (s .terms) t x
+        X = tester-app-is (s .terms) t x y
 
-      C : IsCtor (s .terms) (c .app) c
-      C = ctor-app-is (s .terms) (c .app) c (class-ctor s (x .arg) c q .1)
+        cited : (k : EqLeaf) → In k leaves → Cited s Said k
+        cited k (inl e) = inr (b, l, t, w, e)
+        cited k (inr i) = inl (explain-cites (s .eq) (x .arg) (c .app) k i)
 
-      X : IsTester (s .terms) (x .app) x
-      X = tester-app-is (s .terms) (x .app) x y
+    disagreement : (o : Option CtorApp) → ctor-of-class s (x .arg) ≡ o → Said true l t → disagrees s l x o ≡ some ls → Refuted s Said ls
+    unfolding disagrees
+    disagreement none q w e = absurd (none-some ls e)
+    disagreement (some c) q w e = go (eqb (c .ctor) (x .ctor)) refl e
+      where
+        refuted : (c .ctor ≡ x .ctor → ⊥) → Refuted s Said (tester-leaves s l (x .arg) c)
+        refuted n =
+            let (i, g, k) = class-ctor s (x .arg) c q in
+            sign-refuted true c w (ctor-app-is (s .terms) (c .app) c g) k (λ z. n (sym (eqb-true (x .ctor) (c .ctor) z)))
+            (inr (inl (l, t, w, (x, c, y, q, n))))
 
-      refuted : eqb (c .ctor) (x .ctor) ≡ false → Refuted s Said (firsts leaves)
-      refuted n = record {
-        cites = λ k i. cited k (firsts-in leaves k .0 i);
-        impossible = λ r True S H h. built-apart (value r (x .arg)) (x .ctor) (c .ctor) (values-of r (c .fields))
-            (forced r True (x .arg) (c .app) S (class-ctor s (x .arg) c q .2) (λ k i. h k (firsts-in leaves k .1 (inr i)))
-            ∙ ctor-value r (R .formed) (c .app) (c .ctor) (c .fields) (C .op) (C .args) (C .role))
-            (eqb-false (c .ctor) (x .ctor) n)
-            (sym (test-value r (R .formed) (x .app) (x .tester) (x .ctor) (x .arg) (X .rest) (X .op) (X .args) (X .role))
-            ∙ H l (x .app) w (h (AssertedLeaf l) (firsts-in leaves (AssertedLeaf l) .1 (inl refl))));
-        some-leaf = λ z. cons≢nil (firsts-empty leaves z);
-        cause = inr (inl (l, x .app, w, (x, c, y, q, eqb-false (c .ctor) (x .ctor) n)));
-      }
+        go : (b : Bool) → eqb (c .ctor) (x .ctor) ≡ b → cond b none (some (tester-leaves s l (x .arg) c)) ≡ some ls → Refuted s Said ls
+        go true n z = absurd (none-some ls z)
+        go false n z = subst (Refuted s Said) (some-is (tester-leaves s l (x .arg) c) ls z) (refuted (eqb-false (c .ctor) (x .ctor) n))
 
-      go : (b : Bool) → eqb (c .ctor) (x .ctor) ≡ b → cond b none (some (firsts leaves)) ≡ some ls → Refuted s Said ls
-      go true n z = absurd (none-some ls z)
-      go false n z = subst (Refuted s Said) (some-is (firsts leaves) ls z) (refuted n)
+    pub tester-refuted : Said true l t → tester-conflict s l x ≡ some ls → Refuted s Said ls
+    unfolding tester-conflict
+    tester-refuted w e = disagreement (ctor-of-class s (x .arg)) refl w e
 
-  pub tester-refuted : (Said : ℕ → ℕ → Type 0) (l t : ℕ) (x : TesterApp) (ls : List EqLeaf) → tester-app (s .terms) t ≡ some x → Said l t → tester-conflict s l x ≡ some ls → Refuted s Said ls
-  unfolding tester-conflict
-  tester-refuted Said l t x ls q w e =
-      let X = tester-app-is (s .terms) t x q in
-      disagreement Said l x (ctor-of-class s (x .arg)) ls refl (subst⁻¹ (λ (z : ℕ). tester-app (s .terms) z ≡ some x) (X .app) q) (subst⁻¹ (Said l) (X .app) w) e
+    denial : (o : Option CtorApp) → own-app s x ≡ o → Said false l t → denies s l x o ≡ some ls → Refuted s Said ls
+    unfolding denies
+    denial none q w e = absurd (none-some ls e)
+    denial (some c) q w e =
+        let (i, k, z) = own-is s x c q in
+        subst (Refuted s Said) (some-is (tester-leaves s l (x .arg) c) ls e)
+        (sign-refuted false c w (ctor-in s c i) k (λ n. eqb-false (x .ctor) (c .ctor) n (sym z))
+        (inr (inr (inl (l, t, w, (x, c, y, i, k, z))))))
+
+    pub negative-refuted : Said false l t → negative-conflict s l x ≡ some ls → Refuted s Said ls
+    unfolding negative-conflict
+    negative-refuted w e = denial (own-app s x) refl w e
 
 -- ---- sizes of values
 
@@ -244,14 +287,14 @@ module _ (s : State) (R : Ready s) where
       let C = ctor-app-is (s .terms) a c p in
       R .formed .lower a (app-within (s .terms) a (c .ctor) (C .op)) f (subst⁻¹ (λ (zs : List ℕ). In f zs) (C .args) (kid-field (s .terms) c f i .0))
 
-  pub ring-refuted : (Said : ℕ → ℕ → Type 0) (es : List Edge) → Ringed s es → Refuted s Said (acyclicity-conflict s es)
+  pub ring-refuted : (Said : Bool → ℕ → ℕ → Type 0) (es : List Edge) → Ringed s es → Refuted s Said (acyclicity-conflict s es)
   unfolding acyclicity-conflict
   ring-refuted Said es G = record {
     cites = λ l i. inl (edges-cite (s .eq) es l (firsts-in (edge-leaves (s .eq) es) l .0 i));
     impossible = λ r True S H h. ring-falls (λ t. size (value r t)) (kid-size r) es G
         (λ e i. ap (λ (v : Value (r .Element)). size v) (forced s R r True (e .field) (e .app) S (edge-equal e (ringed-edge es G e i)) (λ l j. h l (firsts-in (edge-leaves (s .eq) es) l .1 (edge-in (s .eq) es e l i j)))));
     some-leaf = λ z. ring-falls (λ t. t) kid-lower es G (λ e i. alone e i (firsts-empty (edge-leaves (s .eq) es) z));
-    cause = inr (inr (ringed-ring s es G));
+    cause = inr (inr (inr (ringed-ring s es G)));
   }
     where
       alone : (e : Edge) → In e es → edge-leaves (s .eq) es ≡ [] → e .field ≡ e .app

@@ -1,24 +1,25 @@
--- The two clashes are tried first. Each leaves the state as it is and answers conflict or nothing, so a check that finds a clash says
--- so; where neither answers, the marked applications of a class have one constructor, and recorded testers agree with it.
+-- The clashes are tried first. Each leaves the state as it is and answers conflict or nothing, so a check that finds a clash says so;
+-- where none answers, the marked applications of a class have one constructor, and recorded testers of either sign agree with it.
 use Prim.Native.Nat.{ℕ}
 use mathlib.Core.Path.{_≡_, refl, sym, subst, subst⁻¹, ap, _∙_}
 use mathlib.Core.Logic.{_⊎_, inl, inr}
-use mathlib.Core.Bool.{Bool, true, false, cond, not}
+use mathlib.Core.Bool.{Bool, true, false, cond, not, _&&_}
 use mathlib.Core.List.{List, [], _∷_}
 use mathlib.Core.Option.{Option, none, some}
 use lib.Dec.{T, eqb}
-use borrow.Author.Tests.{eqb-true}
+use borrow.Author.Tests.{eqb-true, eq-eqb}
 use Rattle.core.specs.Lists.{first, pairs}
 use Rattle.core.specs.Context.{CtorApp, TesterApp, tester-app}
-use Rattle.core.proofs.Lists.{In, T-both}
+use Rattle.core.proofs.Lists.{In, T-both, true-T}
 use Rattle.theory.specs.Types.{EqLeaf}
 use Rattle.theory.specs.EqEngine.{are-equal, explain, firsts}
 use Rattle.theory.proofs.Classes.{equal-sym, equal-trans}
 use Rattle.solver.specs.State.{State, AssertedTester, ctor-apps, equal, ctor-of-class}
-use Rattle.solver.specs.Records.{tester-leaves, disagrees, tester-conflict}
-use Rattle.solver.specs.Rules.{TCheck, Conflict, Ruled, pass, answered, go-on, then, try-each, clash, clash-answer, constructor-clash, conflict-of, tester-clash-at, tester-clash}
+use Rattle.solver.specs.Records.{tester-leaves, disagrees, tester-conflict, own-app, denies, negative-conflict}
+use Rattle.solver.specs.Rules.{TCheck, Conflict, Ruled, pass, answered, go-on, then, try-each, clash, clash-answer, constructor-clash, conflict-of, tester-clash-at, tester-clash, negative-clash-at, negative-clash}
 use Rattle.solver.specs.Check.{before-ring}
 use Rattle.solver.proofs.Basics.{in-pairs, none-some, some-none, some-is, first-some, first-none, false-T, by-test}
+use Rattle.solver.proofs.Clash.{signed-record}
 
 -- ---- rules that answer conflict or nothing
 
@@ -83,7 +84,7 @@ try-none s rule (y ∷ ys) h e x i = go i (try-none s rule ys h later x)
     go (inl q) f = ap (λ (z : _). rule z s .answer) q ∙ here
     go (inr j) f = f j
 
--- ---- the two clashes
+-- ---- the clashes
 
 module _ (s : State) where
   pub constructor-tells : Tells s (constructor-clash s)
@@ -109,40 +110,49 @@ module _ (s : State) where
   tester-tells = try-tells s (λ (e : AssertedTester) s′. tester-clash-at (e .lit) (tester-app (s′ .terms) (e .atom)) s′)
       (s .dt .level-record) (λ e. tester-at-tells (e .lit) (tester-app (s .terms) (e .atom)))
 
--- ---- the first two rules
+  negative-at-tells : (l : ℕ) (o : Option TesterApp) → Tells s (negative-clash-at l o s)
+  unfolding negative-clash-at
+  negative-at-tells l none = pass-tells s
+  negative-at-tells l (some x) = conflict-tells (negative-conflict s l x)
 
-module _ (s : State) (r : Ruled) (q next : State → Ruled) (t : Tells s r) where
-  second : r .answer ≡ none → then r (λ s′. then (q s′) next) ≡ then (q s) next
-  second e = then-next r (λ s′. then (q s′) next) e ∙ ap (λ (s′ : State). then (q s′) next) (t .state)
+  pub negative-tells : Tells s (negative-clash s)
+  unfolding negative-clash
+  negative-tells = try-tells s (λ (e : AssertedTester) s′. negative-clash-at (e .lit) (tester-app (s′ .terms) (e .atom)) s′)
+      (s .dt .negative-record) (λ e. negative-at-tells (e .lit) (tester-app (s .terms) (e .atom)))
 
-  two-none : then r (λ s′. then (q s′) next) .answer ≡ none → (r .answer ≡ none) × (q s .answer ≡ none)
-  two-none e =
-      let a = then-none r (λ s′. then (q s′) next) e in
-      (a, then-none (q s) next (ap (λ (x : Ruled). x .answer) (sym (second a)) ∙ e))
+-- ---- a rule that tells, and the next one
 
-  two-first : Tells s (q s) → (r .answer ≡ none → q s .answer ≡ none → ⊥) → (ls : List EqLeaf) ×
-      (then r (λ s′. then (q s′) next) .answer ≡ some (Conflict ls))
-  two-first u h = go (r .answer) (q s .answer) refl refl
+-- a rule says conflict
+abbrev Says : Ruled → Type 0
+Says r = (ls : List EqLeaf) × (r .answer ≡ some (Conflict ls))
+
+module _ (s : State) (r : Ruled) (next : State → Ruled) (t : Tells s r) where
+  next-is : r .answer ≡ none → then r next ≡ next s
+  next-is e = then-next r next e ∙ ap next (t .state)
+
+  both-none : then r next .answer ≡ none → (r .answer ≡ none) × (next s .answer ≡ none)
+  both-none e =
+      let a = then-none r next e in
+      (a, ap (λ (x : Ruled). x .answer) (sym (next-is a)) ∙ e)
+
+  one-says : (r .answer ≡ none → Says (next s)) → Says (then r next)
+  one-says h = go (r .answer) refl
     where
-      go : (a b : Option TCheck) → r .answer ≡ a → q s .answer ≡ b → (ls : List EqLeaf) × (then r (λ s′. then (q s′) next) .answer ≡
-          some (Conflict ls))
-      go (some k) b e f =
+      go : (o : Option TCheck) → r .answer ≡ o → Says (then r next)
+      go (some k) e =
           let (ls, w) = t .conflict k e in
-          (ls, then-some r (λ s′. then (q s′) next) (Conflict ls) (e ∙ ap {B = Option TCheck} some w))
-      go none (some k) e f =
-          let (ls, w) = u .conflict k f in
-          (ls, ap (λ (x : Ruled). x .answer) (second e) ∙ then-some (q s) next (Conflict ls) (f ∙ ap {B = Option TCheck} some w))
-      go none none e f = absurd (h e f)
+          (ls, then-some r next (Conflict ls) (e ∙ ap {B = Option TCheck} some w))
+      go none e = subst⁻¹ Says (next-is e) (h e)
 
 -- ---- no clash
 
--- applications of one class have one constructor, which is that of each tester on a term of the class in the level record
+-- Applications of one class have one constructor; whether it is that of a recorded tester on a term of the class, the tester's sign says.
 pub record Clear (s : State) : Type 0 where
   pub constructors : (p q : CtorApp) → In p (ctor-apps s) → In q (ctor-apps s) → T (equal s (p .app) (q .app)) → p .ctor ≡ q .ctor
-  pub testers : (e : AssertedTester) (x : TesterApp) (c : CtorApp) → In e (s .dt .level-record) → tester-app (s .terms) (e .atom) ≡
-      some x → In c (ctor-apps s) → T (equal s (x .arg) (c .app)) → c .ctor ≡ x .ctor
+  pub testers : (b : Bool) (e : AssertedTester) (x : TesterApp) (c : CtorApp) → In e (signed-record s b) → tester-app (s .terms) (e .atom) ≡
+      some x → In c (ctor-apps s) → T (equal s (x .arg) (c .app)) → eqb (c .ctor) (x .ctor) ≡ b
 
-module _ (s : State) (a : constructor-clash s .answer ≡ none) (b : tester-clash s .answer ≡ none) where
+module _ (s : State) (a : constructor-clash s .answer ≡ none) where
   none-first : first (clash s) (pairs (ctor-apps s)) ≡ none
   unfolding constructor-clash
   none-first = go (first (clash s) (pairs (ctor-apps s))) a
@@ -158,7 +168,7 @@ module _ (s : State) (a : constructor-clash s .answer ≡ none) (b : tester-clas
       (λ e. absurd (false-T (clash s (p, q)) (first-none (clash s) (pairs (ctor-apps s)) (p, q) none-first i)
       (unfold clash in T-both (not (eqb (p .ctor) (q .ctor))) (equal s (p .app) (q .app)) (subst⁻¹ (λ (c : Bool). T (not c)) e tt) t)))
 
-  one-constructor : (p q : CtorApp) → In p (ctor-apps s) → In q (ctor-apps s) → T (equal s (p .app) (q .app)) → p .ctor ≡ q .ctor
+  pub one-constructor : (p q : CtorApp) → In p (ctor-apps s) → In q (ctor-apps s) → T (equal s (p .app) (q .app)) → p .ctor ≡ q .ctor
   unfolding equal
   one-constructor p q i j t = go (in-pairs (ctor-apps s) p q i j)
     where
@@ -167,6 +177,8 @@ module _ (s : State) (a : constructor-clash s .answer ≡ none) (b : tester-clas
       go (inr (inl k)) = same-by-test p q k t
       go (inr (inr k)) = sym (same-by-test q p k (equal-sym (s .eq) (p .app) (q .app) t))
 
+module _ (s : State) (a : constructor-clash s .answer ≡ none) (b : tester-clash s .answer ≡ none)
+    (n : negative-clash s .answer ≡ none) where
   agrees : (l : ℕ) (x : TesterApp) (o : Option CtorApp) → conflict-of s (disagrees s l x o) .answer ≡ none → (c : CtorApp) →
       o ≡ some c → c .ctor ≡ x .ctor
   agrees l x none e c q = absurd (none-some c q)
@@ -195,20 +207,57 @@ module _ (s : State) (a : constructor-clash s .answer ≡ none) (b : tester-clas
           (first-none (λ (d : CtorApp). are-equal (s .eq) (x .arg) (d .app)) (ctor-apps s) c w j) t)
       go (some d) w =
           let (k, f) = first-some (λ (y : CtorApp). are-equal (s .eq) (x .arg) (y .app)) (ctor-apps s) d w in
-          one-constructor c d j k (equal-trans (s .eq) (c .app) (x .arg) (d .app) (equal-sym (s .eq) (x .arg) (c .app) t) f) ∙ agrees
+          one-constructor s a c d j k (equal-trans (s .eq) (c .app) (x .arg) (d .app) (equal-sym (s .eq) (x .arg) (c .app) t) f) ∙ agrees
           (e .lit) x (ctor-of-class s (x .arg)) said d w
 
+  -- no application passes the test
+  none-own : (l : ℕ) (x : TesterApp) (o : Option CtorApp) → conflict-of s (denies s l x o) .answer ≡ none → o ≡ none
+  none-own l x none e = refl
+  none-own l x (some d) e = absurd (some-none (Conflict (tester-leaves s l (x .arg) d)) (unfold denies conflict-of answered in e))
+
+  negative-constructor : (e : AssertedTester) (x : TesterApp) (c : CtorApp) → In e (s .dt .negative-record) → tester-app (s .terms)
+      (e .atom) ≡ some x → In c (ctor-apps s) → T (equal s (x .arg) (c .app)) → eqb (c .ctor) (x .ctor) ≡ false
+  unfolding negative-clash own-app
+  negative-constructor e x c i q j t =
+      by-test (eqb (c .ctor) (x .ctor))
+      (λ w. absurd (false-T (own c) (first-none own (ctor-apps s) c (none-own (e .lit) x (own-app s x) said) j)
+      (T-both (eqb (c .ctor) (x .ctor)) (equal s (x .arg) (c .app)) (true-T (eqb (c .ctor) (x .ctor)) w) t)))
+      (λ w. w)
+    where
+      own : CtorApp → Bool
+      own d = eqb (d .ctor) (x .ctor) && equal s (x .arg) (d .app)
+
+      here : negative-clash-at (e .lit) (tester-app (s .terms) (e .atom)) s .answer ≡ none
+      here = try-none s (λ (y : AssertedTester) s′. negative-clash-at (y .lit) (tester-app (s′ .terms) (y .atom)) s′)
+          (s .dt .negative-record) (λ y. negative-at-tells s (y .lit) (tester-app (s .terms) (y .atom))) n e i
+
+      said : conflict-of s (denies s (e .lit) x (own-app s x)) .answer ≡ none
+      said = unfold negative-conflict negative-clash-at in subst (λ (o : Option TesterApp). negative-clash-at (e .lit) o s .answer ≡ none)
+          q here
+
+  signed : (k : Bool) (e : AssertedTester) (x : TesterApp) (c : CtorApp) → In e (signed-record s k) → tester-app (s .terms) (e .atom) ≡
+      some x → In c (ctor-apps s) → T (equal s (x .arg) (c .app)) → eqb (c .ctor) (x .ctor) ≡ k
+  signed true e x c i q j t = eq-eqb (c .ctor) (x .ctor) (tester-constructor e x c i q j t)
+  signed false e x c i q j t = negative-constructor e x c i q j t
+
   clear-by : Clear s
-  clear-by = record { constructors = one-constructor; testers = tester-constructor }
+  clear-by = record { constructors = one-constructor s a; testers = signed }
 
 -- ---- a check
 
 -- a check finds a clash first, if there is one
 pub clash-found : (s : State) → (Clear s → ⊥) → (ls : List EqLeaf) × (before-ring s .answer ≡ some (Conflict ls))
 unfolding before-ring
-clash-found s n = two-first s (constructor-clash s) tester-clash _ (constructor-tells s) (tester-tells s) (λ a b. n (clear-by s a b))
+clash-found s k =
+    one-says s (constructor-clash s) _ (constructor-tells s) λ a.
+    one-says s (tester-clash s) _ (tester-tells s) λ b.
+    one-says s (negative-clash s) _ (negative-tells s) λ n.
+    absurd (k (clear-by s a b n))
 
 -- and where no rule answers there is none
 pub clear-at-first : (s : State) → before-ring s .answer ≡ none → Clear s
 unfolding before-ring
-clear-at-first s e = let (a, b) = two-none s (constructor-clash s) tester-clash _ (constructor-tells s) e in clear-by s a b
+clear-at-first s e =
+    let (a, e₁) = both-none s (constructor-clash s) _ (constructor-tells s) e in
+    let (b, e₂) = both-none s (tester-clash s) _ (tester-tells s) e₁ in
+    clear-by s a b (both-none s (negative-clash s) _ (negative-tells s) e₂ .0)

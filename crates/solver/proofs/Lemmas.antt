@@ -702,7 +702,19 @@ module _ (s : State) (R : Ready s) (t : ℕ) (D : T (is-datatype-sort (s .terms)
 
       G : TestersMade s t (λ d. ⊥ ⊎ In d cs) out
       G = make-all cs (λ d. ⊥) start (λ c i. in-builds (s .terms) (sort-of (s .terms) t) c i)
-          (record { follows = record { extends = extends-self (s .terms); formed = R .formed; eq = refl; atoms = refl; level = refl; entries = refl; marks = λ a i. i; ascending = λ a. a }; each = λ c p. absurd p })
+          (record {
+            follows = record {
+              extends = extends-self (s .terms);
+              formed = R .formed;
+              eq = refl;
+              atoms = refl;
+              level = refl;
+              entries = λ b. refl;
+              marks = λ a i. i;
+              ascending = λ a. a;
+            };
+            each = λ c p. absurd p;
+          })
 
       R′ : Ready (out .state)
       R′ = follows-ready s (out .state) (G .follows) R

@@ -1,15 +1,16 @@
 -- Lemmas about the lent tables. TableStores, WorkStores, SplitStores, RingStores: the laws of stores at each table; Flags: sets of terms
--- as flags; Frames: what stores in some regions leave; Announcing: a mark and its block; Roles: the kind of a term's mark, and the
--- applications of the definition.
+-- as flags; Signs: the two records of testers in one list; Frames: what stores in some regions leave; Announcing: a mark and its block;
+-- Roles: the kind of a term's mark, and the applications of the definition.
 pub mod TableStores
 pub mod WorkStores
 pub mod SplitStores
 pub mod RingStores
 pub mod Flags
+pub mod Signs
 pub mod Frames
 pub mod Announcing
 pub mod Roles
--- Registering: an empty table, the registry; Collecting: collection; Entries: the entries of the level record; Recording: one more;
+-- Registering: an empty table, the registry; Collecting: collection; Entries: the entries of the records; Recording: one more;
 -- Levels: push and pop.
 pub mod Registering
 pub mod Collecting
@@ -30,11 +31,12 @@ pub mod Unfitting
 pub mod Minting
 pub mod Splits
 pub mod Trying
--- The rules. ConstructorClash, Clashing: the two clashes; Asserting: assert; Selected, Injecting: injectivity; Chains, Collapsing,
--- TesterLemmas, Once, TestsOnce: collapse and the tester lemma; Instantiating: guarded instantiation; Splitting: exhaustiveness and
--- unknown.
+-- The rules. ConstructorClash, Clashing, Owning: the three clashes; Asserting: assert; Selected, Injecting: injectivity; Chains,
+-- Collapsing, TesterLemmas, Once, TestsOnce: collapse and the tester lemma; Instantiating: guarded instantiation; Splitting:
+-- exhaustiveness and unknown.
 pub mod ConstructorClash
 pub mod Clashing
+pub mod Owning
 pub mod Asserting
 pub mod Selected
 pub mod Injecting

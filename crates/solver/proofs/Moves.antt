@@ -24,7 +24,7 @@ use Rattle.solver.proofs.Terms.{Extends, extends-self, extends-then, ex
 use Rattle.solver.proofs.Signature.{extends-signed}
 use Rattle.solver.proofs.Apps.{IsCtor, IsTester, IsSel, app-within}
 use Rattle.solver.proofs.Walk.{HasRing}
-use Rattle.solver.proofs.Clash.{Ready, Refuted, Recorded}
+use Rattle.solver.proofs.Clash.{Ready, Refuted, signed-record, Recorded}
 
 -- ---- a state after another
 
@@ -34,12 +34,21 @@ pub record Follows (s s′ : State) : Type 0 where
   pub eq : s′ .eq ≡ s .eq
   pub atoms : s′ .atoms ≡ s .atoms
   pub level : s′ .level ≡ s .level
-  pub entries : s′ .dt .level-record ≡ s .dt .level-record
+  pub entries : (b : Bool) → signed-record s′ b ≡ signed-record s b
   pub marks : (t : ℕ) → In t (s .dt .marks) → In t (s′ .dt .marks)
   pub ascending : Ascending (s .dt .marks) → Ascending (s′ .dt .marks)
 
 pub follows-self : (s : State) → Formed (s .terms) → Follows s s
-follows-self s F = record { extends = extends-self (s .terms); formed = F; eq = refl; atoms = refl; level = refl; entries = refl; marks = λ t i. i; ascending = λ a. a }
+follows-self s F = record {
+  extends = extends-self (s .terms);
+  formed = F;
+  eq = refl;
+  atoms = refl;
+  level = refl;
+  entries = λ b. refl;
+  marks = λ t i. i;
+  ascending = λ a. a;
+}
 
 pub follows-then : (a b c : State) → Follows a b → Follows b c → Follows a c
 follows-then a b c f g = record {
@@ -48,7 +57,7 @@ follows-then a b c f g = record {
   eq = g .eq ∙ f .eq;
   atoms = g .atoms ∙ f .atoms;
   level = g .level ∙ f .level;
-  entries = g .entries ∙ f .entries;
+  entries = λ x. g .entries x ∙ f .entries x;
   marks = λ t i. g .marks t (f .marks t i);
   ascending = λ x. g .ascending (f .ascending x);
 }
@@ -73,7 +82,16 @@ unfolding made-in with-terms
 made-in-makes s o as′ F B A =
     let M = mk-app-makes (s .terms) o as′ in
     record {
-      follows = record { extends = M .extends; formed = mk-app-formed (s .terms) o as′ F B A; eq = refl; atoms = refl; level = refl; entries = refl; marks = λ t i. i; ascending = λ a. a };
+      follows = record {
+        extends = M .extends;
+        formed = mk-app-formed (s .terms) o as′ F B A;
+        eq = refl;
+        atoms = refl;
+        level = refl;
+        entries = λ b. refl;
+        marks = λ t i. i;
+        ascending = λ a. a;
+      };
       within = M .within;
       made = M .made;
     }

@@ -99,6 +99,7 @@ start e = record {
   dt = record {
     marks = e .marks;
     level-record = cons-option (Option·map (λ (x : ℕ × ℕ). record { atom = x .0; lit = x .1; level = 0 }) (e .tester)) [];
+    negative-record = [];
     lasting = cons-option (Option·map (λ (x : ℕ × ℕ). x .0) (e .tester)) [];
     emitted = [];
     split-done = e .split;

@@ -6,7 +6,7 @@ pub mod Work
 pub mod Answer
 pub mod Making
 pub mod Checks
--- What the functions promise one another: Recording: an empty table, the registry, collection; Levels: the level record and its levels;
+-- What the functions promise one another: Recording: an empty table, the registry, collection; Levels: the records of testers by levels;
 -- Testing, Asserting: testers and `assert`; ConstructorClash, Injecting, Collapse, Instantiation, Splitting, Walking: the rules.
 pub mod Recording
 pub mod Levels

@@ -1,16 +1,16 @@
--- Collection, the two records of positive testers, and `assert` (collect, new_var, assert, push, pop).
+-- Collection, the records of testers, and `assert` (collect, new_var, assert, push, pop).
 use Prim.Native.Nat.{ℕ, zero, suc}
-use mathlib.Core.Bool.{Bool, true, false, cond, _||_}
+use mathlib.Core.Bool.{Bool, true, false, cond, _||_, _&&_}
 use mathlib.Core.List.{List, [], _∷_, _++_, foldl}
 use mathlib.Core.Option.{Option, none, some}
 use lib.Dec.{eqb, leb}
-use Rattle.core.specs.Lists.{any, keep, mem, insert}
+use Rattle.core.specs.Lists.{any, first, keep, mem, insert}
 use Rattle.core.specs.Ids as Ids
 use Rattle.core.specs.Context.{Context, CtorApp, TesterApp, ctor-app, sel-app, tester-app, is-datatype-sort, sort-of, children}
 use Rattle.theory.specs.Types.{EqLeaf, AssertedLeaf}
 use Rattle.theory.specs.EqEngine.{explain, firsts}
 use Rattle.theory.specs.Atom as Atom
-use Rattle.solver.specs.State.{State, AssertedTester, with-marks, with-level-record, with-lasting, ctor-of-class}
+use Rattle.solver.specs.State.{State, AssertedTester, with-marks, with-level-record, with-negative-record, with-lasting, ctor-apps, equal, ctor-of-class}
 
 -- ---- collection
 
@@ -37,15 +37,22 @@ new-var s t =
 
 -- ---- records
 
-unfoldable pub recorded : State → ℕ → Bool
-recorded s t = any (λ (e : AssertedTester). eqb (e .atom) t) (s .dt .level-record)
+-- has an atom an entry?
+unfoldable pub recorded : List AssertedTester → ℕ → Bool
+recorded es t = any (λ (e : AssertedTester). eqb (e .atom) t) es
 
--- A positive tester goes into the lasting record, and once per atom with the literal that first asserted it into the level record.
+-- the entries of a record and, unless the atom has one, an entry for it at a level: once per atom, with the literal that first asserted it
+unfoldable pub entered : ℕ → ℕ → ℕ → List AssertedTester → List AssertedTester
+entered v t l es = cond (recorded es t) es (es ++ (record { atom = t; lit = l; level = v } ∷ []))
+
+-- A positive tester goes into the lasting record and into the level record.
 unfoldable pub record-tester : State → ℕ → ℕ → State
 record-tester s t l =
-    let lasted = with-lasting s (insert t (s .dt .lasting)) in
-    cond (recorded s t) lasted
-    (with-level-record lasted (s .dt .level-record ++ (record { atom = t; lit = l; level = s .level } ∷ [])))
+    with-level-record (with-lasting s (insert t (s .dt .lasting))) (entered (s .level) t l (s .dt .level-record))
+
+-- 02 (i): a negative tester goes into a record of its own
+unfoldable pub record-negative : State → ℕ → ℕ → State
+record-negative s t l = with-negative-record s (entered (s .level) t l (s .dt .negative-record))
 
 -- the entries of level k or lower: pop to k
 unfoldable pub pop-testers : ℕ → List AssertedTester → List AssertedTester
@@ -65,22 +72,41 @@ disagrees s l x (some c) = cond (eqb (c .ctor) (x .ctor)) none (some (tester-lea
 unfoldable pub tester-conflict : State → ℕ → TesterApp → Option (List EqLeaf)
 tester-conflict s l x = disagrees s l x (ctor-of-class s (x .arg))
 
+-- ---- 02 (i): a negative tester against the applications of its constructor in its class
+
+-- the lowest marked application of that very constructor in its term's class
+unfoldable pub own-app : State → TesterApp → Option CtorApp
+own-app s x = first (λ (c : CtorApp). eqb (c .ctor) (x .ctor) && equal s (x .arg) (c .app)) (ctor-apps s)
+
+-- the literal, then the term explained to that application
+unfoldable pub denies : State → ℕ → TesterApp → Option CtorApp → Option (List EqLeaf)
+denies s l x none = none
+denies s l x (some c) = some (tester-leaves s l (x .arg) c)
+
+-- the conflict of a negative tester with that application
+unfoldable pub negative-conflict : State → ℕ → TesterApp → Option (List EqLeaf)
+negative-conflict s l x = denies s l x (own-app s x)
+
 -- ---- assert
 
 pub record Outcome : Type 0 where
   pub conflict : Option (List EqLeaf)
   pub state : State
 
-unfoldable pub assert-tester : State → ℕ → Option TesterApp → Outcome
-assert-tester s l none = record { conflict = none; state = s }
-assert-tester s l (some x) = record { conflict = tester-conflict s l x; state = record-tester s (x .app) l }
+-- a tester literal, by its sign: its conflict, if any, and its record
+unfoldable pub assert-tester : State → ℕ → Bool → TesterApp → Outcome
+assert-tester s l true x = record { conflict = tester-conflict s l x; state = record-tester s (x .app) l }
+assert-tester s l false x = record { conflict = negative-conflict s l x; state = record-negative s (x .app) l }
 
--- Negative literals and other atoms give no record.
+-- a literal by its atom, which is a tester application or not
+unfoldable pub assert-atom : State → ℕ → Option TesterApp → Outcome
+assert-atom s l none = record { conflict = none; state = s }
+assert-atom s l (some x) = assert-tester s l (Ids.is-positive l) x
+
+-- Literals of other atoms give no record.
 unfoldable pub assert : State → ℕ → Outcome
-assert s l =
-    cond (Ids.is-positive l) (assert-tester s l (tester-app (s .terms) (Atom.atom (s .atoms) (Ids.var l))))
-    (record { conflict = none; state = s })
+assert s l = assert-atom s l (tester-app (s .terms) (Atom.atom (s .atoms) (Ids.var l)))
 
 unfoldable pub records-definitions : Unit {0}
-unfolding is-some relevant collect new-var recorded record-tester pop-testers tester-leaves disagrees tester-conflict assert-tester assert
+unfolding is-some relevant collect new-var recorded entered record-tester record-negative pop-testers tester-leaves disagrees tester-conflict own-app denies negative-conflict assert-tester assert-atom assert
 records-definitions = tt

@@ -9,7 +9,7 @@ use Rattle.core.specs.Term.{Uninterpreted}
 use Rattle.theory.specs.EqEngine.{Merge, are-equal}
 use Rattle.theory.specs.Atom.{Registered}
 
--- an entry of the level record: a positive tester atom, the literal that first asserted it, the level it came at
+-- an entry of a record of testers: a tester atom, the literal that first asserted it, the level it came at
 pub record AssertedTester : Type 0 where
   pub atom : ℕ
   pub lit : ℕ
@@ -21,6 +21,8 @@ pub record DtSolver : Type 0 where
   pub marks : List ℕ
   -- 01: the level record, in order of assertion
   pub level-record : List AssertedTester
+  -- 02 (i): the record of negative testers, in order of assertion
+  pub negative-record : List AssertedTester
   -- 01: the lasting record
   pub lasting : List ℕ
   -- 01: atoms handed out by collapse, tester lemma and instantiation
@@ -41,7 +43,7 @@ empty-state = record {
   eq = [];
   atoms = [];
   level = 0;
-  dt = record { marks = []; level-record = []; lasting = []; emitted = []; split-done = [] };
+  dt = record { marks = []; level-record = []; negative-record = []; lasting = []; emitted = []; split-done = [] };
 }
 
 -- ---- a state with one part changed
@@ -65,6 +67,7 @@ unfoldable pub with-marks : State → List ℕ → State
 with-marks s ts = with-dt s (record {
   marks = ts;
   level-record = s .dt .level-record;
+  negative-record = s .dt .negative-record;
   lasting = s .dt .lasting;
   emitted = s .dt .emitted;
   split-done = s .dt .split-done;
@@ -74,6 +77,17 @@ unfoldable pub with-level-record : State → List AssertedTester → State
 with-level-record s es = with-dt s (record {
   marks = s .dt .marks;
   level-record = es;
+  negative-record = s .dt .negative-record;
+  lasting = s .dt .lasting;
+  emitted = s .dt .emitted;
+  split-done = s .dt .split-done;
+})
+
+unfoldable pub with-negative-record : State → List AssertedTester → State
+with-negative-record s es = with-dt s (record {
+  marks = s .dt .marks;
+  level-record = s .dt .level-record;
+  negative-record = es;
   lasting = s .dt .lasting;
   emitted = s .dt .emitted;
   split-done = s .dt .split-done;
@@ -83,6 +97,7 @@ unfoldable pub with-lasting : State → List ℕ → State
 with-lasting s ts = with-dt s (record {
   marks = s .dt .marks;
   level-record = s .dt .level-record;
+  negative-record = s .dt .negative-record;
   lasting = ts;
   emitted = s .dt .emitted;
   split-done = s .dt .split-done;
@@ -92,6 +107,7 @@ unfoldable pub with-emitted : State → List ℕ → State
 with-emitted s ts = with-dt s (record {
   marks = s .dt .marks;
   level-record = s .dt .level-record;
+  negative-record = s .dt .negative-record;
   lasting = s .dt .lasting;
   emitted = ts;
   split-done = s .dt .split-done;
@@ -101,6 +117,7 @@ unfoldable pub with-split-done : State → List ℕ → State
 with-split-done s ts = with-dt s (record {
   marks = s .dt .marks;
   level-record = s .dt .level-record;
+  negative-record = s .dt .negative-record;
   lasting = s .dt .lasting;
   emitted = s .dt .emitted;
   split-done = ts;
@@ -152,5 +169,5 @@ unfoldable pub mint : State → ℕ → List ℕ → MadeIn
 mint s f args = marked-in (make-app s f args)
 
 unfoldable pub state-definitions : Unit {0}
-unfolding empty-state with-terms with-eq with-atoms with-level with-dt with-marks with-level-record with-lasting with-emitted with-split-done ctor-apps sel-apps testers watched-dt-terms equal ctor-of-class mark made-in make-app marked-in mint
+unfolding empty-state with-terms with-eq with-atoms with-level with-dt with-marks with-level-record with-negative-record with-lasting with-emitted with-split-done ctor-apps sel-apps testers watched-dt-terms equal ctor-of-class mark made-in make-app marked-in mint
 state-definitions = tt

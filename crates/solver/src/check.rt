@@ -1,5 +1,6 @@
 // A check: the rules in order, the first that applies answers.
 use crate::answer::TCheck;
+use crate::clashes::negative_clash;
 use crate::clashes::tester_clash;
 use crate::collapse::collapse_lemma;
 use crate::collapse::tester_lemma;
@@ -28,7 +29,8 @@ ghost use Rattle.solver.specs.Check.{before-ring};
 ghost use Rattle.solver.specs.Memory.Table.{StateSound};
 ghost use Rattle.solver.specs.Memory.Work.{CheckSound};
 ghost use Rattle.solver.specs.Memory.Answer.{Tried};
-ghost use Rattle.solver.specs.Memory.Checks.{passes, has-room, from-instantiation, from-tester-lemma, from-collapse, from-injectivity, from-tester-clash, Underway, Beginnable, ChecksFully, MarksFit, KeepsMarks, ChecksKept, Checks};
+ghost use Rattle.solver.specs.Memory.Testing.{Lone};
+ghost use Rattle.solver.specs.Memory.Checks.{passes, has-room, from-instantiation, from-tester-lemma, from-collapse, from-injectivity, from-negative-clash, from-tester-clash, Underway, Beginnable, ChecksFully, MarksFit, KeepsMarks, ChecksKept, Checks};
 
 // Does a rule pass on to the next?
 fn passes(r: TCheck) -> bool
@@ -128,6 +130,25 @@ fn from_injectivity(
     from_collapse(t, e, s, w, out)
 }
 
+// Negative testers, and what follows them.
+fn from_negative_clash(
+    t: &mut [u32],
+    e: &[u32],
+    s: &mut [u32],
+    w: &mut [u32],
+    out: &mut [u32],
+) -> TCheck
+    requires { ⌜ Underway (now t) (now e) (now s) (now w) (now out) × Lone (now t) (now e) (now w) ⌝ }
+    ensures { λ r. ⌜ Tried from-negative-clash (now (t .entry)) (now (e .entry)) (now (s .entry)) (now (w .entry)) r (now (t .exit))
+        (now (s .exit)) (now (w .exit)) (now (out .exit)) ⌝ }
+{
+    let r = negative_clash(t, e, s, w, out);
+    if !passes(r) {
+        return r;
+    }
+    from_injectivity(t, e, s, w, out)
+}
+
 // Tester clash, and what follows it.
 fn from_tester_clash(
     t: &mut [u32],
@@ -136,7 +157,7 @@ fn from_tester_clash(
     w: &mut [u32],
     out: &mut [u32],
 ) -> TCheck
-    requires { ⌜ Underway (now t) (now e) (now s) (now w) (now out) ⌝ }
+    requires { ⌜ Underway (now t) (now e) (now s) (now w) (now out) × Lone (now t) (now e) (now w) ⌝ }
     ensures { λ r. ⌜ Tried from-tester-clash (now (t .entry)) (now (e .entry)) (now (s .entry)) (now (w .entry)) r (now (t .exit))
         (now (s .exit)) (now (w .exit)) (now (out .exit)) ⌝ }
 {
@@ -144,7 +165,7 @@ fn from_tester_clash(
     if !passes(r) {
         return r;
     }
-    from_injectivity(t, e, s, w, out)
+    from_negative_clash(t, e, s, w, out)
 }
 
 // Constructor clash, and what follows it.
@@ -205,7 +226,8 @@ fn check_classes(t: &mut [u32], e: &[u32], s: &mut [u32], out: &mut [u32]) -> TC
     r
 }
 
-// A full check. Where no constructor application is marked and no tester was ever asserted, only the watched terms matter.
+// A full check. Where no constructor application is marked and no tester was ever asserted positively, only the watched terms matter: a
+// negative tester has nothing to conflict with.
 fn check_fully(t: &mut [u32], e: &[u32], s: &mut [u32], out: &mut [u32]) -> TCheck
     requires { ⌜ StateSound (now t) (now e) (now s) × (answer-size ≤ length (now out)) ⌝ }
     ensures { λ r. ⌜ ChecksKept (now (t .entry)) (now (e .entry)) (now (s .entry)) r (now (t .exit)) (now (s .exit)) (now (out .exit)) ⌝ }

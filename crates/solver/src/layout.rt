@@ -3,7 +3,7 @@
 // The registry of variables, a table of its own, has the first words.
 pub const REGISTRY_SIZE: usize = 3073;
 
-// How many entries the level record has.
+// How many entries the two records of testers have.
 pub const COUNTS: usize = 3136;
 
 pub const RECORDS: usize = 0;
@@ -21,7 +21,7 @@ pub const BLOCK_TERMS: usize = 32;
 // The marks and the words of the blocks stand side by side, as at the front of a work table.
 pub const MARKS_SIZE: usize = 1056;
 
-// For each term: whether it was collected, stands in the lasting record, was handed out, was split on, stands in the level record.
+// For each term: whether it was collected, stands in the lasting record, was handed out, was split on.
 pub const COLLECTED: usize = 4224;
 
 pub const LASTING: usize = 5248;
@@ -30,12 +30,14 @@ pub const EMITTED: usize = 6272;
 
 pub const SPLIT: usize = 7296;
 
+// The level record and the record of negative testers are one list. The key of an entry is its atom, and 1,024 more if the tester is
+// negative. For each key: whether it has an entry.
 pub const RECORDED: usize = 8320;
 
-// For each entry of the level record: its atom and its literal.
-pub const REC_ATOM: usize = 9344;
+// For each entry: its key and its literal.
+pub const REC_KEY: usize = 10368;
 
-pub const REC_LIT: usize = 10368;
+pub const REC_LIT: usize = 12416;
 
 // What a mark says of its term: an application of a constructor, of a selector, of a selector with a datatype field, of a tester, of a
 // function with a datatype result.

@@ -1,20 +1,21 @@
-// The level record by levels: push and pop on the caller's mark counts, and record_tester.
+// The records of testers by levels: push and pop on the caller's mark counts, and record_tester.
 use crate::layout::COUNTS;
 use crate::layout::LASTING;
-use crate::layout::REC_ATOM;
+use crate::layout::REC_KEY;
 use crate::layout::REC_LIT;
 use crate::layout::RECORDED;
 use crate::layout::RECORDS;
 use core::ids::Lit;
 use core::ids::TermId;
+use core::limits::MAX_TERMS;
 use core::table::get_at;
 use core::table::put_at;
 ghost use Prim.Native.Nat.{_≤_, _<_};
 ghost use Rattle.core.specs.Limits.{max-levels};
 ghost use Rattle.solver.specs.Memory.Table.{records#, SolverSound};
-ghost use Rattle.solver.specs.Memory.Levels.{MarksSound, RecordsSound, Opened, Dropped, Popped, Recordable, NewEntry, Entered, Recorded};
+ghost use Rattle.solver.specs.Memory.Levels.{MarksSound, RecordsSound, Opened, Dropped, Popped, Recordable, NewEntry, Entered, Enters, TesterRecordable, Recorded};
 
-// How many levels are open, and for each how many entries the level record had when it began.
+// How many levels are open, and for each how many entries the records had when it began.
 pub struct TesterMarks {
     pub levels: usize,
     pub counts: [u32; 64],
@@ -53,8 +54,8 @@ fn drop_records(s: &mut [u32], n: usize)
     let mut i = get_at(s, COUNTS, RECORDS);
     while n < i {
         i -= 1;
-        let x = get_at(s, REC_ATOM, i);
-        put_at(s, RECORDED, x, 0);
+        let key = get_at(s, REC_KEY, i);
+        put_at(s, RECORDED, key, 0);
     }
     put_at(s, COUNTS, RECORDS, n);
 }
@@ -84,26 +85,38 @@ pub fn pop(s: &mut [u32], m: &mut TesterMarks, to: usize)
 
 // ---- record_tester
 
-// One entry more in the level record, for an atom that it does not have.
-fn append_record(s: &mut [u32], x: usize, l: usize)
-    requires { ⌜ NewEntry (now s) x × (l < 4294967296) ⌝ }
-    ensures { λ _. ⌜ Entered (now (s .entry)) x l (now (s .exit)) ⌝ }
+// One entry more, for a key that has none.
+fn append_record(s: &mut [u32], key: usize, l: usize)
+    requires { ⌜ NewEntry (now s) key × (l < 4294967296) ⌝ }
+    ensures { λ _. ⌜ Entered (now (s .entry)) key l (now (s .exit)) ⌝ }
 {
     let n = get_at(s, COUNTS, RECORDS);
-    put_at(s, RECORDED, x, 1);
-    put_at(s, REC_ATOM, n, x);
+    put_at(s, RECORDED, key, 1);
+    put_at(s, REC_KEY, n, key);
     put_at(s, REC_LIT, n, l);
     put_at(s, COUNTS, RECORDS, n + 1);
 }
 
-// A positive tester goes into the lasting record, and into the level record unless it stands there.
-pub fn record_tester(s: &mut [u32], x: TermId, l: Lit)
-    requires { ⌜ Recordable (now s) (x .0) ⌝ }
-    ensures { λ _. ⌜ Recorded (now (s .entry)) (x .0) (l .0) (now (s .exit)) ⌝ }
+// The same, unless the key has an entry.
+fn enter(s: &mut [u32], key: usize, l: usize)
+    requires { ⌜ Recordable (now s) key × (l < 4294967296) ⌝ }
+    ensures { λ _. ⌜ Enters (now (s .entry)) key l (now (s .exit)) ⌝ }
+{
+    if get_at(s, RECORDED, key) == 0 {
+        append_record(s, key, l);
+    }
+}
+
+// A positive tester goes into the lasting record and the level record, a negative one into its own.
+pub fn record_tester(s: &mut [u32], x: TermId, l: Lit, positive: bool)
+    requires { ⌜ TesterRecordable (now s) (x .0) ⌝ }
+    ensures { λ _. ⌜ Recorded positive (now (s .entry)) (x .0) (l .0) (now (s .exit)) ⌝ }
 {
     let i = x.0 as usize;
-    put_at(s, LASTING, i, 1);
-    if get_at(s, RECORDED, i) == 0 {
-        append_record(s, i, l.0 as usize);
+    if positive {
+        put_at(s, LASTING, i, 1);
+        enter(s, i, l.0 as usize);
+    } else {
+        enter(s, i + MAX_TERMS, l.0 as usize);
     }
 }

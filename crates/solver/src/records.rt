@@ -27,8 +27,8 @@ ghost use Rattle.theory.specs.Memory.Registry.{atoms};
 ghost use Rattle.solver.specs.Memory.Table.{registry, SolverSound};
 ghost use Rattle.solver.specs.Memory.Recording.{with-mark, NoneAnnounced, NoneLasting, Wiped, SolverCleared, MayRegister, Registers, Collecting, Collects, CollectsChildren, CollectsVar};
 
-// The count of the level record, the marks, the words of the blocks and the flags of all terms stand side by side, from COUNTS on.
-const FLAG_WORDS: usize = 6208;
+// The count of the records, the marks, the words of the blocks and the flags of all terms and keys stand side by side, from COUNTS on.
+const FLAG_WORDS: usize = 7232;
 
 // ---- an empty table
 

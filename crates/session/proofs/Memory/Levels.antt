@@ -6,15 +6,15 @@ use Rattle.core.specs.Context.{all-grounded}
 use Rattle.core.specs.Memory.Table.{context}
 use Rattle.theory.specs.EqEngine.{Merge, pop-merges}
 use Rattle.theory.specs.Memory.Table.{merges, level, Engine, Pops}
-use Rattle.solver.specs.State.{State, with-eq, with-level, with-level-record, with-dt}
+use Rattle.solver.specs.State.{State, with-eq, with-level, with-level-record, with-negative-record, with-dt}
 use Rattle.solver.specs.Records.{pop-testers}
 use Rattle.solver.specs.declared.levels.TesterMarks.{TesterMarks}
-use Rattle.solver.specs.Memory.Table.{level-record, dt-with, state-with, state}
+use Rattle.solver.specs.Memory.Table.{record-of, dt-with, state-with, state}
 use Rattle.solver.specs.Memory.Levels.{entry-level, MarksSound, Opened, Popped}
 use Rattle.solver.proofs.Basics.{by-test}
 use Rattle.session.specs.Line.{Command, Push, Pop}
 use Rattle.session.specs.Answer as Answer
-use Rattle.session.specs.Session.{before-close, after-close, inhabited, pop-to, questions, perform, done}
+use Rattle.session.specs.Session.{before-close, after-close, inhabited, popped, pop-to, questions, perform, done}
 use Rattle.session.specs.declared.answer.Refusal as GivenRefusal
 use Rattle.session.specs.declared.answer.Answer as Given
 use Rattle.session.specs.Memory.Answers.{refusal-meaning, answer-meaning}
@@ -82,7 +82,7 @@ module _ {e s n : List ℕ} {closed : Bool} where
         levels = O .one-more ∙ sym (E .at-level);
         unclosed = λ f. absurd (true≢false (sym later ∙ f));
       } in
-      as-beside (accepts o z tt (yes-last _ later) z′ (rw (E .log, E .at-level, O .entries)))
+      as-beside (accepts o z tt (yes-last _ later) z′ (rw (E .log, E .at-level, O .entries true, O .entries false)))
 
 -- ---- `pop`
 
@@ -100,11 +100,14 @@ module _ {e s e′ s′ : List ℕ} {m : Beside} {n : TesterMarks} {to : ℕ} (P
   popped-state = state c e′ s′ (entry-level n)
 
   pop-below : to < level e → popped-state ≡ pop-to (state c e s lv) to
-  unfolding pop-to state-with dt-with with-eq with-level with-level-record with-dt
+  unfolding pop-to popped state-with dt-with with-eq with-level with-level-record with-negative-record with-dt
   pop-below l =
       let E = P .engine in
       let lower : level e′ ≡ to = E .at-level ∙ rw (lt-leb (level e) to l) in
-      let records : state c e s′ (entry-level n) ≡ with-level-record (state c e s lv) (pop-testers to (level-record s lv)) = Q .state c e in
+      let records : state c e s′ (entry-level n)
+      ≡ with-negative-record (with-level-record (state c e s lv) (pop-testers to (record-of true s lv)))
+      (pop-testers to (record-of false s lv)) =
+      Q .state c e in
       let merged : popped-state ≡ with-eq (with-level (state c e s′ (entry-level n)) to) (pop-merges to (merges e)) =
       ap₂ (λ (k : ℕ) (ms : List Merge). with-eq (with-level (state c e s′ (entry-level n)) k) ms) lower (E .log)
       in

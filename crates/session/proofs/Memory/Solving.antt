@@ -1,21 +1,21 @@
--- The lines of the solver. The mark counts stay sound since the level record loses no entry.
-use Rattle.core.proofs.Kit.{ℕ, _≤_, _<_, _≡_, refl, sym, ap, _∙_, subst⁻¹, Bool, true, false, cond, not, _&&_, true≢false, List, Option, none, some, arith, length, eq-eqb, ne-eqb, ltb, ltb-true, not-false}
+-- The lines of the solver. The mark counts stay sound since the records of testers lose no entry.
+use Rattle.core.proofs.Kit.{ℕ, zero, suc, _+_, _≤_, _<_, _≡_, refl, sym, ap, ap₂, _∙_, suc-add, add-suc, subst⁻¹, Bool, true, false, cond, not, _&&_, true≢false, List, Option, none, some, arith, length, eq-eqb, ne-eqb, ltb, ltb-true, not-false}
 use borrow.Author.Tests.{not-true, lt-ltb, le-ltb}
-use Rattle.core.specs.Limits.{max-vars}
-use Rattle.core.specs.Ids as Ids
+use Rattle.core.specs.Limits.{max-terms, max-vars}
+use Rattle.core.specs.Lists.{gather, cons-option, range}
+use Rattle.core.specs.Memory.Words.{at}
 use Rattle.core.specs.Context.{sort-of, terms-fit}
 use Rattle.core.specs.Memory.Table.{context}
-use Rattle.core.proofs.Memory.Counted.{counted-length}
 use Rattle.theory.specs.Types.{EqLeaf}
 use Rattle.theory.specs.Atom.{is-registered, register}
 use Rattle.theory.specs.Memory.Answer.{answer-size}
 use Rattle.theory.specs.Memory.Registry.{atoms}
-use Rattle.solver.specs.State.{State, with-atoms, with-marks, with-dt}
+use Rattle.solver.specs.State.{State, AssertedTester, with-atoms, with-marks, with-dt}
 use Rattle.solver.specs.Records as Records
 use Rattle.solver.specs.Rules as Rules
 use Rattle.solver.specs.Check as Check
 use Rattle.solver.specs.declared.answer.TCheck as TCheck
-use Rattle.solver.specs.Memory.Table.{records#, registry, asserted-at, level-record, dt-with, state-with, state, StateSound}
+use Rattle.solver.specs.Memory.Table.{REC-KEY, records#, registry, of-sign, asserted-at, entry-of, record-of, dt-with, state-with, state, StateSound}
 use Rattle.solver.specs.Memory.Answer as SolverAnswer
 use Rattle.solver.specs.Memory.Answer.{Readable}
 use Rattle.solver.specs.Memory.Levels.{entry-level, MarksSound}
@@ -24,7 +24,7 @@ use Rattle.solver.specs.Memory.Recording.{MayRegister, Registers, Collecting, C
 use Rattle.solver.specs.Memory.Asserting.{Assertable, Asserts}
 use Rattle.solver.specs.Memory.Checks.{Checks}
 use Rattle.solver.proofs.Basics.{by-test, some-is, some-none, none-some}
-use Rattle.solver.proofs.Clash.{Ready}
+use Rattle.solver.proofs.Clash.{Ready, signed-record}
 use Rattle.solver.proofs.Answers.{full-check-well}
 use Rattle.solver.proofs.Memory.Levels.{newest-level, marks-more}
 use Rattle.solver.proofs.Memory.Collecting.{collecting}
@@ -44,25 +44,40 @@ use Rattle.session.proofs.Claim.{reached-ready}
 
 -- ---- mark counts
 
--- as many entries as before
-same-records : (s u : List ℕ) (lv : ℕ → ℕ) → level-record u lv ≡ level-record s lv → records# u ≡ records# s
-unfolding level-record
-same-records s u lv e =
-    sym (counted-length (asserted-at u lv) (records# u)) ∙ ap length e ∙ counted-length (asserted-at s lv) (records# s)
+-- each entry of a table stands in one of the two records
+each-counted : (s : List ℕ) (lv : ℕ → ℕ) (a n : ℕ) →
+    length (gather (entry-of true s lv) (range a n)) + length (gather (entry-of false s lv) (range a n)) ≡ n
+unfolding gather range cons-option entry-of of-sign
+each-counted s lv a zero = refl
+each-counted s lv a (suc n) = go (ltb (at s REC-KEY a) max-terms) (each-counted s lv (suc a) n)
+  where
+    entry : Option AssertedTester
+    entry = some (asserted-at s lv a)
 
--- the level record of the state that tables mean
-record-is : (c e s : List ℕ) (lv : ℕ → ℕ) → state c e s lv .dt .level-record ≡ level-record s lv
-unfolding state-with dt-with
-record-is c e s lv = refl
+    of : Bool → List AssertedTester
+    of b = gather (entry-of b s lv) (range (suc a) n)
 
--- a state with the same entries has the same mark counts
+    go : (b : Bool) → length (of true) + length (of false) ≡ n →
+        length (cons-option (cond b entry none) (of true)) + length (cons-option (cond (not b) entry none) (of false)) ≡ suc n
+    go true h = suc-add (length (of true)) (length (of false)) ∙ ap suc h
+    go false h = add-suc (length (of true)) (length (of false)) ∙ ap suc h
+
+-- the two records of a state are as they were
+abbrev SameRecords : State → State → Type 0
+SameRecords st st′ = (b : Bool) → signed-record st′ b ≡ signed-record st b
+
+-- then the table has as many entries as before
+same-count : (c e s c′ e′ u : List ℕ) (lv : ℕ → ℕ) → SameRecords (state c e s lv) (state c′ e′ u lv) → records# u ≡ records# s
+unfolding state-with dt-with record-of
+same-count c e s c′ e′ u lv h =
+    sym (each-counted u lv 0 (records# u))
+    ∙ ap₂ (λ (xs ys : List AssertedTester). length xs + length ys) (h true) (h false)
+    ∙ each-counted s lv 0 (records# s)
+
+-- and the same mark counts
 marks-stay : (c e s c′ e′ u : List ℕ) (m : Beside) → MarksSound s (m .marks) →
-    state c′ e′ u (entry-level (m .marks)) .dt .level-record ≡ state c e s (entry-level (m .marks)) .dt .level-record →
-    MarksSound u (m .marks)
-marks-stay c e s c′ e′ u m z h =
-    let lv = entry-level (m .marks) in
-    let n = same-records s u lv (sym (record-is c′ e′ u lv) ∙ h ∙ record-is c e s lv) in
-    marks-more z (omega arith)
+    SameRecords (state c e s (entry-level (m .marks))) (state c′ e′ u (entry-level (m .marks))) → MarksSound u (m .marks)
+marks-stay c e s c′ e′ u m z h = let n = same-count c e s c′ e′ u (entry-level (m .marks)) h in marks-more z (omega arith)
 
 -- ---- `var`
 
@@ -129,7 +144,7 @@ module _ {c s : List ℕ} {closed : Bool} {v x : ℕ} where
           in
           let z′ : SessionSound c e s′ m = record {
             state = S;
-            marks = marks-stay c e s c e s′ m (z .marks) (ap (λ (st : State). st .dt .level-record) is);
+            marks = marks-stay c e s c e s′ m (z .marks) (λ b. ap (λ (st : State). signed-record st b) is);
             levels = z .levels;
             unclosed = λ h. absurd (true≢false (sym (q ∙ not-false closed w) ∙ h));
           } in
@@ -219,15 +234,15 @@ check-printable TCheck.the-variants.Split o h = h
 check-printable TCheck.the-variants.Unknown o h = tt
 check-printable TCheck.the-variants.NoRoom o h = tt
 
--- a check leaves the level record
-check-entries : (full : Bool) (st : State) → Ready st → Check.check full st .state .dt .level-record ≡ st .dt .level-record
+-- a check leaves the two records
+check-entries : (full : Bool) (st : State) → Ready st → SameRecords st (Check.check full st .state)
 unfolding Check.check
-check-entries false st R = refl
+check-entries false st R = λ b. refl
 check-entries true st R = full-check-well st R .follows .entries
 
-cond-entries : (b : Bool) (x y : State) → x .dt .level-record ≡ y .dt .level-record → cond b x y .dt .level-record ≡ y .dt .level-record
+cond-entries : (d : Bool) (x y : State) → SameRecords y x → SameRecords y (cond d x y)
 cond-entries true x y h = h
-cond-entries false x y h = refl
+cond-entries false x y h = λ b. refl
 
 module _ {c e s : List ℕ} {closed full : Bool} where
   pub check-early : {o : List ℕ} → not closed ≡ true → AnswersCheck closed full c e s (Refused GivenRefusal.the-variants.Misplaced) c s o
@@ -247,9 +262,9 @@ module _ {c e s : List ℕ} {closed full : Bool} where
     check-sound = record {
       state = K .sound;
       marks = marks-stay c e s c′ e s′ m (z .marks)
-          (ap (λ (st : State). st .dt .level-record) (K .view lv)
-          ∙ cond-entries (terms-fit (after-check .state .terms)) (after-check .state) (state c e s lv) (check-entries full (state c e
-          s lv) (reached-ready (session c e s m) R)));
+          (λ b. ap (λ (st : State). signed-record st b) (K .view lv)
+          ∙ cond-entries (terms-fit (after-check .state .terms)) (after-check .state) (state c e s lv)
+          (check-entries full (state c e s lv) (reached-ready (session c e s m) R)) b);
       levels = z .levels;
       unclosed = λ h. absurd (true≢false (sym (q ∙ not-false closed w) ∙ h));
     }

@@ -13,25 +13,27 @@ use Rattle.core.specs.Lists.{In}
 use Rattle.theory.specs.Atom.{Registered}
 use Rattle.theory.specs.Memory.Table.{merges, level}
 use Rattle.theory.specs.Memory.Registry.{atoms}
-use Rattle.solver.specs.State.{State}
+use Rattle.solver.specs.State.{State, ctor-apps, equal}
 use Rattle.solver.specs.Rules as Rules
-use Rattle.solver.specs.Rules.{Ruled, pass, answered, go-on, then}
+use Rattle.solver.specs.Rules.{Ruled, pass, answered, go-on, then, constructor-clash}
 use Rattle.solver.specs.Check.{before-ring, or-ring, full-check, check}
 use Rattle.solver.specs.declared.answer.TCheck as TCheck
 use Rattle.solver.specs.declared.answer.TCheck.the-variants.{Sat, Conflict, Split, Unknown, NoRoom}
-use Rattle.solver.specs.Memory.Table.{COUNTS, RECORDS, BLOCK, MARK, COLLECTED, LASTING, EMITTED, SPLIT, REC-ATOM, solver-room, records#, registry, is-set, flagged-from, term-kind, MarksAre, Announced, state, state-with, dt-with, CollectedSound, StateSound}
+use Rattle.solver.specs.Memory.Table.{COUNTS, RECORDS, BLOCK, MARK, COLLECTED, LASTING, EMITTED, SPLIT, REC-KEY, solver-room, records#, registry, is-set, flagged-from, term-kind, key-atom, MarksAre, Announced, state, state-with, dt-with, CollectedSound, StateSound}
 use Rattle.solver.specs.Memory.Recording.{with-mark}
-use Rattle.solver.specs.Memory.Work.{W-MARK, state-at, Begins, ChainSound, CheckSound}
+use Rattle.solver.specs.Memory.Work.{W-MARK, apps-from, state-at, Begins, ChainSound, CheckSound}
 use Rattle.solver.specs.Memory.Answer.{answer-meaning, Outcome, Tried}
+use Rattle.solver.specs.Memory.Testing.{Lone}
 use Rattle.solver.specs.Memory.Checks.{passes, has-room, Answered, ChecksFully, Rings, MarksFit, KeepsMarks, ChecksKept, Checks}
 use Rattle.solver.proofs.Basics.{none-some, by-test}
+use Rattle.solver.proofs.Clear.{one-constructor}
 use Rattle.solver.proofs.Terms.{extends-then, extends-length}
 use Rattle.solver.proofs.Memory.TableStores.{kept-none}
 use Rattle.solver.proofs.Memory.Announcing.{mark-long, mark-same, mark-other, mark-kept, mark-announced}
 use Rattle.solver.proofs.Memory.Registering.{not-set}
 use Rattle.solver.proofs.Memory.Beginning.{unmarked}
 use Rattle.solver.proofs.Memory.Flags.{flagged-same}
-use Rattle.solver.proofs.Memory.Frames.{registry-kept, flagged-kept, level-record-kept, solver-kept}
+use Rattle.solver.proofs.Memory.Frames.{registry-kept, flagged-kept, record-kept, solver-kept}
 use Rattle.solver.proofs.Memory.Growing.{chain-grows}
 use Rattle.solver.proofs.Memory.Unfitting.{unfit-more}
 
@@ -56,6 +58,15 @@ passed NoRoom k s o e x = absurd (false≢true e)
 no-split : (r : TCheck.TCheck) → passes r ≡ true → r ≡ Split → ⊥
 unfolding passes
 no-split r e q = false≢true (ap passes (sym q) ∙ e)
+
+-- where no clash of constructors was found, each class has one constructor
+pub lone-passed : {c e s w o : List ℕ} {r : TCheck.TCheck} {b : Bool} → b ≡ passes r → not b ≡ false →
+    Tried constructor-clash c e s w r c s w o → Lone c e w
+unfolding pass apps-from ctor-apps equal state-with dt-with
+lone-passed {c} {e} {s} {w} {o} {r} test taken a =
+    let S = state-at c e s w (λ k. k) in
+    one-constructor S
+    (ap (λ (k : Ruled). k .answer) (passed r (constructor-clash S) S o (goes r test taken) (a .outcome (λ k. k))))
 
 module _ (rule next : State → Ruled) where
   -- the first passes
@@ -261,7 +272,8 @@ copying-all {s₀} {w} {s} {n} {x} q h = record { sound = λ c e z m. state-soun
           announced = q .announced (old .announced);
           collected = λ y g e′. collected y g (old .collected y g (sym (ap is-set (k .rest COLLECTED y tt g)) ∙ e′));
           lasting = λ y g e′. old .lasting y g (sym (ap is-set (k .rest LASTING y tt g)) ∙ e′);
-          records = λ i g. ap (term-kind (context c)) (k .rest REC-ATOM i tt (omega arith)) ∙ old .records i (omega arith);
+          records = λ i g.
+              ap (λ (v : ℕ). term-kind (context c) (key-atom v)) (k .rest REC-KEY i tt (omega arith)) ∙ old .records i (omega arith);
         }
       where
         -- a collected term has its mark in the work table too
@@ -288,7 +300,8 @@ copying-all {s₀} {w} {s} {n} {x} q h = record { sound = λ c e z m. state-soun
         let fit = old .records-fit in
         let r = registry-kept k tt (old .long) in
         let m = flagged-same w s W-MARK MARK 0 (λ y l g. ap is-set (marked z p y g)) in
-        let es = level-record-kept k lv fit (k .rest COUNTS RECORDS tt (omega arith)) tt tt in
+        let es = record-kept k true lv fit (k .rest COUNTS RECORDS tt (omega arith)) tt tt in
+        let ns = record-kept k false lv fit (k .rest COUNTS RECORDS tt (omega arith)) tt tt in
         let la = flagged-kept k LASTING 0 tt refl in
         let em = flagged-kept k EMITTED 0 tt refl in
         let sp = flagged-kept k SPLIT 0 tt refl in
@@ -297,7 +310,7 @@ copying-all {s₀} {w} {s} {n} {x} q h = record { sound = λ c e z m. state-soun
           eq = merges e;
           atoms = atoms (r j);
           level = level e;
-          dt = record { marks = m j; level-record = es j; lasting = la j; emitted = em j; split-done = sp j };
+          dt = record { marks = m j; level-record = es j; negative-record = ns j; lasting = la j; emitted = em j; split-done = sp j };
         }
 
 pub copying-done : (c : List ℕ) {s₀ w s : List ℕ} {n x : ℕ} → (n ≡ length (context c .terms)) × (n ≤ max-terms) → Copying s₀ w s x → n ≤ x →
@@ -379,7 +392,7 @@ moved {c} {d} {e} {s} y q z =
       collected = subst (λ (cx : Context). (x : ℕ) → x < max-terms → is-set (at s COLLECTED x) ≡ true →
           CollectedSound cx s x) p (z .collected);
       lasting = subst (λ (cx : Context). (x : ℕ) → x < max-terms → is-set (at s LASTING x) ≡ true → term-kind cx x ≡ 4) p (z .lasting);
-      records = subst (λ (cx : Context). (i : ℕ) → i < records# s → term-kind cx (at s REC-ATOM i) ≡ 4) p (z .records);
+      records = subst (λ (cx : Context). (i : ℕ) → i < records# s → term-kind cx (key-atom (at s REC-KEY i)) ≡ 4) p (z .records);
     }
 
 -- a check that does not fit

@@ -1,11 +1,13 @@
--- Tester clash. The class's constructor is that of the work table, and the leaves of a conflict are the literal and then what an
--- explanation appends to it. The loop over the level record: what the rest of the entries gives is what all of them give.
-use Rattle.core.proofs.Kit.{ℕ, suc, _+_, _-_, _≤_, _<_, _≡_, refl, sym, ap, ap₂, _∙_, subst, inl, Bool, true, false, cond, List, [], _∷_, _++_, map, none, some, Option, add-one, arith, eq-eqb, ne-eqb, eqb, length, getD}
+-- Testers against their classes, of both signs. What the code finds of a class is what the definition asks for, and the leaves of a
+-- conflict are the literal and then what an explanation appends to it. The loop over the list of entries: what the rest of them gives
+-- for a record is what all of them give.
+use Rattle.core.proofs.Kit.{ℕ, suc, _+_, _-_, _≤_, _<_, _≡_, refl, sym, ap, ap₂, _∙_, subst, inl, inr, true≢false, Bool, true, false, cond, not, _&&_, List, [], _∷_, _++_, none, some, Option, add-one, arith, eqb, length, getD}
+use borrow.Author.Tests.{not-true, not-false}
 use Rattle.core.specs.Limits.{max-terms}
-use Rattle.core.specs.Lists.{In, any, range}
+use Rattle.core.specs.Lists.{In, any, first, gather, cons-option, range}
 use Rattle.core.specs.Term as Term
 use Rattle.core.specs.Context.{CtorApp, TesterApp, tester-app, children, symbol}
-use Rattle.core.specs.Memory.Words.{at, counted}
+use Rattle.core.specs.Memory.Words.{at}
 use Rattle.core.specs.Formed.{Formed, Signed}
 use Rattle.core.specs.Memory.Table.{context, ContextSound}
 use Rattle.core.specs.Memory.Codes.{op-meaning, role-meaning, OpAt, RoleAt}
@@ -14,7 +16,7 @@ use Rattle.core.specs.declared.ids.TermId as TermId
 use Rattle.core.specs.declared.ids.Lit as Lit
 use Rattle.core.specs.declared.term.Op as Op
 use Rattle.core.specs.declared.term.DtRole as DtRole
-use Rattle.core.proofs.Lists.{T-true}
+use Rattle.core.proofs.Lists.{T-true, true-T}
 use Rattle.theory.specs.Types.{EqLeaf, AssertedLeaf}
 use Rattle.theory.specs.EqEngine.{are-equal, explain, firsts, firsts-after}
 use Rattle.theory.specs.declared.types.EqLeaf as GivenLeaf
@@ -22,22 +24,78 @@ use Rattle.theory.specs.Memory.Table.{merges}
 use Rattle.theory.specs.Memory.Answer.{answer-size, leaves, leaf-meaning, with-leaf, LeavesSound, Pushed, Cleared}
 use Rattle.theory.specs.Memory.Explaining.{Explainable, Explains}
 use Rattle.theory.proofs.Memory.Leaves.{first-sound}
+use Rattle.theory.proofs.Classes.{equal-sym, equal-trans}
 use Rattle.solver.specs.State.{State, AssertedTester, ctor-apps, ctor-of-class, equal}
-use Rattle.solver.specs.Records.{tester-leaves, disagrees, tester-conflict}
-use Rattle.solver.specs.Rules.{Ruled, pass, answered, go-on, then, try-each, conflict-of, tester-clash-at, tester-clash}
+use Rattle.solver.specs.Records.{tester-leaves, disagrees, tester-conflict, own-app, denies, negative-conflict}
+use Rattle.solver.specs.Rules.{Ruled, pass, answered, go-on, then, try-each, conflict-of, tester-clash-at, tester-clash, negative-clash-at, negative-clash}
 use Rattle.solver.specs.declared.answer.TCheck as TCheck
 use Rattle.solver.specs.declared.work.CtorOf as CtorOf
-use Rattle.solver.specs.Memory.Table.{REC-ATOM, REC-LIT, records#, is-set, term-kind, asserted-at, level-record, dt-with, state-with}
+use Rattle.solver.specs.Memory.Table.{REC-KEY, REC-LIT, records#, is-set, term-kind, of-sign, key-atom, asserted-at, entry-of, record-of, dt-with, state-with}
 use Rattle.solver.specs.Memory.Work.{state-at, apps-from, first-in-class, ctor-meaning, CtorAsked, CtorOfClass, CheckSound}
 use Rattle.solver.specs.Memory.Answer.{Readable, Tried}
-use Rattle.solver.specs.Memory.Testing.{ConflictIs, DisagreeAsked, Disagrees, AgainstAsked, Against, TesterAsked, TesterConflict}
+use Rattle.solver.specs.Memory.Testing.{ConflictIs, conflict-by, clash-by, agreeing, own-in-class, with-ctor, Lone, Found, DisagreeAsked, Disagrees, TesterTerm, TesterCtor, TesterAsked, ConflictAsked, TesterConflict, tester-found, entry-clash, ClashAsked, EntryAsked, EntryConflict}
 use Rattle.solver.proofs.Basics.{first-some}
 use Rattle.solver.proofs.Terms.{extends-self}
 use Rattle.solver.proofs.Apps.{op-is}
 use Rattle.solver.proofs.Signature.{tester-of}
 use Rattle.solver.proofs.Memory.Roles.{TesterAt, kind-tester, kind-within}
 
--- ---- a tester against a class
+-- ---- a class and one constructor
+
+module _ (d : ℕ) (p : CtorApp → Bool) where
+  abbrev own : CtorApp → Bool
+  own a = eqb (a .ctor) d && p a
+
+  no-own : (xs : List CtorApp) → ((a : CtorApp) → In a xs → p a ≡ true → eqb (a .ctor) d ≡ false) → first own xs ≡ none
+  unfolding first
+  no-own [] h = refl
+  no-own (x ∷ xs) h = go (eqb (x .ctor) d) (p x) refl refl (no-own xs (λ a i. h a (inr i)))
+    where
+      go : (b q : Bool) → eqb (x .ctor) d ≡ b → p x ≡ q → first own xs ≡ none → cond (b && q) (some x) (first own xs) ≡ none
+      go true true e f r = absurd (true≢false (sym e ∙ h x (inl refl) f))
+      go true false e f r = r
+      go false q e f r = r
+
+  -- where those that pass have one constructor, the first of constructor d is the first that passes, or none
+  pub own-first : (xs : List CtorApp) → ((a b : CtorApp) → In a xs → In b xs → p a ≡ true → p b ≡ true → a .ctor ≡ b .ctor) →
+      with-ctor d (first p xs) ≡ first own xs
+  unfolding first with-ctor
+  own-first [] h = refl
+  own-first (x ∷ xs) h =
+      go (p x) (eqb (x .ctor) d) refl refl
+      (own-first xs (λ a b i j. h a b (inr i) (inr j)))
+    where
+      go : (q b : Bool) → p x ≡ q → eqb (x .ctor) d ≡ b → with-ctor d (first p xs) ≡ first own xs →
+          with-ctor d (cond q (some x) (first p xs)) ≡ cond (b && q) (some x) (first own xs)
+      go true true e f r = rw f
+      go true false e f r =
+          rw f
+          (sym (no-own xs (λ a i t. ap (λ (c : ℕ). eqb c d) (h a x (inr i) (inl refl) t e) ∙ f)))
+      go false true e f r = r
+      go false false e f r = r
+
+-- a class that has one constructor, by its lowest application
+pub found-of-class : (b : Bool) {c e w : List ℕ} {x : ℕ} (d : ℕ) {k : CtorOf.CtorOf} → (b ≡ false → Lone c e w) →
+    CtorOfClass c e w x k → Found b c e w x d k
+found-of-class true d l z = z .is
+found-of-class false {c} {e} {w} {x} d {k} l z =
+    ap (with-ctor d) (z .is)
+    ∙ unfold first-in-class own-in-class in own-first d (λ (a : CtorApp). are-equal (merges e) x (a .app)) (apps-from (context c) w 0) one
+  where
+    one : (a b : CtorApp) → In a (apps-from (context c) w 0) → In b (apps-from (context c) w 0) →
+        are-equal (merges e) x (a .app) ≡ true → are-equal (merges e) x (b .app) ≡ true → a .ctor ≡ b .ctor
+    one a b i j p q =
+        l refl a b i j
+        (equal-trans (merges e) (a .app) x (b .app)
+        (equal-sym (merges e) x (a .app) (true-T (are-equal (merges e) x (a .app)) p)) (true-T (are-equal (merges e) x (b .app)) q))
+
+-- ---- a tester against what is found
+
+-- the definition by what was found
+against : Bool → State → ℕ → ℕ → ℕ → Option CtorApp → Option (List EqLeaf)
+against b S l d arg none = none
+against b S l d arg (some a) =
+    cond (agreeing b (eqb (a .ctor) d)) none (some (firsts (AssertedLeaf l ∷ explain (S .eq) arg (a .app))))
 
 -- the definition asks the class by the marks of the work table
 class-ctor : (c e s w : List ℕ) (lv : ℕ → ℕ) (x : ℕ) →
@@ -45,20 +103,49 @@ class-ctor : (c e s w : List ℕ) (lv : ℕ → ℕ) (x : ℕ) →
 unfolding ctor-of-class ctor-apps equal first-in-class apps-from state-with dt-with
 class-ctor c e s w lv x = refl
 
--- what the definition makes of the code's answer about the class
-by-class : {c e w : List ℕ} {arg : ℕ} {k : CtorOf.CtorOf} → CtorOfClass c e w arg k → (s : List ℕ) (lv : ℕ → ℕ) (l : ℕ) (x : TesterApp) →
-    x .arg ≡ arg → tester-conflict (state-at c e s w lv) l x ≡ disagrees (state-at c e s w lv) l x (ctor-meaning (context c) k)
-unfolding tester-conflict
-by-class {c} {e} {w} z s lv l x p =
-    ap (disagrees (state-at c e s w lv) l x)
-    (ap (ctor-of-class (state-at c e s w lv)) p ∙ class-ctor c e s w lv _ ∙ sym (z .is))
+class-own : (c e s w : List ℕ) (lv : ℕ → ℕ) (x : TesterApp) →
+    own-app (state-at c e s w lv) x ≡ own-in-class (merges e) (x .arg) (x .ctor) (apps-from (context c) w 0)
+unfolding own-app ctor-apps equal own-in-class apps-from state-with dt-with
+class-own c e s w lv x = refl
 
-pub no-class-ctor : {e o : List ℕ} {l ctor arg : ℕ} {k : CtorOf.CtorOf} → k ≡ CtorOf.the-variants.Nothing →
-    Disagrees e l ctor arg k TCheck.the-variants.Sat o
-unfolding ctor-meaning disagrees
-no-class-ctor {e} {l = l} q = record {
+by-found : (b : Bool) (c e w : List ℕ) (arg d : ℕ) (k : CtorOf.CtorOf) → Found b c e w arg d k → (s : List ℕ) (lv : ℕ → ℕ) (l : ℕ)
+    (x : TesterApp) → x .ctor ≡ d → x .arg ≡ arg →
+    conflict-by b (state-at c e s w lv) l x ≡ against b (state-at c e s w lv) l d arg (ctor-meaning (context c) k)
+unfolding tester-conflict negative-conflict against state-with
+by-found true c e w arg d k z s lv l x p q =
+    ap (disagrees (state-at c e s w lv) l x)
+    (ap (ctor-of-class (state-at c e s w lv)) q ∙ class-ctor c e s w lv arg ∙ sym z)
+    ∙ go (ctor-meaning (context c) k)
+  where
+    go : (o : Option CtorApp) → disagrees (state-at c e s w lv) l x o ≡ against true (state-at c e s w lv) l d arg o
+    go none = unfold disagrees in refl
+    go (some a) =
+        unfold disagrees tester-leaves agreeing in
+        ap₂ (λ (i j : ℕ). cond (eqb (a .ctor) i) none (some (firsts (AssertedLeaf l ∷ explain (merges e) j (a .app))))) p q
+by-found false c e w arg d k z s lv l x p q =
+    ap (denies (state-at c e s w lv) l x)
+    (class-own c e s w lv x ∙ ap₂ (λ (i j : ℕ). own-in-class (merges e) i j (apps-from (context c) w 0)) q p ∙ sym z)
+    ∙ go (ctor-meaning (context c) k)
+  where
+    by-ctor : (a : CtorApp) (t : Bool) →
+        denies (state-at c e s w lv) l x (cond t (some a) none)
+        ≡ cond (not t) none (some (firsts (AssertedLeaf l ∷ explain (merges e) arg (a .app))))
+    by-ctor a true =
+        unfold denies tester-leaves in
+        ap {B = Option (List EqLeaf)} (λ (j : ℕ). some (firsts (AssertedLeaf l ∷ explain (merges e) j (a .app)))) q
+    by-ctor a false = unfold denies in refl
+
+    go : (o : Option CtorApp) → denies (state-at c e s w lv) l x (with-ctor d o) ≡ against false (state-at c e s w lv) l d arg o
+    go none = unfold denies with-ctor in refl
+    go (some a) = unfold with-ctor agreeing in by-ctor a (eqb (a .ctor) d)
+
+pub none-found : {e o : List ℕ} {l ctor arg : ℕ} {k : CtorOf.CtorOf} (b : Bool) → k ≡ CtorOf.the-variants.Nothing →
+    Disagrees b e l ctor arg k TCheck.the-variants.Sat o
+unfolding ctor-meaning against
+none-found {e} {l = l} {ctor = ctor} {arg = arg} {k = k} b q = record {
   conflict = λ c s w lv x p r z.
-      by-class z s lv l x r ∙ ap (λ (v : CtorOf.CtorOf). disagrees (state-at c e s w lv) l x (ctor-meaning (context c) v)) q;
+      by-found b c e w arg ctor k z s lv l x p r
+      ∙ ap (λ (v : CtorOf.CtorOf). against b (state-at c e s w lv) l ctor arg (ctor-meaning (context c) v)) q;
   readable = tt;
 }
 
@@ -66,43 +153,44 @@ no-class-ctor {e} {l = l} q = record {
 abbrev app-of : List ℕ → SymbolId.SymbolId → TermId.TermId → CtorApp
 app-of c f y = record { app = y .0; ctor = f .0; fields = children (context c) (y .0) }
 
-module _ {e : List ℕ} {arg : ℕ} {k : CtorOf.CtorOf} {f : SymbolId.SymbolId} {y : TermId.TermId} (q : k ≡ CtorOf.the-variants.At f y) where
-  by-app : (l ctor : ℕ) (c s w : List ℕ) (lv : ℕ → ℕ) (x : TesterApp) → x .ctor ≡ ctor → x .arg ≡ arg → CtorOfClass c e w arg k →
-      (b : Bool) → eqb (f .0) ctor ≡ b →
-      tester-conflict (state-at c e s w lv) l x ≡ cond b none (some (firsts (AssertedLeaf l ∷ explain (merges e) arg (y .0))))
-  unfolding ctor-meaning disagrees tester-leaves state-with
-  by-app l ctor c s w lv x p r z b h =
-      by-class z s lv l x r
-      ∙ ap (λ (v : CtorOf.CtorOf). disagrees (state-at c e s w lv) l x (ctor-meaning (context c) v)) q
-      ∙ ap₂ (λ (d a : ℕ). cond (eqb (f .0) d) none (some (firsts (AssertedLeaf l ∷ explain (merges e) a (y .0))))) p r
-      ∙ ap (λ (v : Bool). cond v none (some (firsts (AssertedLeaf l ∷ explain (merges e) arg (y .0))))) h
+-- the application is in the class
+pub may-explain : {e o o₁ o₂ : List ℕ} {arg : ℕ} {k : CtorOf.CtorOf} {f : SymbolId.SymbolId} {y : TermId.TermId} {leaf : EqLeaf} →
+    k ≡ CtorOf.the-variants.At f y → DisagreeAsked e arg k o → Cleared o₁ → Pushed o₁ o₂ leaf → Explainable e arg (y .0) o₂
+may-explain {e} {f = f} {y = y} q a g p =
+    let (n, t) = a .equal f y q in
+    record { sound = a .engine; first = a .first; second = n; equal = t; answer = first-sound (merges e) g p }
 
-  pub same-ctor : {o : List ℕ} {l ctor : ℕ} → f .0 ≡ ctor → Disagrees e l ctor arg k TCheck.the-variants.Sat o
-  same-ctor {l = l} {ctor = ctor} h =
-      record { conflict = λ c s w lv x p r z. by-app l ctor c s w lv x p r z true (eq-eqb (f .0) ctor h); readable = tt }
+module _ (b : Bool) (e : List ℕ) (arg : ℕ) {k : CtorOf.CtorOf} {f : SymbolId.SymbolId} {y : TermId.TermId}
+    (q : k ≡ CtorOf.the-variants.At f y) where
+  by-app : (l ctor : ℕ) (c s w : List ℕ) (lv : ℕ → ℕ) (x : TesterApp) → x .ctor ≡ ctor → x .arg ≡ arg → Found b c e w arg ctor k →
+      (t : Bool) → t ≡ agreeing b (eqb (f .0) ctor) →
+      conflict-by b (state-at c e s w lv) l x ≡ cond t none (some (firsts (AssertedLeaf l ∷ explain (merges e) arg (y .0))))
+  unfolding ctor-meaning against state-with
+  by-app l ctor c s w lv x p r z t h =
+      by-found b c e w arg ctor k z s lv l x p r
+      ∙ ap (λ (v : CtorOf.CtorOf). against b (state-at c e s w lv) l ctor arg (ctor-meaning (context c) v)) q
+      ∙ ap (λ (v : Bool). cond v none (some (firsts (AssertedLeaf l ∷ explain (merges e) arg (y .0))))) (sym h)
 
-  -- the application is in the class
-  pub may-explain : {o o₁ o₂ : List ℕ} {leaf : EqLeaf} → DisagreeAsked e arg k o → Cleared o₁ → Pushed o₁ o₂ leaf →
-      Explainable e arg (y .0) o₂
-  may-explain a g p =
-      let (n, t) = a .equal f y q in
-      record { sound = a .engine; first = a .first; second = n; equal = t; answer = first-sound (merges e) g p }
+  pub tester-agrees : {o : List ℕ} {l ctor : ℕ} {t : Bool} → t ≡ agreeing b (eqb (f .0) ctor) → t ≡ true →
+      Disagrees b e l ctor arg k TCheck.the-variants.Sat o
+  tester-agrees {l = l} {ctor = ctor} h g =
+      record { conflict = λ c s w lv x p r z. by-app l ctor c s w lv x p r z true (sym g ∙ h); readable = tt }
 
   -- the literal, then what the explanation appends
-  pub other-ctor : {o₁ o₂ o₃ : List ℕ} {l : Lit.Lit} {ctor : ℕ} → (f .0 ≡ ctor → ⊥) → Cleared o₁ →
-      Pushed o₁ o₂ (leaf-meaning (GivenLeaf.the-variants.Asserted l)) → Explains e arg (y .0) o₂ o₃ →
-      Disagrees e (l .0) ctor arg k TCheck.the-variants.Conflict o₃
+  pub tester-disagrees : {o₁ o₂ o₃ : List ℕ} {l : Lit.Lit} {ctor : ℕ} {t : Bool} → t ≡ agreeing b (eqb (f .0) ctor) → t ≡ false →
+      Cleared o₁ → Pushed o₁ o₂ (leaf-meaning (GivenLeaf.the-variants.Asserted l)) → Explains e arg (y .0) o₂ o₃ →
+      Disagrees b e (l .0) ctor arg k TCheck.the-variants.Conflict o₃
   unfolding leaf-meaning firsts firsts-after any
-  other-ctor {o₁} {o₂} {o₃} {l} {ctor} d g u x = record {
-    conflict = λ c s w lv v i j z. by-app (l .0) ctor c s w lv v i j z false (ne-eqb (f .0) ctor d) ∙ ap some (sym listed);
+  tester-disagrees {o₁} {o₂} {o₃} {l} {ctor} h d g u x = record {
+    conflict = λ c s w lv v i j z. by-app (l .0) ctor c s w lv v i j z false (sym d ∙ h) ∙ ap some (sym listed);
     readable = x .sound .words;
   }
     where
-      first : leaves o₂ ≡ AssertedLeaf (l .0) ∷ []
-      first = u .listed ∙ ap (with-leaf (AssertedLeaf (l .0))) (g .empty)
+      first-leaf : leaves o₂ ≡ AssertedLeaf (l .0) ∷ []
+      first-leaf = u .listed ∙ ap (with-leaf (AssertedLeaf (l .0))) (g .empty)
 
       listed : leaves o₃ ≡ firsts (AssertedLeaf (l .0) ∷ explain (merges e) arg (y .0))
-      listed = x .listed ∙ ap (λ (ls : List EqLeaf). ls ++ firsts-after ls (explain (merges e) arg (y .0))) first
+      listed = x .listed ∙ ap (λ (ls : List EqLeaf). ls ++ firsts-after ls (explain (merges e) arg (y .0))) first-leaf
 
 -- ---- a tester application
 
@@ -147,7 +235,7 @@ module _ (c : List ℕ) (x : ℕ) (core : ContextSound c) (formed : Formed (cont
         let l = tester-within in
         omega arith
 
-module _ {c e o : List ℕ} {x arg : ℕ} {k : CtorOf.CtorOf} (z : AgainstAsked c e x arg k o) where
+module _ {c : List ℕ} {x : ℕ} (z : TesterTerm c x) where
   by-kind : TesterAt (context c) (z .formed) (z .signed) x
   by-kind = tested c x (z .core) (z .formed) (z .signed) (z .tester)
 
@@ -180,132 +268,207 @@ module _ {c e o : List ℕ} {x arg : ℕ} {k : CtorOf.CtorOf} (z : AgainstAsked 
     unfolding role-meaning
     tester-no-selector d = let n = ap role-meaning (sym d) ∙ role-is in let k : _≡_ {A = ℕ} 0 1 = cc in omega arith
 
-    pub tester-answers : {u : List ℕ} {l : ℕ} {d : SymbolId.SymbolId} {t : TCheck.TCheck} →
-        ρ ≡ DtRole.the-variants.Tester d → Disagrees e l (d .0) arg k t u → Against c e l x arg k t u
+    pub tester-is : {d : SymbolId.SymbolId} → ρ ≡ DtRole.the-variants.Tester d → TesterCtor c x (d .0)
     unfolding role-meaning
-    tester-answers {u} {l} {d} h y = record {
+    tester-is {d} h = record {
       app = record { app = x; tester = by-kind .0; ctor = by-kind .1; arg = by-kind .2 };
       is-tester = by-kind .6;
-      conflict = λ s w lv q.
-          y .conflict c s w lv (record { app = x; tester = by-kind .0; ctor = by-kind .1; arg = by-kind .2 })
-          (tester-of (by-kind .1) (d .0) (sym role-is ∙ ap role-meaning h)) same q;
-      readable = y .readable;
+      ctor = tester-of (by-kind .1) (d .0) (sym role-is ∙ ap role-meaning h);
+      arg = by-kind .5;
     }
-      where
-        same : by-kind .2 ≡ arg
-        same = ap (λ (xs : List ℕ). getD xs 0 0) (sym (by-kind .5) ∙ z .arg-is)
 
--- by what is found in the argument's class
-pub found-against : {c e w o args : List ℕ} {x : ℕ} {k : CtorOf.CtorOf} → TesterAsked c e w x o → args ≡ children (context c) x →
-    CtorOfClass c e w (getD args 0 0) k → AgainstAsked c e x (getD args 0 0) k o
-found-against {c} {x = x} z q f = record {
-  core = z .core;
-  formed = z .formed;
-  signed = z .signed;
-  tester = z .tester;
-  arg-is = arg-is c x (z .core) (z .formed) (z .signed) (z .tester) q;
-  found = record {
+-- the argument of a tester, and its class
+module _ {c e w o args : List ℕ} {x : ℕ} (z : TesterAsked c e w x o) (q : args ≡ children (context c) x) where
+  arg-fits : getD args 0 0 < max-terms
+  arg-fits = arg-within c x (z .term .core) (z .term .formed) (z .term .signed) (z .term .tester) q
+
+  pub class-asked : CtorAsked c e w (getD args 0 0)
+  class-asked = record {
+    core = z .term .core;
+    signed = z .term .signed;
     engine = z .engine;
-    first = arg-within c x (z .core) (z .formed) (z .signed) (z .tester) q;
-    equal = found-equal (z .core) f;
-    long = z .long;
-  };
+    table = z .table;
+    is-node = arg-fits;
+  }
+
+  pub disagree-asked : {k : CtorOf.CtorOf} → ((f : SymbolId.SymbolId) (y : TermId.TermId) → k ≡ CtorOf.the-variants.At f y →
+      (y .0 < max-terms) × (are-equal (merges e) (getD args 0 0) (y .0) ≡ true)) → DisagreeAsked e (getD args 0 0) k o
+  disagree-asked f = record { engine = z .engine; first = arg-fits; equal = f; long = z .long }
+
+  -- the conflict that was found is the tester's
+  pub conflict-found : (b : Bool) {l d : ℕ} {k : CtorOf.CtorOf} {r : TCheck.TCheck} {o′ : List ℕ} → TesterCtor c x d →
+      Found b c e w (getD args 0 0) d k → Disagrees b e l d (getD args 0 0) k r o′ → TesterConflict b c e w l x r o′
+  conflict-found b t f y = record {
+    app = t .app;
+    is-tester = t .is-tester;
+    conflict = λ s lv. y .conflict c s w lv (t .app) (t .ctor) (sym (ap (λ (xs : List ℕ). getD xs 0 0) (q ∙ t .arg))) f;
+    readable = y .readable;
+  }
+
+-- by its class, or by its own application
+pub conflict-by-class : {b : Bool} {c e w o o′ args : List ℕ} {l x d : ℕ} {k : CtorOf.CtorOf} {r : TCheck.TCheck} →
+    ConflictAsked b c e w x o → args ≡ children (context c) x → TesterCtor c x d → CtorOfClass c e w (getD args 0 0) k →
+    Disagrees b e l d (getD args 0 0) k r o′ → TesterConflict b c e w l x r o′
+conflict-by-class {b} {d = d} z q t f y = conflict-found (z .asked) q b t (found-of-class b d (z .lone) f) y
+
+pub conflict-by-own : {c e w o o′ args : List ℕ} {l x d : ℕ} {k : CtorOf.CtorOf} {r : TCheck.TCheck} → TesterAsked c e w x o →
+    args ≡ children (context c) x → TesterCtor c x d → Found false c e w (getD args 0 0) d k →
+    Disagrees false e l d (getD args 0 0) k r o′ → TesterConflict false c e w l x r o′
+conflict-by-own z q t f y = conflict-found z q false t f y
+
+pub term-arg : {c args : List ℕ} {x : ℕ} → TesterTerm c x → args ≡ children (context c) x → 0 < length args
+term-arg {c} {x = x} z q = one-arg c x (z .core) (z .formed) (z .signed) (z .tester) q
+
+pub term-within : {c : List ℕ} {x : ℕ} → TesterTerm c x → x < length (context c .terms)
+term-within {c} {x} z = tester-within c x (z .core) (z .formed) (z .signed) (z .tester)
+
+-- ---- the records
+
+-- an entry of another sign asks nothing
+pub entry-passed : {b t : Bool} {c e s w o : List ℕ} {i k : ℕ} → EntryAsked b c e s w i o → k ≡ at s REC-KEY i →
+    t ≡ of-sign b k → not t ≡ true → EntryConflict b c e s w i TCheck.the-variants.Sat o
+unfolding entry-of entry-clash
+entry-passed {b} {t} {s = s} {i = i} z q p n = record {
+  conflict = λ lv. let m : of-sign b (at s REC-KEY i) ≡ false = sym (p ∙ ap (of-sign b) q) ∙ not-true t n in rw m;
+  readable = tt;
 }
 
-pub class-asked : {c e w o args : List ℕ} {x : ℕ} → TesterAsked c e w x o → args ≡ children (context c) x →
-    CtorAsked c e w (getD args 0 0)
-class-asked {c} {x = x} z q = record {
-  core = z .core;
-  signed = z .signed;
-  engine = z .engine;
-  table = z .table;
-  is-node = arg-within c x (z .core) (z .formed) (z .signed) (z .tester) q;
-}
-
--- the conflict that was found is that of the class
-pub against-class : {c e w o : List ℕ} {l x arg : ℕ} {k : CtorOf.CtorOf} {r : TCheck.TCheck} → CtorOfClass c e w arg k →
-    Against c e l x arg k r o → TesterConflict c e w l x r o
-against-class {w = w} f y = record {
-  app = y .app;
-  is-tester = y .is-tester;
-  conflict = λ s lv. y .conflict s w lv f;
+-- an entry of the sign asks what the code asked
+pub entry-asked : {b t : Bool} {c e s w o : List ℕ} {i k l x : ℕ} {r : TCheck.TCheck} → k ≡ at s REC-KEY i →
+    t ≡ of-sign b k → not t ≡ false → l ≡ at s REC-LIT i → x ≡ key-atom k → TesterConflict b c e w l x r o →
+    EntryConflict b c e s w i r o
+unfolding entry-of asserted-at entry-clash tester-found state-with
+entry-asked {b} {t} {c} {e} {s} {w} {o} {i} {k} {l} {x} {r} q p n u v y = record {
+  conflict = λ lv. subst (λ (m : Option (List EqLeaf)). ConflictIs r m o) (sym (found lv)) (y .conflict s lv);
   readable = y .readable;
 }
+  where
+    found : (lv : ℕ → ℕ) → entry-clash b (entry-of b s lv i) (state-at c e s w lv) ≡ conflict-by b (state-at c e s w lv) l (y .app)
+    found lv =
+        let m : of-sign b (at s REC-KEY i) ≡ true = sym (p ∙ ap (of-sign b) q) ∙ not-false t n in
+        rw m
+        (ap₂ (λ (j : ℕ) (a : Option TesterApp). tester-found b j a (state-at c e s w lv)) (sym u)
+        (ap (tester-app (context c)) (ap key-atom (sym q) ∙ sym v) ∙ y .is-tester))
 
--- ---- the level record
+-- the tester of an entry
+pub entry-term : {b : Bool} {c e s w o : List ℕ} {i k x : ℕ} → EntryAsked b c e s w i o → k ≡ at s REC-KEY i → x ≡ key-atom k →
+    ConflictAsked b c e w x o
+entry-term {c = c} {i = i} z q p =
+    let st = z .asked .check .state in
+    record {
+      asked = record {
+        term = record {
+          core = st .core;
+          formed = st .formed;
+          signed = st .signed;
+          tester = ap (term-kind (context c)) (p ∙ ap key-atom q) ∙ st .records i (z .within);
+        };
+        engine = st .engine;
+        table = inl (z .asked .check .work);
+        long = z .asked .long;
+      };
+      lone = z .asked .lone;
+    }
 
--- what an entry of it asks
-unfoldable pub entry-clash : AssertedTester → State → Ruled
-entry-clash a S = tester-clash-at (a .lit) (tester-app (S .terms) (a .atom)) S
+-- it is a term
+pub entry-small : {b : Bool} {c e s w o : List ℕ} {i k x : ℕ} → EntryAsked b c e s w i o → k ≡ at s REC-KEY i → x ≡ key-atom k →
+    x < 4294967296
+entry-small z q p =
+    let t = entry-term z q p .asked .term in
+    let h = term-within t in
+    let n = t .core .term-count in
+    let f = t .core .terms-fit in
+    omega arith
+
+-- the rule of an entry
+abbrev pub clash-at-by : Bool → ℕ → Option TesterApp → State → Ruled
+clash-at-by true = tester-clash-at
+clash-at-by false = negative-clash-at
+
+abbrev pub rule-of : Bool → AssertedTester → State → Ruled
+rule-of b a S = clash-at-by b (a .lit) (tester-app (S .terms) (a .atom)) S
+
+-- the rule by what the definition finds of an entry
+rule-finds : (b : Bool) (a : AssertedTester) (S : State) → rule-of b a S ≡ conflict-of S (entry-clash b (some a) S)
+unfolding entry-clash
+rule-finds b a S = go b (tester-app (S .terms) (a .atom))
+  where
+    go : (d : Bool) (m : Option TesterApp) → clash-at-by d (a .lit) m S ≡ conflict-of S (tester-found d (a .lit) m S)
+    go true none = unfold tester-clash-at tester-found conflict-of in refl
+    go true (some x) = unfold tester-clash-at tester-found in refl
+    go false none = unfold negative-clash-at tester-found conflict-of in refl
+    go false (some x) = unfold negative-clash-at tester-found in refl
 
 -- the entries from i on are to be asked
-pub record Clashing (c e s w o : List ℕ) (n i : ℕ) : Type 0 where
-  pub check : CheckSound c e s w
-  pub long : answer-size ≤ length o
+pub record Clashing (b : Bool) (c e s w o : List ℕ) (n i : ℕ) : Type 0 where
+  pub asked : ClashAsked b c e s w o
   pub count : n ≡ records# s
   pub within : i ≤ n
   pub rest : (lv : ℕ → ℕ) →
-      tester-clash (state-at c e s w lv) ≡ try-each entry-clash (map (asserted-at s lv) (range i (n - i))) (state-at c e s w lv)
+      clash-by b (state-at c e s w lv) ≡ try-each (rule-of b) (gather (entry-of b s lv) (range i (n - i))) (state-at c e s w lv)
 
-pub clashing-first : {c e s w o : List ℕ} {n : ℕ} → CheckSound c e s w → answer-size ≤ length o → n ≡ records# s → Clashing c e s w o n 0
-unfolding tester-clash state-with dt-with level-record counted entry-clash
-clashing-first {c} {e} {s} {w} {n = n} z l q = record {
-  check = z;
-  long = l;
+pub clashing-first : {b : Bool} {c e s w o : List ℕ} {n : ℕ} → ClashAsked b c e s w o → n ≡ records# s → Clashing b c e s w o n 0
+clashing-first {b} {c} {e} {s} {w} {n = n} z q = record {
+  asked = z;
   count = q;
   within = omega arith;
   rest = λ lv.
       let m : records# s ≡ n - 0 = omega arith in
-      ap (λ (k : ℕ). try-each entry-clash (map (asserted-at s lv) (range 0 k)) (state-at c e s w lv)) m;
+      whole b lv
+      ∙ ap (λ (k : ℕ). try-each (rule-of b) (gather (entry-of b s lv) (range 0 k)) (state-at c e s w lv)) m;
 }
+  where
+    whole : (d : Bool) (lv : ℕ → ℕ) →
+        clash-by d (state-at c e s w lv)
+        ≡ try-each (rule-of d) (gather (entry-of d s lv) (range 0 (records# s))) (state-at c e s w lv)
+    whole true lv = unfold tester-clash state-with dt-with record-of in refl
+    whole false lv = unfold negative-clash state-with dt-with record-of in refl
 
-module _ {c e s w o : List ℕ} {n i l x : ℕ} {r : TCheck.TCheck} {o′ : List ℕ} (z : Clashing c e s w o n i) (h : i < n)
-    (p : x ≡ at s REC-ATOM i) (q : l ≡ at s REC-LIT i) (t : TesterConflict c e w l x r o′) where
-  -- the entry asks what the code asked
-  entry-is : (lv : ℕ → ℕ) → entry-clash (asserted-at s lv i) (state-at c e s w lv)
-      ≡ conflict-of (state-at c e s w lv) (tester-conflict (state-at c e s w lv) l (t .app))
-  unfolding entry-clash asserted-at tester-clash-at state-with
-  entry-is lv =
-      ap₂ (λ (v : ℕ) (m : Option TesterApp). tester-clash-at v m (state-at c e s w lv)) (sym q)
-      (ap (tester-app (context c)) (sym p) ∙ t .is-tester)
+module _ {b : Bool} {c e s w o : List ℕ} {n i : ℕ} {r : TCheck.TCheck} {o′ : List ℕ} (z : Clashing b c e s w o n i) (h : i < n)
+    (t : EntryConflict b c e s w i r o′) where
+  later : (ℕ → ℕ) → State → Ruled
+  later lv S = try-each (rule-of b) (gather (entry-of b s lv) (range (suc i) (n - suc i))) S
 
-  rest-is : (lv : ℕ → ℕ) → tester-clash (state-at c e s w lv)
-      ≡ then (conflict-of (state-at c e s w lv) (tester-conflict (state-at c e s w lv) l (t .app)))
-      (λ S. try-each entry-clash (map (asserted-at s lv) (range (suc i) (n - suc i))) S)
-  unfolding try-each range
+  rest-is : (lv : ℕ → ℕ) → clash-by b (state-at c e s w lv)
+      ≡ then (conflict-of (state-at c e s w lv) (entry-clash b (entry-of b s lv i) (state-at c e s w lv))) (later lv)
+  unfolding try-each range gather later
   rest-is lv =
       let k : n - i ≡ suc (n - suc i) = omega arith in
       z .rest lv
-      ∙ ap (λ (m : ℕ). try-each entry-clash (map (asserted-at s lv) (range i m)) (state-at c e s w lv)) k
-      ∙ ap (λ (a : Ruled). then a (λ S. try-each entry-clash (map (asserted-at s lv) (range (suc i) (n - suc i))) S)) (entry-is lv)
+      ∙ ap (λ (m : ℕ). try-each (rule-of b) (gather (entry-of b s lv) (range i m)) (state-at c e s w lv)) k
+      ∙ go (entry-of b s lv i)
+    where
+      go : (m : Option AssertedTester) →
+          try-each (rule-of b) (cons-option m (gather (entry-of b s lv) (range (suc i) (n - suc i)))) (state-at c e s w lv)
+          ≡ then (conflict-of (state-at c e s w lv) (entry-clash b m (state-at c e s w lv))) (later lv)
+      go none = unfold cons-option entry-clash conflict-of then pass go-on in refl
+      go (some a) =
+          unfold cons-option in
+          ap (λ (k : Ruled). then k (later lv)) (rule-finds b a (state-at c e s w lv))
 
-  pub clashing-next : r ≡ TCheck.the-variants.Sat → answer-size ≤ length o′ → Clashing c e s w o′ n (i + 1)
-  unfolding then conflict-of pass go-on
+  pub clashing-next : r ≡ TCheck.the-variants.Sat → answer-size ≤ length o′ → Clashing b c e s w o′ n (i + 1)
+  unfolding then conflict-of pass go-on later
   clashing-next d a = record {
-    check = z .check;
-    long = a;
+    asked = record { check = z .asked .check; lone = z .asked .lone; long = a };
     count = z .count;
     within = omega arith;
     rest = λ lv.
         rest-is lv
-        ∙ ap (λ (m : Option (List EqLeaf)). then (conflict-of (state-at c e s w lv) m)
-        (λ S. try-each entry-clash (map (asserted-at s lv) (range (suc i) (n - suc i))) S))
-        (subst (λ (v : TCheck.TCheck). ConflictIs v (tester-conflict (state-at c e s w lv) l (t .app)) o′) d (t .conflict s lv))
-        ∙ ap (λ (k : ℕ). try-each entry-clash (map (asserted-at s lv) (range k (n - k))) (state-at c e s w lv)) (sym (add-one i));
+        ∙ ap (λ (m : Option (List EqLeaf)). then (conflict-of (state-at c e s w lv) m) (later lv))
+        (subst (λ (v : TCheck.TCheck). ConflictIs v (entry-clash b (entry-of b s lv i) (state-at c e s w lv)) o′) d (t .conflict lv))
+        ∙ ap (λ (k : ℕ). try-each (rule-of b) (gather (entry-of b s lv) (range k (n - k))) (state-at c e s w lv)) (sym (add-one i));
   }
 
-  pub clashing-found : (r ≡ TCheck.the-variants.Sat → ⊥) → Tried tester-clash c e s w TCheck.the-variants.Conflict c s w o′
+  pub clashing-found : (r ≡ TCheck.the-variants.Sat → ⊥) → Tried (clash-by b) c e s w TCheck.the-variants.Conflict c s w o′
   unfolding then conflict-of answered go-on
   clashing-found d = record {
-    sound = z .check;
+    sound = z .asked .check;
     extends = extends-self (context c);
     outcome = λ lv.
         rest-is lv
-        ∙ ap (λ (m : Option (List EqLeaf)). then (conflict-of (state-at c e s w lv) m)
-        (λ S. try-each entry-clash (map (asserted-at s lv) (range (suc i) (n - suc i))) S))
-        (conflict _ r d (t .conflict s lv));
+        ∙ ap (λ (m : Option (List EqLeaf)). then (conflict-of (state-at c e s w lv) m) (later lv)) (conflict _ r d (t .conflict lv));
     unchanged = λ m. refl;
-    readable = words _ r d (t .conflict s (λ k. k)) (t .readable);
+    readable = words _ r d (t .conflict (λ k. k)) (t .readable);
   }
     where
       conflict : (m : Option (List EqLeaf)) (v : TCheck.TCheck) → (v ≡ TCheck.the-variants.Sat → ⊥) → ConflictIs v m o′ →
@@ -324,30 +487,25 @@ module _ {c e s w o : List ℕ} {n i l x : ℕ} {r : TCheck.TCheck} {o′ : List
       words m TCheck.the-variants.Unknown g b k = absurd b
       words m TCheck.the-variants.NoRoom g b k = absurd b
 
--- the entry's tester may be asked
-pub clash-asked : {c e s w o : List ℕ} {n i x : ℕ} → Clashing c e s w o n i → i < n → x ≡ at s REC-ATOM i → TesterAsked c e w x o
-clash-asked {c} {s = s} {i = i} z h p =
-    let st = z .check .state in
-    let e = z .count in
-    record {
-      core = st .core;
-      formed = st .formed;
-      signed = st .signed;
-      engine = st .engine;
-      table = inl (z .check .work);
-      tester = ap (term-kind (context c)) p ∙ st .records i (omega arith);
-      long = z .long;
-    }
+-- a positive record may be asked in any check, either one where classes have one constructor
+pub positive-clash : {c e s w o : List ℕ} → CheckSound c e s w → answer-size ≤ length o → ClashAsked true c e s w o
+positive-clash z l = record { check = z; lone = λ q. absurd (true≢false q); long = l }
 
-pub clashing-done : {c e s w o : List ℕ} {n i : ℕ} → Clashing c e s w o n i → n ≤ i →
-    Tried tester-clash c e s w TCheck.the-variants.Sat c s w o
-unfolding try-each range
-clashing-done {c} {e} {s} {w} {o} {n} {i} z h = record {
-  sound = z .check;
+pub lone-clash : {b : Bool} {c e s w o : List ℕ} → CheckSound c e s w → Lone c e w → answer-size ≤ length o → ClashAsked b c e s w o
+lone-clash z o l = record { check = z; lone = λ q. o; long = l }
+
+pub clashing-asks : {b : Bool} {c e s w o : List ℕ} {n i : ℕ} → Clashing b c e s w o n i → i < n → EntryAsked b c e s w i o
+clashing-asks z h = let e = z .count in record { asked = z .asked; within = omega arith }
+
+pub clashing-done : {b : Bool} {c e s w o : List ℕ} {n i : ℕ} → Clashing b c e s w o n i → n ≤ i →
+    Tried (clash-by b) c e s w TCheck.the-variants.Sat c s w o
+unfolding try-each range gather
+clashing-done {b} {c} {e} {s} {w} {o} {n} {i} z h = record {
+  sound = z .asked .check;
   extends = extends-self (context c);
   outcome = λ lv.
       let k : n - i ≡ 0 = omega arith in
-      z .rest lv ∙ ap (λ (m : ℕ). try-each entry-clash (map (asserted-at s lv) (range i m)) (state-at c e s w lv)) k;
+      z .rest lv ∙ ap (λ (m : ℕ). try-each (rule-of b) (gather (entry-of b s lv) (range i m)) (state-at c e s w lv)) k;
   unchanged = λ m. refl;
   readable = tt;
 }

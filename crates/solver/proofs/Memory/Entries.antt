@@ -1,7 +1,7 @@
--- The entries of the level record: those from a place on dropped, one more, and a sound state whose records change.
-use Rattle.core.proofs.Kit.{ℕ, suc, _+_, _-_, _≤_, _<_, _≡_, refl, sym, ap, _∙_, subst, _⊎_, ⊎-elim, inl, inr, Bool, true, false, cond, true≢false, List, [], _∷_, _++_, ℕ-discrete, add-one, arith, T, eqb, eqb→eq, eq-eqb, ne-eqb, leb, leb→le, length}
+-- The entries of the records of testers: those from a place on dropped, one more, and a sound state whose records change.
+use Rattle.core.proofs.Kit.{ℕ, suc, _+_, _-_, _≤_, _<_, _≡_, refl, sym, ap, ap₂, _∙_, subst, _⊎_, ⊎-elim, inl, inr, Bool, true, false, cond, true≢false, List, [], _∷_, _++_, Option, none, some, ℕ-discrete, add-one, zero-add, arith, T, eqb, eqb→eq, eq-eqb, ne-eqb, leb, leb→le, length}
 use Rattle.core.specs.Limits.{max-terms, table-words}
-use Rattle.core.specs.Lists.{In, any, range}
+use Rattle.core.specs.Lists.{In, any, gather, cons-option, range}
 use Rattle.core.specs.Memory.Words.{at, put, counted, Kept}
 use Rattle.core.specs.Memory.Table.{context}
 use Rattle.core.proofs.Lists.{any-in, in-range, length-range, T-true, true-T, not-true-false, cond-both}
@@ -11,12 +11,13 @@ use Rattle.theory.specs.Atom.{Registered}
 use Rattle.theory.specs.Memory.Table.{merges, level}
 use Rattle.theory.specs.Memory.Registry.{atoms, RegistrySound}
 use Rattle.theory.proofs.Members.{Apart, in-left, in-right, in-any, apart-length, apart-last}
-use Rattle.solver.specs.State.{AssertedTester, with-dt, with-level-record, with-lasting}
-use Rattle.solver.specs.Memory.Table.{COUNTS, RECORDS, MARK, COLLECTED, LASTING, EMITTED, SPLIT, RECORDED, REC-ATOM, REC-LIT, solver-room, records#, is-set, flagged, term-kind, asserted-at, level-record, dt-with, state-with, state, SolverSound, CollectedSound, StateSound}
+use Rattle.solver.specs.State.{AssertedTester, with-dt, with-level-record, with-negative-record, with-lasting}
+use Rattle.solver.specs.Memory.Table.{COUNTS, RECORDS, MARK, COLLECTED, LASTING, EMITTED, SPLIT, RECORDED, REC-KEY, REC-LIT, max-records, solver-room, records#, is-set, flagged, term-kind, of-sign, key-atom, entry-of, record-of, dt-with, state-with, state, SolverSound, CollectedSound, StateSound}
 use Rattle.solver.specs.Memory.Levels.{RecordsSound, Dropped, NewEntry, Entered}
 use Rattle.solver.proofs.Memory.Frames.{registry-kept, flagged-kept, announced-kept}
 use Rattle.solver.proofs.Memory.Growing.{kind-within}
 use Rattle.solver.proofs.Memory.TableStores.{kept-none, stores}
+use Rattle.solver.proofs.Memory.Signs.{atom-fits, gather-same, gather-more, entry-same, entry-is}
 
 -- ---- lists with one element more
 
@@ -55,8 +56,8 @@ pub record Dropping (s t : List ℕ) (n i : ℕ) : Type 0 where
   pub after : n ≤ i
   pub within : i ≤ records# s
   pub kept : Kept solver-room (RECORDED ∷ []) s t
-  pub once : Apart (counted (at s REC-ATOM) i)
-  pub flags : (x : ℕ) → x < max-terms → is-set (at t RECORDED x) ≡ any (eqb x) (counted (at s REC-ATOM) i)
+  pub once : Apart (counted (at s REC-KEY) i)
+  pub flags : (x : ℕ) → x < max-records → is-set (at t RECORDED x) ≡ any (eqb x) (counted (at s REC-KEY) i)
 
 pub drop-first : {s : List ℕ} {n i : ℕ} → RecordsSound s → n ≤ records# s → i ≡ records# s → Dropping s s n i
 drop-first {s} {n} {i} z l e = record {
@@ -64,31 +65,31 @@ drop-first {s} {n} {i} z l e = record {
   after = omega arith;
   within = omega arith;
   kept = kept-none (RECORDED ∷ []) s;
-  once = subst (λ (k : ℕ). Apart (counted (at s REC-ATOM) k)) (sym e) (z .solver .once);
-  flags = λ x h. z .solver .recorded x h ∙ ap (λ (k : ℕ). any (eqb x) (counted (at s REC-ATOM) k)) (sym e);
+  once = subst (λ (k : ℕ). Apart (counted (at s REC-KEY) k)) (sym e) (z .solver .once);
+  flags = λ x h. z .solver .recorded x h ∙ ap (λ (k : ℕ). any (eqb x) (counted (at s REC-KEY) k)) (sym e);
 }
 
 module _ {s t : List ℕ} {n i : ℕ} (z : Dropping s t n i) where
   -- entry j is as it was
-  drop-atom : (j : ℕ) → j < i → at t REC-ATOM j ≡ at s REC-ATOM j
-  drop-atom j h =
+  drop-key : (j : ℕ) → j < i → at t REC-KEY j ≡ at s REC-KEY j
+  drop-key j h =
       let f = z .sound .solver .records-fit in
-      let w = z .within in z .kept .rest REC-ATOM j tt (omega arith)
+      let w = z .within in z .kept .rest REC-KEY j tt (omega arith)
 
-  drop-term : (j : ℕ) → j < i → at t REC-ATOM j < max-terms
-  drop-term j h = let w = z .within in let e = drop-atom j h in let b = z .sound .terms j (omega arith) in omega arith
+  drop-fits : (j : ℕ) → j < i → at t REC-KEY j < max-records
+  drop-fits j h = let w = z .within in let e = drop-key j h in let b = z .sound .keys j (omega arith) in omega arith
 
   drop-long : table-words ≤ length t
   drop-long = let e = z .kept .long in let l = z .sound .solver .long in omega arith
 
   -- the words that the loop reads and writes
-  pub drop-read : n < i → REC-ATOM + (i - 1) < length t
+  pub drop-read : n < i → REC-KEY + (i - 1) < length t
   drop-read h = let f = z .sound .solver .records-fit in let w = z .within in let g = drop-long in omega arith
 
-  pub drop-write : (b : ℕ) {x : ℕ} → T (leb (b + max-terms) table-words) → n < i → x ≡ at t REC-ATOM (i - 1) → b + x < length t
+  pub drop-write : (b : ℕ) {x : ℕ} → T (leb (b + max-records) table-words) → n < i → x ≡ at t REC-KEY (i - 1) → b + x < length t
   drop-write b f h e =
-      let m = leb→le (b + max-terms) table-words f in
-      let k = drop-term (i - 1) (omega arith) in
+      let m = leb→le (b + max-records) table-words f in
+      let k = drop-fits (i - 1) (omega arith) in
       let g = drop-long in omega arith
 
   pub drop-count : (COUNTS + RECORDS < length t) × (n < 4294967296)
@@ -98,14 +99,14 @@ module _ {s t : List ℕ} {n i : ℕ} (z : Dropping s t n i) where
       let w = z .within in
       let g = drop-long in (omega arith, omega arith)
 
-pub drop-next : {s t u : List ℕ} {n i x : ℕ} → Dropping s t n i → n < i → x ≡ at t REC-ATOM (i - 1) → u ≡ put t RECORDED x 0 →
+pub drop-next : {s t u : List ℕ} {n i x : ℕ} → Dropping s t n i → n < i → x ≡ at t REC-KEY (i - 1) → u ≡ put t RECORDED x 0 →
     Dropping s u n (i - 1)
 unfolding is-set
 drop-next {s} {t} {u} {n} {i} {x} z h e q =
     let w = z .within in
-    let k = drop-atom z (i - 1) (omega arith) in
-    let b = drop-term z (i - 1) (omega arith) in
-    let f : x < max-terms = omega arith in
+    let k = drop-key z (i - 1) (omega arith) in
+    let b = drop-fits z (i - 1) (omega arith) in
+    let f : x < max-records = omega arith in
     let g = drop-long z in
     record {
       sound = z .sound;
@@ -117,16 +118,16 @@ drop-next {s} {t} {u} {n} {i} {x} z h e q =
     }
   where
     atoms : ℕ → List ℕ
-    atoms k = counted (at s REC-ATOM) k
+    atoms k = counted (at s REC-KEY) k
 
-    last : atoms i ≡ atoms (i - 1) ++ (at s REC-ATOM (i - 1) ∷ [])
-    last = let m : i ≡ suc (i - 1) = omega arith in ap (counted (at s REC-ATOM)) m ∙ counted-more (at s REC-ATOM) (i - 1)
+    last : atoms i ≡ atoms (i - 1) ++ (at s REC-KEY (i - 1) ∷ [])
+    last = let m : i ≡ suc (i - 1) = omega arith in ap (counted (at s REC-KEY)) m ∙ counted-more (at s REC-KEY) (i - 1)
 
-    is-last : x ≡ at s REC-ATOM (i - 1)
-    is-last = e ∙ drop-atom z (i - 1) (omega arith)
+    is-last : x ≡ at s REC-KEY (i - 1)
+    is-last = e ∙ drop-key z (i - 1) (omega arith)
 
-    parts : Apart (atoms (i - 1)) × (In (at s REC-ATOM (i - 1)) (atoms (i - 1)) → ⊥)
-    parts = apart-init (atoms (i - 1)) (at s REC-ATOM (i - 1)) (subst Apart last (z .once))
+    parts : Apart (atoms (i - 1)) × (In (at s REC-KEY (i - 1)) (atoms (i - 1)) → ⊥)
+    parts = apart-init (atoms (i - 1)) (at s REC-KEY (i - 1)) (subst Apart last (z .once))
 
     flag : (y : ℕ) → at u RECORDED y ≡ cond (eqb y x) 0 (at t RECORDED y) → is-set (at t RECORDED y) ≡ any (eqb y) (atoms i) →
         Dec (y ≡ x) → is-set (at u RECORDED y) ≡ any (eqb y) (atoms (i - 1))
@@ -137,8 +138,8 @@ drop-next {s} {t} {u} {n} {i} {x} z h e q =
         rw (p, ne-eqb y x d)
         (r
         ∙ ap (any (eqb y)) last
-        ∙ any-last (eqb y) (atoms (i - 1)) (at s REC-ATOM (i - 1))
-        ∙ ap (λ (b : Bool). cond (any (eqb y) (atoms (i - 1))) true b) (ne-eqb y (at s REC-ATOM (i - 1)) (λ f. d (f ∙ sym is-last)))
+        ∙ any-last (eqb y) (atoms (i - 1)) (at s REC-KEY (i - 1))
+        ∙ ap (λ (b : Bool). cond (any (eqb y) (atoms (i - 1))) true b) (ne-eqb y (at s REC-KEY (i - 1)) (λ f. d (f ∙ sym is-last)))
         ∙ cond-same (any (eqb y) (atoms (i - 1))))
 
 pub drop-done : {s t u : List ℕ} {n i : ℕ} → Dropping s t n i → i ≤ n → u ≡ put t COUNTS RECORDS n → Dropped s n u
@@ -152,11 +153,11 @@ drop-done {s} {t} {u} {n} {i} z h e =
     let count : records# u ≡ n = search (e, stores) in
     let kept : Kept solver-room (COUNTS ∷ RECORDED ∷ []) s u =
     search (e, kept-more solver-room (RECORDED ∷ []) (COUNTS ∷ RECORDED ∷ []) s t tt (z .kept), stores) in
-    let same : (k : ℕ) → k < n → at u REC-ATOM k ≡ at s REC-ATOM k = λ k l. kept .rest REC-ATOM k tt (omega arith) in
-    let atoms : counted (at u REC-ATOM) (records# u) ≡ counted (at s REC-ATOM) i =
-    ap (counted (at u REC-ATOM)) count
-    ∙ counted-same (at u REC-ATOM) (at s REC-ATOM) n same
-    ∙ ap (counted (at s REC-ATOM)) (sym q) in
+    let same : (k : ℕ) → k < n → at u REC-KEY k ≡ at s REC-KEY k = λ k l. kept .rest REC-KEY k tt (omega arith) in
+    let atoms : counted (at u REC-KEY) (records# u) ≡ counted (at s REC-KEY) i =
+    ap (counted (at u REC-KEY)) count
+    ∙ counted-same (at u REC-KEY) (at s REC-KEY) n same
+    ∙ ap (counted (at s REC-KEY)) (sym q) in
     record {
       sound = record {
         solver = record {
@@ -167,7 +168,7 @@ drop-done {s} {t} {u} {n} {i} z h e =
           recorded = λ x l.
               let d : at u RECORDED x ≡ at t RECORDED x = search (e, stores) in ap is-set d ∙ z .flags x l ∙ ap (any (eqb x)) (sym atoms);
         };
-        terms = λ k l. let b = z .sound .terms k (omega arith) in let d = same k (omega arith) in omega arith;
+        keys = λ k l. let b = z .sound .keys k (omega arith) in let d = same k (omega arith) in omega arith;
       };
       count = count;
       kept = kept;
@@ -176,60 +177,60 @@ drop-done {s} {t} {u} {n} {i} z h e =
 -- ---- one entry more
 
 module _ {s : List ℕ} {x : ℕ} (z : NewEntry s x) where
-  not-recorded : any (eqb x) (counted (at s REC-ATOM) (records# s)) ≡ false
+  not-recorded : any (eqb x) (counted (at s REC-KEY) (records# s)) ≡ false
   unfolding is-set
-  not-recorded = sym (z .may .sound .solver .recorded x (z .may .atom)) ∙ ap is-set (z .new)
+  not-recorded = sym (z .may .sound .solver .recorded x (z .may .key)) ∙ ap is-set (z .new)
 
-  not-in : In x (counted (at s REC-ATOM) (records# s)) → ⊥
+  not-in : In x (counted (at s REC-KEY) (records# s)) → ⊥
   not-in i =
       true≢false
-      (sym (T-true (any (eqb x) (counted (at s REC-ATOM) (records# s)))
-      (in-any (eqb x) (counted (at s REC-ATOM) (records# s)) x i (true-T (eqb x x) (eq-eqb x x refl))))
+      (sym (T-true (any (eqb x) (counted (at s REC-KEY) (records# s)))
+      (in-any (eqb x) (counted (at s REC-KEY) (records# s)) x i (true-T (eqb x x) (eq-eqb x x refl))))
       ∙ not-recorded)
 
-  -- the level record has fewer entries than there are terms
-  one-free : records# s < max-terms
+  -- there are fewer entries than keys
+  one-free : records# s < max-records
   one-free =
-      let l = apart-length (x ∷ counted (at s REC-ATOM) (records# s)) (range 0 max-terms) (not-in, z .may .sound .solver .once)
-      (λ y k. in-range 0 max-terms y (omega arith) (below y k)) in
-      omega (arith, counted-length (at s REC-ATOM) (records# s), length-range 0 max-terms)
+      let l = apart-length (x ∷ counted (at s REC-KEY) (records# s)) (range 0 max-records) (not-in, z .may .sound .solver .once)
+      (λ y k. in-range 0 max-records y (omega arith) (below y k)) in
+      omega (arith, counted-length (at s REC-KEY) (records# s), length-range 0 max-records)
     where
-      below : (y : ℕ) → In y (x ∷ counted (at s REC-ATOM) (records# s)) → y < 0 + max-terms
-      below y (inl e) = let h = z .may .atom in omega arith
+      below : (y : ℕ) → In y (x ∷ counted (at s REC-KEY) (records# s)) → y < 0 + max-records
+      below y (inl e) = let h = z .may .key in omega arith
       below y (inr k) =
-          let (i, l, e) = counted-in (at s REC-ATOM) (records# s) y k in
-          let h = z .may .sound .terms i l in omega arith
+          let (i, l, e) = counted-in (at s REC-KEY) (records# s) y k in
+          let h = z .may .sound .keys i l in omega arith
 
 -- the words by the four stores
-stored : (s s₁ s₂ s₃ u : List ℕ) (n x l : ℕ) → table-words ≤ length s → x < max-terms → n < max-terms → n ≡ records# s →
-    s₁ ≡ put s RECORDED x 1 → s₂ ≡ put s₁ REC-ATOM n x → s₃ ≡ put s₂ REC-LIT n l → u ≡ put s₃ COUNTS RECORDS (n + 1) → Entered s x l u
+stored : (s s₁ s₂ s₃ u : List ℕ) (n x l : ℕ) → table-words ≤ length s → x < max-records → n < max-records → n ≡ records# s →
+    s₁ ≡ put s RECORDED x 1 → s₂ ≡ put s₁ REC-KEY n x → s₃ ≡ put s₂ REC-LIT n l → u ≡ put s₃ COUNTS RECORDS (n + 1) → Entered s x l u
 stored s s₁ s₂ s₃ u n x l a b f e e₁ e₂ e₃ e₄ = record {
   long = search (e₄, e₃, e₂, e₁, stores);
   count = search (← e, e₄, e₃, e₂, e₁, add-one, stores);
   flags = search (e₄, e₃, e₂, e₁, stores);
-  atoms = search (← e, e₄, e₃, e₂, e₁, stores);
+  keys = search (← e, e₄, e₃, e₂, e₁, stores);
   lits = search (← e, e₄, e₃, e₂, e₁, stores);
   kept = search (e₄, e₃, e₂, e₁, stores) depth 9;
 }
 
-pub enters : {s s₁ s₂ s₃ u : List ℕ} {n x l : ℕ} → NewEntry s x → n ≡ records# s → s₁ ≡ put s RECORDED x 1 → s₂ ≡ put s₁ REC-ATOM n x →
+pub enters : {s s₁ s₂ s₃ u : List ℕ} {n x l : ℕ} → NewEntry s x → n ≡ records# s → s₁ ≡ put s RECORDED x 1 → s₂ ≡ put s₁ REC-KEY n x →
     s₃ ≡ put s₂ REC-LIT n l → u ≡ put s₃ COUNTS RECORDS (n + 1) → Entered s x l u
 enters {s} {s₁} {s₂} {s₃} {u} {n} {x} {l} z e e₁ e₂ e₃ e₄ =
     let f = one-free z in
-    stored s s₁ s₂ s₃ u n x l (z .may .sound .solver .long) (z .may .atom) (omega arith) e e₁ e₂ e₃ e₄
+    stored s s₁ s₂ s₃ u n x l (z .may .sound .solver .long) (z .may .key) (omega arith) e e₁ e₂ e₃ e₄
 
 -- what they mean
 module _ {s u : List ℕ} {x l : ℕ} (z : NewEntry s x) (w : Entered s x l u) where
-  pub old-atom : (i : ℕ) → i < records# s → at u REC-ATOM i ≡ at s REC-ATOM i
-  old-atom i h =
+  pub old-key : (i : ℕ) → i < records# s → at u REC-KEY i ≡ at s REC-KEY i
+  old-key i h =
       let f = one-free z in
-      w .atoms i (omega arith) ∙ ap (λ (b : Bool). cond b x (at s REC-ATOM i)) (ne-eqb i (records# s) (omega arith))
+      w .keys i (omega arith) ∙ ap (λ (b : Bool). cond b x (at s REC-KEY i)) (ne-eqb i (records# s) (omega arith))
 
-  pub new-atom : at u REC-ATOM (records# s) ≡ x
-  new-atom =
+  pub new-key : at u REC-KEY (records# s) ≡ x
+  new-key =
       let f = one-free z in
-      w .atoms (records# s) (omega arith)
-      ∙ ap (λ (b : Bool). cond b x (at s REC-ATOM (records# s))) (eq-eqb (records# s) (records# s) refl)
+      w .keys (records# s) (omega arith)
+      ∙ ap (λ (b : Bool). cond b x (at s REC-KEY (records# s))) (eq-eqb (records# s) (records# s) refl)
 
   old-lit : (i : ℕ) → i < records# s → at u REC-LIT i ≡ at s REC-LIT i
   old-lit i h =
@@ -242,20 +243,20 @@ module _ {s u : List ℕ} {x l : ℕ} (z : NewEntry s x) (w : Entered s x l u) w
       w .lits (records# s) (omega arith)
       ∙ ap (λ (b : Bool). cond b l (at s REC-LIT (records# s))) (eq-eqb (records# s) (records# s) refl)
 
-  entered-atoms : counted (at u REC-ATOM) (records# u) ≡ counted (at s REC-ATOM) (records# s) ++ (x ∷ [])
-  entered-atoms = counted-grown (at s REC-ATOM) (at u REC-ATOM) (records# s) (records# u) x (w .count) old-atom new-atom
+  entered-atoms : counted (at u REC-KEY) (records# u) ≡ counted (at s REC-KEY) (records# s) ++ (x ∷ [])
+  entered-atoms = counted-grown (at s REC-KEY) (at u REC-KEY) (records# s) (records# u) x (w .count) old-key new-key
 
-  entered-flags : (y : ℕ) → y < max-terms → is-set (at u RECORDED y) ≡ any (eqb y) (counted (at u REC-ATOM) (records# u))
+  entered-flags : (y : ℕ) → y < max-records → is-set (at u RECORDED y) ≡ any (eqb y) (counted (at u REC-KEY) (records# u))
   unfolding is-set
   entered-flags y h =
       go (ℕ-discrete y x)
-      ∙ sym (ap (any (eqb y)) entered-atoms ∙ any-last (eqb y) (counted (at s REC-ATOM) (records# s)) x)
+      ∙ sym (ap (any (eqb y)) entered-atoms ∙ any-last (eqb y) (counted (at s REC-KEY) (records# s)) x)
     where
-      go : Dec (y ≡ x) → is-set (at u RECORDED y) ≡ cond (any (eqb y) (counted (at s REC-ATOM) (records# s))) true (eqb y x)
-      go (yes e) = rw (w .flags y h, eq-eqb y x e) (sym (cond-both (any (eqb y) (counted (at s REC-ATOM) (records# s)))))
+      go : Dec (y ≡ x) → is-set (at u RECORDED y) ≡ cond (any (eqb y) (counted (at s REC-KEY) (records# s))) true (eqb y x)
+      go (yes e) = rw (w .flags y h, eq-eqb y x e) (sym (cond-both (any (eqb y) (counted (at s REC-KEY) (records# s)))))
       go (no d) =
           rw (w .flags y h, ne-eqb y x d)
-          (z .may .sound .solver .recorded y h ∙ sym (cond-same (any (eqb y) (counted (at s REC-ATOM) (records# s)))))
+          (z .may .sound .solver .recorded y h ∙ sym (cond-same (any (eqb y) (counted (at s REC-KEY) (records# s)))))
 
   pub entered-sound : RecordsSound u
   entered-sound =
@@ -267,43 +268,50 @@ module _ {s u : List ℕ} {x l : ℕ} (z : NewEntry s x) (w : Entered s x l u) w
           records-fit = let n = w .count in omega arith;
           once =
               subst Apart (sym entered-atoms)
-              (apart-last (counted (at s REC-ATOM) (records# s)) x (z .may .sound .solver .once) (not-in z));
+              (apart-last (counted (at s REC-KEY) (records# s)) x (z .may .sound .solver .once) (not-in z));
           recorded = entered-flags;
         };
-        terms = λ i h. below i h (ℕ-discrete i (records# s));
+        keys = λ i h. below i h (ℕ-discrete i (records# s));
       }
     where
-      below : (i : ℕ) → i < records# u → Dec (i ≡ records# s) → at u REC-ATOM i < max-terms
-      below i h (yes e) = let q = ap (at u REC-ATOM) e ∙ new-atom in let b = z .may .atom in omega arith
+      below : (i : ℕ) → i < records# u → Dec (i ≡ records# s) → at u REC-KEY i < max-records
+      below i h (yes e) = let q = ap (at u REC-KEY) e ∙ new-key in let b = z .may .key in omega arith
       below i h (no d) =
           let n = w .count in
           let g : i < records# s = omega arith in
-          omega (arith, old-atom i g, z .may .sound .terms i g)
+          omega (arith, old-key i g, z .may .sound .keys i g)
 
-  pub entered-record : (lv : ℕ → ℕ) →
-      level-record u lv ≡ level-record s lv ++ (record { atom = x; lit = l; level = lv (records# s) } ∷ [])
-  unfolding level-record asserted-at
-  entered-record lv =
-      counted-grown (asserted-at s lv) (asserted-at u lv) (records# s) (records# u)
-      (record { atom = x; lit = l; level = lv (records# s) }) (w .count)
-      (λ i h k. record { atom = old-atom i h k; lit = old-lit i h k; level = lv i })
-      (λ k. record { atom = new-atom k; lit = new-lit k; level = lv (records# s) })
+  -- the records once the key has its entry
+  pub entered-record : (b : Bool) (lv : ℕ → ℕ) →
+      record-of b u lv
+      ≡ record-of b s lv
+      ++ cons-option (cond (of-sign b x) (some (record { atom = key-atom x; lit = l; level = lv (records# s) })) none) []
+  unfolding record-of
+  entered-record b lv =
+      ap (λ (n : ℕ). gather (entry-of b u lv) (range 0 n)) (w .count)
+      ∙ gather-more (entry-of b u lv) 0 (records# s)
+      ∙ ap₂ (λ (es : List AssertedTester) (o : Option AssertedTester). es ++ cons-option o [])
+      (gather-same (entry-of b u lv) (entry-of b s lv) 0 (records# s)
+      (λ i g h. entry-same b s u lv lv i (old-key i (omega arith)) (old-lit i (omega arith)) refl))
+      (ap (entry-of b u lv) (zero-add (records# s)) ∙ entry-is b u lv (records# s) x l new-key new-lit)
 
 -- ---- a sound state whose records change
 
--- the atoms of the level record are terms
+-- the atoms of the records are terms, so their keys fit
 pub records-sound : {c e s : List ℕ} → StateSound c e s → RecordsSound s
 records-sound {c} {e} {s} z =
     let f = z .core .terms-fit in
     let n = z .core .term-count in
     record {
       solver = z .solver;
-      terms = λ i h. let w = kind-within (context c) (at s REC-ATOM i) 3 (z .records i h) in omega arith;
+      keys = λ i h.
+          let w = kind-within (context c) (key-atom (at s REC-KEY i)) 3 (z .records i h) in
+          atom-fits (at s REC-KEY i) (omega arith);
     }
 
--- the regions of the two records
+-- the regions of the records
 abbrev pub record-regions : List ℕ
-record-regions = COUNTS ∷ LASTING ∷ RECORDED ∷ REC-ATOM ∷ REC-LIT ∷ []
+record-regions = COUNTS ∷ LASTING ∷ RECORDED ∷ REC-KEY ∷ REC-LIT ∷ []
 
 module _ {c e s u : List ℕ} (z : StateSound c e s) (k : Kept solver-room record-regions s u) where
   still-collected : (x : ℕ) → x < max-terms → CollectedSound (context c) s x → CollectedSound (context c) u x
@@ -318,7 +326,7 @@ module _ {c e s u : List ℕ} (z : StateSound c e s) (k : Kept solver-room recor
       }
 
   pub records-changed : SolverSound u → ((x : ℕ) → x < max-terms → is-set (at u LASTING x) ≡ true → term-kind (context c) x ≡ 4) →
-      ((i : ℕ) → i < records# u → term-kind (context c) (at u REC-ATOM i) ≡ 4) → StateSound c e u
+      ((i : ℕ) → i < records# u → term-kind (context c) (key-atom (at u REC-KEY i)) ≡ 4) → StateSound c e u
   records-changed w l r = record {
     core = z .core;
     formed = z .formed;
@@ -335,12 +343,13 @@ module _ {c e s u : List ℕ} (z : StateSound c e s) (k : Kept solver-room recor
     records = r;
   }
 
--- what the state is by the two records, as they are now
+-- what the state is by the records, as they are now
 module _ {s u : List ℕ} (k : Kept solver-room record-regions s u) (l : table-words ≤ length s) where
-  pub state-changed : (c e : List ℕ) (lv lw : ℕ → ℕ) (ls : List ℕ) (es : List AssertedTester) → flagged u LASTING ≡ ls →
-      level-record u lw ≡ es → state c e u lw ≡ with-level-record (with-lasting (state c e s lv) ls) es
-  unfolding state-with dt-with with-level-record with-lasting with-dt
-  state-changed c e lv lw ls es p q i = record {
+  pub state-changed : (c e : List ℕ) (lv lw : ℕ → ℕ) (ls : List ℕ) (es ns : List AssertedTester) → flagged u LASTING ≡ ls →
+      record-of true u lw ≡ es → record-of false u lw ≡ ns →
+      state c e u lw ≡ with-negative-record (with-level-record (with-lasting (state c e s lv) ls) es) ns
+  unfolding state-with dt-with with-negative-record with-level-record with-lasting with-dt
+  state-changed c e lv lw ls es ns p q r i = record {
     terms = context c;
     eq = merges e;
     atoms = atoms (registry-kept k tt l i);
@@ -348,6 +357,7 @@ module _ {s u : List ℕ} (k : Kept solver-room record-regions s u) (l : table-w
     dt = record {
       marks = flagged-kept k MARK 0 tt refl i;
       level-record = q i;
+      negative-record = r i;
       lasting = p i;
       emitted = flagged-kept k EMITTED 0 tt refl i;
       split-done = flagged-kept k SPLIT 0 tt refl i;
@@ -355,7 +365,8 @@ module _ {s u : List ℕ} (k : Kept solver-room record-regions s u) (l : table-w
   }
 
   -- with the lasting record as it was
-  pub state-by-entries : (c e : List ℕ) (lv lw : ℕ → ℕ) (es : List AssertedTester) → flagged u LASTING ≡ flagged s LASTING →
-      level-record u lw ≡ es → state c e u lw ≡ with-level-record (state c e s lv) es
-  unfolding state-with dt-with with-level-record with-lasting with-dt
-  state-by-entries c e lv lw es p q = state-changed c e lv lw (flagged s LASTING) es p q
+  pub state-by-entries : (c e : List ℕ) (lv lw : ℕ → ℕ) (es ns : List AssertedTester) → flagged u LASTING ≡ flagged s LASTING →
+      record-of true u lw ≡ es → record-of false u lw ≡ ns →
+      state c e u lw ≡ with-negative-record (with-level-record (state c e s lv) es) ns
+  unfolding state-with dt-with with-negative-record with-level-record with-lasting with-dt
+  state-by-entries c e lv lw es ns p q r = state-changed c e lv lw (flagged s LASTING) es ns p q r

@@ -13,7 +13,7 @@ use Rattle.core.specs.Memory.Codes.{MkApp, made-answer, made-context}
 use Rattle.core.specs.declared.context.Made as Made
 use Rattle.solver.specs.State.{with-terms, made-in, make-app}
 use Rattle.solver.specs.Rules.{make-eq}
-use Rattle.solver.specs.Memory.Table.{MARK, REC-ATOM, is-set, flagged-from, term-kind, MarksAre, CollectedSound, StateSound, state-with}
+use Rattle.solver.specs.Memory.Table.{MARK, REC-KEY, is-set, flagged-from, term-kind, key-atom, MarksAre, CollectedSound, StateSound, state-with}
 use Rattle.solver.specs.Memory.Work.{W-MARK, state-at, apps-from, WorkSound, ChainSound, CheckSound}
 use Rattle.solver.specs.Memory.Making.{Making, Makeable, Equatable, MadeOutcome, MadeWithin, MakesTerm}
 use Rattle.solver.proofs.Basics.{by-test}
@@ -117,7 +117,7 @@ module _ (c c′ : List ℕ) (ex : Extends (context c) (context c′)) (sound : 
     announced = S .announced;
     collected = λ x l h. collected-grows s x (S .collected x l h);
     lasting = λ x l h. tester-stays x (S .lasting x l h);
-    records = λ i l. tester-stays (at s REC-ATOM i) (S .records i l);
+    records = λ i l. tester-stays (key-atom (at s REC-KEY i)) (S .records i l);
   }
 
   pub work-grows : (e w : List ℕ) → WorkSound c e w → WorkSound c′ e w

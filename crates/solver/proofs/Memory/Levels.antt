@@ -1,19 +1,19 @@
--- The level record by levels: the level of an entry by the mark counts, one level more, and the levels above one closed.
-use Rattle.core.proofs.Kit.{ℕ, zero, suc, _+_, _≤_, _<_, _≡_, refl, sym, ap, ap₂, _∙_, Bool, true, false, cond, List, [], _∷_, map, ℕ-discrete, decLe, arith, leb, le-leb, lt-leb, length, getD, set, getD-set-same, getD-set-other}
+-- The records of testers by levels: the level of an entry by the mark counts, one level more, and the levels above one closed.
+use Rattle.core.proofs.Kit.{ℕ, zero, suc, _+_, _≤_, _<_, _≡_, refl, sym, ap, ap₂, _∙_, Bool, true, false, cond, List, [], _∷_, none, some, ℕ-discrete, decLe, arith, leb, le-leb, lt-leb, length, getD, set, getD-set-same, getD-set-other}
 use Rattle.core.specs.Limits.{max-levels}
-use Rattle.core.specs.Lists.{keep, range}
-use Rattle.core.specs.Memory.Words.{at, counted, Kept}
+use Rattle.core.specs.Lists.{gather, range}
+use Rattle.core.specs.Memory.Words.{at, Kept}
 use Rattle.core.specs.Memory.Table.{context}
-use Rattle.core.proofs.Memory.Counted.{counted-same}
 use Rattle.core.proofs.Memory.Stores.{kept-more}
 use Rattle.theory.specs.Memory.Table.{merges, level}
 use Rattle.theory.specs.Memory.Registry.{atoms}
 use Rattle.solver.specs.State.{AssertedTester}
 use Rattle.solver.specs.Records.{pop-testers}
 use Rattle.solver.specs.declared.levels.TesterMarks.{TesterMarks}
-use Rattle.solver.specs.Memory.Table.{COUNTS, MARK, LASTING, EMITTED, SPLIT, RECORDED, REC-ATOM, REC-LIT, solver-room, records#, registry, is-set, flagged, term-kind, asserted-at, level-record, dt-with, state-with, state}
+use Rattle.solver.specs.Memory.Table.{COUNTS, MARK, LASTING, EMITTED, SPLIT, RECORDED, REC-KEY, REC-LIT, solver-room, records#, registry, is-set, flagged, term-kind, of-sign, key-atom, asserted-at, entry-of, record-of, dt-with, state-with, state}
 use Rattle.solver.specs.Memory.Levels.{begun, entry-level, MarksSound, RecordsSound, Opened, Dropped, Popped}
 use Rattle.solver.proofs.Memory.Frames.{flagged-kept}
+use Rattle.solver.proofs.Memory.Signs.{gather-same, Tests, keep-gathered, entry-same, record-same}
 use Rattle.solver.proofs.Memory.TableStores.{kept-none}
 use Rattle.solver.proofs.Memory.Entries.{record-regions, records-changed, state-by-entries}
 
@@ -86,17 +86,15 @@ marks-none s m e = record {
 pub marks-more : {s u : List ℕ} {m : TesterMarks} → MarksSound s m → records# s ≤ records# u → MarksSound u m
 marks-more z h = record { levels-fit = z .levels-fit; rise = z .rise; within = λ i l. let w = z .within i l in omega arith }
 
--- ---- the level record
+-- ---- the records
 
 -- levels that agree
-levels-same : (s : List ℕ) (lv lw : ℕ → ℕ) → ((i : ℕ) → i < records# s → lv i ≡ lw i) → level-record s lv ≡ level-record s lw
-unfolding level-record asserted-at
-levels-same s lv lw h =
-    counted-same (asserted-at s lv) (asserted-at s lw) (records# s)
-    (λ i l k. record { atom = at s REC-ATOM i; lit = at s REC-LIT i; level = h i l k })
+levels-same : (b : Bool) (s : List ℕ) (lv lw : ℕ → ℕ) → ((i : ℕ) → i < records# s → lv i ≡ lw i) → record-of b s lv ≡ record-of b s lw
+levels-same b s lv lw h = record-same b s s lw lv (records# s) refl refl (λ i l. refl) (λ i l. refl) h
 
 -- the state with other levels of the entries
-pub state-by-levels : (c e s : List ℕ) (lv lw : ℕ → ℕ) → level-record s lw ≡ level-record s lv → state c e s lw ≡ state c e s lv
+pub state-by-levels : (c e s : List ℕ) (lv lw : ℕ → ℕ) → ((b : Bool) → record-of b s lw ≡ record-of b s lv) →
+    state c e s lw ≡ state c e s lv
 unfolding state-with dt-with
 state-by-levels c e s lv lw q i = record {
   terms = context c;
@@ -105,32 +103,24 @@ state-by-levels c e s lv lw q i = record {
   level = level e;
   dt = record {
     marks = flagged s MARK;
-    level-record = q i;
+    level-record = q true i;
+    negative-record = q false i;
     lasting = flagged s LASTING;
     emitted = flagged s EMITTED;
     split-done = flagged s SPLIT;
   };
 }
 
-module _ {A : Type 0} (p : A → Bool) (f : ℕ → A) where
-  keep-range : (a n k : ℕ) → k ≤ n → ((i : ℕ) → a ≤ i → i < a + k → p (f i) ≡ true) →
-      ((i : ℕ) → a + k ≤ i → i < a + n → p (f i) ≡ false) → keep p (map f (range a n)) ≡ map f (range a k)
-  unfolding keep range
-  keep-range a zero zero l y n = refl
-  keep-range a zero (suc k) l y n = absurd (omega arith)
-  keep-range a (suc m) zero l y n =
-      rw (n a (omega arith) (omega arith))
-      (keep-range (suc a) m zero (omega arith) (λ i g h. absurd (omega arith)) (λ i g h. n i (omega arith) (omega arith)))
-  keep-range a (suc m) (suc k) l y n =
-      rw (y a (omega arith) (omega arith))
-      (ap {B = List A} (λ xs. f a ∷ xs)
-      (keep-range (suc a) m k (omega arith) (λ i g h. y i (omega arith) (omega arith)) (λ i g h. n i (omega arith) (omega arith))))
-
-  -- the first k of n entries pass, and no other
-  keep-counted : (n k : ℕ) → k ≤ n → ((i : ℕ) → i < k → p (f i) ≡ true) → ((i : ℕ) → k ≤ i → i < n → p (f i) ≡ false) →
-      keep p (counted f n) ≡ counted f k
-  unfolding counted
-  keep-counted n k l y m = keep-range 0 n k l (λ i g h. y i (omega arith)) (λ i g h. m i (omega arith) (omega arith))
+-- what a test of the level says of an entry
+level-tested : (b : Bool) (s : List ℕ) (lv : ℕ → ℕ) (to i : ℕ) (t : Bool) → leb (lv i) to ≡ t →
+    Tests (λ (a : AssertedTester). leb (a .level) to) t (entry-of b s lv i)
+unfolding entry-of asserted-at
+level-tested b s lv to i t h = go (of-sign b (at s REC-KEY i))
+  where
+    go : (d : Bool) → Tests (λ (a : AssertedTester). leb (a .level) to) t
+        (cond d (some (record { atom = key-atom (at s REC-KEY i); lit = at s REC-LIT i; level = lv i })) none)
+    go true = h
+    go false = tt
 
 -- ---- push
 
@@ -178,8 +168,8 @@ module _ {s : List ℕ} {m m′ : TesterMarks} {n : ℕ} (z : MarksSound s m) (l
           ∙ begun-not (m′ .counts) (m .levels) i (omega arith)
           ∙ begun-same (m .counts) (m′ .counts) (m .levels) i old-count
 
-      same : level-record s (entry-level m′) ≡ level-record s (entry-level m)
-      same = levels-same s (entry-level m′) (entry-level m) each
+      same : (b : Bool) → record-of b s (entry-level m′) ≡ record-of b s (entry-level m)
+      same b = levels-same b s (entry-level m′) (entry-level m) each
 
 -- ---- pop
 
@@ -217,27 +207,26 @@ module _ {s u : List ℕ} {m m′ : TesterMarks} {to n : ℕ} (z : RecordsSound 
             let q = d .count in omega arith;
       }
 
-  closed-entries : level-record u (entry-level m′) ≡ pop-testers to (level-record s (entry-level m))
-  unfolding level-record asserted-at pop-testers entry-level
-  closed-entries =
-      ap (counted (asserted-at u (entry-level m′))) (d .count)
-      ∙ counted-same (asserted-at u (entry-level m′)) (asserted-at s (entry-level m)) n each
-      ∙ sym (keep-counted (λ (a : AssertedTester). leb (a .level) to) (asserted-at s (entry-level m)) (records# s) n few stays goes)
+  closed-entries : (b : Bool) → record-of b u (entry-level m′) ≡ pop-testers to (record-of b s (entry-level m))
+  unfolding record-of pop-testers entry-level
+  closed-entries b =
+      ap (λ (k : ℕ). gather (entry-of b u (entry-level m′)) (range 0 k)) (d .count)
+      ∙ gather-same (entry-of b u (entry-level m′)) (entry-of b s (entry-level m)) 0 n (λ i g h. each i (omega arith))
+      ∙ sym (keep-gathered (λ (a : AssertedTester). leb (a .level) to) (entry-of b s (entry-level m)) 0 (records# s) n few
+      (λ i g h. level-tested b s (entry-level m) to i true (stays i (omega arith)))
+      (λ i g h. level-tested b s (entry-level m) to i false (goes i (omega arith) (omega arith))))
     where
       few : n ≤ records# s
       few = let r = w .within to l in omega arith
 
-      each : (i : ℕ) → i < n → asserted-at u (entry-level m′) i ≡ asserted-at s (entry-level m) i
+      each : (i : ℕ) → i < n → entry-of b u (entry-level m′) i ≡ entry-of b s (entry-level m) i
       each i h =
           let f = z .solver .records-fit in
           let g = few in
           let lower : entry-level m′ i ≡ entry-level m i =
           ap₂ (λ (cs : List ℕ) (k : ℕ). begun cs k i) same o ∙ sym (level-stays i h) in
-          λ k. record {
-            atom = d .kept .rest REC-ATOM i tt (omega arith) k;
-            lit = d .kept .rest REC-LIT i tt (omega arith) k;
-            level = lower k;
-          }
+          entry-same b s u (entry-level m) (entry-level m′) i (d .kept .rest REC-KEY i tt (omega arith))
+          (d .kept .rest REC-LIT i tt (omega arith)) lower
 
       stays : (i : ℕ) → i < n → leb (entry-level m i) to ≡ true
       stays i h = let r = level-stays i h in let q = begun-most (m .counts) to i in le-leb (entry-level m i) to (omega arith)
@@ -261,16 +250,17 @@ module _ {s u : List ℕ} {m m′ : TesterMarks} {to n : ℕ} (z : RecordsSound 
             (λ x h g. q .lasting x h (sym (ap is-set (d .kept .rest LASTING x tt h)) ∙ g))
             (λ i h.
             let r = d .count in
-            ap (term-kind (context c)) (d .kept .rest REC-ATOM i tt (omega arith)) ∙ q .records i (omega arith));
+            ap (λ (k : ℕ). term-kind (context c) (key-atom k)) (d .kept .rest REC-KEY i tt (omega arith)) ∙ q .records i (omega arith));
         state = λ c v.
-            state-by-entries kept (z .solver .long) c v (entry-level m) (entry-level m′) _ (flagged-kept (d .kept) LASTING 0 tt refl)
-            closed-entries;
+            state-by-entries kept (z .solver .long) c v (entry-level m) (entry-level m′)
+            (pop-testers to (record-of true s (entry-level m))) (pop-testers to (record-of false s (entry-level m)))
+            (flagged-kept (d .kept) LASTING 0 tt refl) (closed-entries true) (closed-entries false);
         kept = d .kept;
       }
 
 -- no level above `to` is open
 pub closes-none : {s : List ℕ} {m : TesterMarks} {to : ℕ} → RecordsSound s → MarksSound s m → m .levels ≤ to → Popped s m to s m
-unfolding entry-level level-record asserted-at pop-testers
+unfolding entry-level record-of pop-testers
 closes-none {s} {m} {to} z w l = record {
   sound = z;
   marks = w;
@@ -278,14 +268,17 @@ closes-none {s} {m} {to} z w l = record {
   above = λ h. (refl, refl);
   entries = all;
   state-sound = λ c e q. q;
-  state = λ c e. state-by-entries (kept-none record-regions s) (z .solver .long) c e (entry-level m) (entry-level m) _ refl all;
+  state = λ c e.
+      state-by-entries (kept-none record-regions s) (z .solver .long) c e (entry-level m) (entry-level m)
+      (pop-testers to (record-of true s (entry-level m))) (pop-testers to (record-of false s (entry-level m))) refl (all true)
+      (all false);
   kept = kept-none (COUNTS ∷ RECORDED ∷ []) s;
 }
   where
     low : (i : ℕ) → leb (entry-level m i) to ≡ true
     low i = let b = begun-most (m .counts) (m .levels) i in le-leb (entry-level m i) to (omega arith)
 
-    all : level-record s (entry-level m) ≡ pop-testers to (level-record s (entry-level m))
-    all =
-        sym (keep-counted (λ (a : AssertedTester). leb (a .level) to) (asserted-at s (entry-level m)) (records# s) (records# s)
-        (omega arith) (λ i h. low i) (λ i a b. absurd (omega arith)))
+    all : (b : Bool) → record-of b s (entry-level m) ≡ pop-testers to (record-of b s (entry-level m))
+    all b =
+        sym (keep-gathered (λ (a : AssertedTester). leb (a .level) to) (entry-of b s (entry-level m)) 0 (records# s) (records# s)
+        (omega arith) (λ i g h. level-tested b s (entry-level m) to i true (low i)) (λ i g h. absurd (omega arith)))

@@ -25,7 +25,7 @@ use Rattle.solver.proofs.Basics.{by-test}
 use Rattle.solver.proofs.Terms.{app, extends-symbol, mk-app-makes}
 use Rattle.solver.proofs.Apps.{op-is}
 use Rattle.solver.proofs.Memory.Flags.{has, flagged-mem, flagged-insert}
-use Rattle.solver.proofs.Memory.Frames.{registry-kept, flagged-kept, level-record-kept, state-kept}
+use Rattle.solver.proofs.Memory.Frames.{registry-kept, flagged-kept, record-kept, state-kept}
 use Rattle.solver.proofs.Memory.TableStores.{region, kept-none, kept-put}
 use Rattle.solver.proofs.Memory.Roles.{kind-ctor, kind-no-ctor, kind-by-role}
 use Rattle.solver.proofs.Memory.Growing.{made-app}
@@ -260,7 +260,8 @@ module _ (s : List ℕ) {x : ℕ} {s′ : List ℕ} (z : SolverSound s) (l : x <
       let count : records# s′ ≡ records# s = k .rest COUNTS RECORDS tt (omega arith) in
       rw (
         registry-kept k tt (z .long),
-        level-record-kept k lv fit count tt tt,
+        record-kept k true lv fit count tt tt,
+        record-kept k false lv fit count tt tt,
         flagged-kept k LASTING 0 tt refl,
         flagged-kept k SPLIT 0 tt refl,
         one-more,

@@ -3,7 +3,7 @@
 use Rattle.core.proofs.Kit.{ℕ, zero, suc, _+_, _-_, _≤_, _<_, _≡_, refl, sym, ap, _∙_, subst, subst⁻¹, _⊎_, inl, inr, Bool, true, false, _||_, true≢false, List, [], _∷_, _++_, arith, below-more, T, eqb, leb, leb→le, length, getD, take, drop, length-append, length-drop, getD-drop, length-take-le, getD-set-same}
 use lib.Seq.{getD-append-add, take-at}
 use Rattle.core.specs.Limits.{max-terms, table-words}
-use Rattle.core.specs.Lists.{In, Apart, any, range}
+use Rattle.core.specs.Lists.{In, Apart, any, range, gather}
 use Rattle.core.specs.Context.{empty-context}
 use Rattle.core.specs.Formed.{Formed, Signed}
 use Rattle.core.specs.Memory.Words.{at, put, counted, apart, Kept}
@@ -16,11 +16,11 @@ use Rattle.theory.specs.Memory.Registry.{registry-size, atoms, RegistrySound}
 use Rattle.theory.specs.Memory.Table.{Engine}
 use Rattle.theory.proofs.Members.{in-either}
 use Rattle.solver.specs.State.{empty-state, with-atoms}
-use Rattle.solver.specs.Memory.Table.{REGISTRY, COUNTS, RECORDS, MARK, BLOCK, COLLECTED, LASTING, EMITTED, SPLIT, RECORDED, REC-ATOM, solver-room, records#, registry, is-set, flagged, term-kind, asserted-at, level-record, dt-with, state-with, state, SolverSound, CollectedSound, Announced, StateSound}
+use Rattle.solver.specs.Memory.Table.{REGISTRY, COUNTS, RECORDS, MARK, BLOCK, COLLECTED, LASTING, EMITTED, SPLIT, RECORDED, REC-KEY, solver-room, records#, registry, is-set, flagged, term-kind, key-atom, entry-of, record-of, dt-with, state-with, state, SolverSound, CollectedSound, Announced, StateSound}
 use Rattle.solver.specs.Memory.Recording.{flag-words, Wiped, SolverCleared, MayRegister, Registers}
 use Rattle.solver.proofs.Signature.{empty-signed}
 use Rattle.solver.proofs.Memory.Flags.{has, in-flagged, flagged-none}
-use Rattle.solver.proofs.Memory.Frames.{flagged-kept, level-record-kept, announced-kept}
+use Rattle.solver.proofs.Memory.Frames.{flagged-kept, record-kept, announced-kept}
 
 -- ---- the registry's part put back
 
@@ -67,11 +67,11 @@ module _ {s u : List ℕ} (k : Kept solver-room (REGISTRY ∷ []) s u) (z : Solv
   same-count : records# u ≡ records# s
   same-count = k .rest COUNTS RECORDS tt (omega arith)
 
-  same-atoms : counted (at u REC-ATOM) (records# u) ≡ counted (at s REC-ATOM) (records# s)
+  same-atoms : counted (at u REC-KEY) (records# u) ≡ counted (at s REC-KEY) (records# s)
   same-atoms =
       let fit = z .records-fit in
-      ap (counted (at u REC-ATOM)) same-count
-      ∙ counted-same (at u REC-ATOM) (at s REC-ATOM) (records# s) (λ i h. k .rest REC-ATOM i tt (omega arith))
+      ap (counted (at u REC-KEY)) same-count
+      ∙ counted-same (at u REC-KEY) (at s REC-KEY) (records# s) (λ i h. k .rest REC-KEY i tt (omega arith))
 
   solver-with : RegistrySound (registry u) → SolverSound u
   solver-with g =
@@ -95,7 +95,8 @@ module _ {s u : List ℕ} (k : Kept solver-room (REGISTRY ∷ []) s u) (z : Solv
         flagged-kept k LASTING 0 tt refl,
         flagged-kept k EMITTED 0 tt refl,
         flagged-kept k SPLIT 0 tt refl,
-        level-record-kept k lv (z .records-fit) same-count tt tt,
+        record-kept k true lv (z .records-fit) same-count tt tt,
+        record-kept k false lv (z .records-fit) same-count tt tt,
       )
 
 module _ {c e s u : List ℕ} (k : Kept solver-room (REGISTRY ∷ []) s u) (z : StateSound c e s) where
@@ -115,7 +116,8 @@ module _ {c e s u : List ℕ} (k : Kept solver-room (REGISTRY ∷ []) s u) (z : 
         announced = announced-kept k tt tt (z .announced);
         collected = λ x h q. still x h (z .collected x h (sym (ap is-set (k .rest COLLECTED x tt h)) ∙ q));
         lasting = λ x h q. z .lasting x h (sym (ap is-set (k .rest LASTING x tt h)) ∙ q);
-        records = λ i h. ap (term-kind (context c)) (k .rest REC-ATOM i tt (omega arith)) ∙ z .records i (omega arith);
+        records = λ i h.
+            ap (λ (v : ℕ). term-kind (context c) (key-atom v)) (k .rest REC-KEY i tt (omega arith)) ∙ z .records i (omega arith);
       }
     where
       still : (x : ℕ) → x < max-terms → CollectedSound (context c) s x → CollectedSound (context c) u x
@@ -213,9 +215,9 @@ module _ (s t r : List ℕ) (l : table-words ≤ length s) (w : Wiped s t) (n : 
   no-records : records# cleared-table ≡ 0
   no-records = cleared-word COUNTS RECORDS (omega arith) (omega arith)
 
-  no-entries : counted (at cleared-table REC-ATOM) (records# cleared-table) ≡ []
+  no-entries : counted (at cleared-table REC-KEY) (records# cleared-table) ≡ []
   unfolding counted range
-  no-entries = ap (counted (at cleared-table REC-ATOM)) no-records
+  no-entries = ap (counted (at cleared-table REC-KEY)) no-records
 
   pub clears : RegistrySound r → atoms r ≡ [] → SolverCleared cleared-table
   unfolding is-set any
@@ -282,11 +284,22 @@ module _ {c e u : List ℕ} (core : ContextSound c) (empty : context c ≡ empty
         records = λ i h. absurd (omega arith);
       }
 
-  no-level-record : (lv : ℕ → ℕ) → level-record u lv ≡ []
-  unfolding level-record counted range
-  no-level-record lv = ap (counted (asserted-at u lv)) (z .records)
+  no-record : (b : Bool) (lv : ℕ → ℕ) → record-of b u lv ≡ []
+  unfolding record-of gather range
+  no-record b lv = ap (λ (n : ℕ). gather (entry-of b u lv) (range 0 n)) (z .records)
 
   pub cleared-state : (lv : ℕ → ℕ) → state c e u lv ≡ empty-state
   unfolding state-with dt-with empty-state
   cleared-state lv =
-      rw (empty, engine .log, engine .at-level, z .atoms, z .marks, z .lasting, z .emitted, z .split-done, no-level-record lv)
+      rw (
+        empty,
+        engine .log,
+        engine .at-level,
+        z .atoms,
+        z .marks,
+        z .lasting,
+        z .emitted,
+        z .split-done,
+        no-record true lv,
+        no-record false lv,
+      )

@@ -40,7 +40,7 @@ use Rattle.solver.proofs.Memory.Unfitting.{onward-unfit, fold-onward, m
 use Rattle.solver.proofs.Memory.Trying.{try-first, try-as, try-answer}
 use Rattle.solver.proofs.Memory.Growing.{marked-within, check-grows, only-below}
 use Rattle.solver.proofs.Memory.Roles.{kind-ctor, kind-watched}
-use Rattle.solver.proofs.Memory.Frames.{registry-kept, flagged-kept, level-record-kept, state-kept}
+use Rattle.solver.proofs.Memory.Frames.{registry-kept, flagged-kept, record-kept, state-kept}
 use Rattle.solver.proofs.Memory.TableStores.{region, kept-none, kept-put}
 use Rattle.solver.proofs.Memory.Flags.{has, flagged-insert, in-flagged, flagged-step, flagged-none, flagged-mem, unset-by}
 
@@ -610,7 +610,8 @@ module _ {s : List ℕ} (z : SolverSound s) {x : ℕ} (l : x < max-terms) where
       let n : records# flagged-split ≡ records# s = kept .rest COUNTS RECORDS tt (omega arith) in
       sym (rw (
         registry-kept kept tt (z .long),
-        level-record-kept kept lv (z .records-fit) n tt tt,
+        record-kept kept true lv (z .records-fit) n tt tt,
+        record-kept kept false lv (z .records-fit) n tt tt,
         flagged-kept kept LASTING 0 tt refl,
         flagged-kept kept EMITTED 0 tt refl,
         one-more,

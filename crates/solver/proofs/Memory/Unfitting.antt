@@ -13,9 +13,9 @@ use Rattle.core.proofs.Lists.{T-and, true-T, not-true-false}
 use Rattle.theory.specs.Types.{EqLeaf}
 use Rattle.theory.specs.Atom.{var-of-atom}
 use Rattle.solver.specs.State.{State, AssertedTester, MadeIn, with-terms, with-dt, with-marks, with-emitted, with-split-done, ctor-apps, sel-apps, testers, watched-dt-terms, equal, ctor-of-class, mark, made-in, make-app, marked-in, mint}
-use Rattle.solver.specs.Records.{is-some, tester-conflict}
-use Rattle.solver.specs.Rules.{TCheck, Split, Unknown, Ruled, pass, answered, go-on, then, try-each, conflict-of, tester-clash-at, tester-clash, mint-on-both, same-constructor, mint-selectors, instantiate-injectivity-selectors, hand-out, hand-out-made, make-eq, equate-field, collapse-field, collapse-at, collapse-lemma, tester-lemma-at, tester-lemma, Fields, mint-field, mint-fields, guard, equate-with, instantiate, instantiate-at, instantiate-constructor, Testers, make-tester, split-on, to-split, split-answer, exhaustiveness-split, has-undetermined-class, unknown-fence}
-use Rattle.solver.specs.Memory.Checks.{from-split, from-instantiation, from-tester-lemma, from-collapse, from-injectivity, from-tester-clash}
+use Rattle.solver.specs.Records.{is-some, tester-conflict, negative-conflict}
+use Rattle.solver.specs.Rules.{TCheck, Split, Unknown, Ruled, pass, answered, go-on, then, try-each, conflict-of, tester-clash-at, tester-clash, negative-clash-at, negative-clash, mint-on-both, same-constructor, mint-selectors, instantiate-injectivity-selectors, hand-out, hand-out-made, make-eq, equate-field, collapse-field, collapse-at, collapse-lemma, tester-lemma-at, tester-lemma, Fields, mint-field, mint-fields, guard, equate-with, instantiate, instantiate-at, instantiate-constructor, Testers, make-tester, split-on, to-split, split-answer, exhaustiveness-split, has-undetermined-class, unknown-fence}
+use Rattle.solver.specs.Memory.Checks.{from-split, from-instantiation, from-tester-lemma, from-collapse, from-injectivity, from-negative-clash, from-tester-clash}
 use Rattle.solver.proofs.Terms.{extends-self, extends-then, extends-length, mk-app-makes}
 
 -- ---- what does not fit
@@ -158,14 +158,20 @@ pub pass-onward : (s : State) → Onward s (pass s .state)
 unfolding pass
 pass-onward s = onward-self s
 
+conflict-onward : (s : State) (o : Option (List EqLeaf)) → Onward s (conflict-of s o .state)
+unfolding conflict-of pass answered
+conflict-onward s none = onward-self s
+conflict-onward s (some ls) = onward-self s
+
 tester-clash-at-onward : (l : ℕ) (o : Option TesterApp) (s : State) → Onward s (tester-clash-at l o s .state)
 unfolding tester-clash-at pass
 tester-clash-at-onward l none s = onward-self s
-tester-clash-at-onward l (some x) s = go (tester-conflict s l x)
-  where
-    go : (o : Option (List EqLeaf)) → Onward s (conflict-of s o .state)
-    go none = unfold conflict-of pass in onward-self s
-    go (some ls) = unfold conflict-of answered in onward-self s
+tester-clash-at-onward l (some x) s = conflict-onward s (tester-conflict s l x)
+
+negative-clash-at-onward : (l : ℕ) (o : Option TesterApp) (s : State) → Onward s (negative-clash-at l o s .state)
+unfolding negative-clash-at pass
+negative-clash-at-onward l none s = onward-self s
+negative-clash-at-onward l (some x) s = conflict-onward s (negative-conflict s l x)
 
 pub tester-clash-onward : (s : State) → Onward s (tester-clash s .state)
 unfolding tester-clash
@@ -173,6 +179,13 @@ tester-clash-onward s =
     try-onward (λ (e : AssertedTester) s′. tester-clash-at (e .lit) (tester-app (s′ .terms) (e .atom)) s′)
     (λ e s′. tester-clash-at-onward (e .lit) (tester-app (s′ .terms) (e .atom)) s′)
     (s .dt .level-record) s
+
+pub negative-clash-onward : (s : State) → Onward s (negative-clash s .state)
+unfolding negative-clash
+negative-clash-onward s =
+    try-onward (λ (e : AssertedTester) s′. negative-clash-at (e .lit) (tester-app (s′ .terms) (e .atom)) s′)
+    (λ e s′. negative-clash-at-onward (e .lit) (tester-app (s′ .terms) (e .atom)) s′)
+    (s .dt .negative-record) s
 
 pub hand-out-onward : (x : ℕ) (guards : List ℕ) (s : State) → Onward s (hand-out x guards s .state)
 unfolding hand-out
@@ -307,5 +320,9 @@ pub from-injectivity-onward : (s : State) → Onward s (from-injectivity s .stat
 from-injectivity-onward s =
     onward-through s (pass (instantiate-injectivity-selectors s)) from-collapse (unfold pass in injectivity-onward s) from-collapse-onward
 
+pub from-negative-clash-onward : (s : State) → Onward s (from-negative-clash s .state)
+from-negative-clash-onward s = onward-through s (negative-clash s) from-injectivity (negative-clash-onward s) from-injectivity-onward
+
 pub from-tester-clash-onward : (s : State) → Onward s (from-tester-clash s .state)
-from-tester-clash-onward s = onward-through s (tester-clash s) from-injectivity (tester-clash-onward s) from-injectivity-onward
+from-tester-clash-onward s =
+    onward-through s (tester-clash s) from-negative-clash (tester-clash-onward s) from-negative-clash-onward

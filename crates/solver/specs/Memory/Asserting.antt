@@ -1,7 +1,7 @@
 -- What asserting a literal promises.
 use Prim.Native.Nat.{ℕ, _≤_}
 use mathlib.Core.Path.{_≡_}
-use mathlib.Core.Bool.{true}
+use mathlib.Core.Bool.{Bool, true}
 use mathlib.Core.List.{List}
 use mathlib.Core.Option.{some}
 use lib.ListN.{length}
@@ -12,13 +12,13 @@ use Rattle.theory.specs.Atom.{is-registered}
 use Rattle.theory.specs.Memory.Table.{level}
 use Rattle.theory.specs.Memory.Registry.{atoms}
 use Rattle.theory.specs.Memory.Answer.{answer-size}
-use Rattle.solver.specs.Records.{record-tester, tester-conflict, assert}
+use Rattle.solver.specs.Records.{assert}
 use Rattle.solver.specs.declared.answer.TCheck as TCheck
 use Rattle.solver.specs.Memory.Table.{records#, registry, term-kind, state, StateSound}
 use Rattle.solver.specs.declared.levels.TesterMarks.{TesterMarks}
-use Rattle.solver.specs.Memory.Levels.{MarksSound}
+use Rattle.solver.specs.Memory.Levels.{MarksSound, recording}
 use Rattle.solver.specs.Memory.Answer.{Readable}
-use Rattle.solver.specs.Memory.Testing.{ConflictIs}
+use Rattle.solver.specs.Memory.Testing.{ConflictIs, conflict-by}
 
 -- tester application x may be asserted
 pub record TesterAssertable (c e s : List ℕ) (x : ℕ) (o : List ℕ) : Type 0 where
@@ -26,13 +26,13 @@ pub record TesterAssertable (c e s : List ℕ) (x : ℕ) (o : List ℕ) : Type 0
   pub tester : term-kind (context c) x ≡ 4
   pub long : answer-size ≤ length o
 
--- Literal l asserts it; s′ is the solver's table after. `lv` gives the entries' levels; a new entry has the present level.
-pub record AssertsTester (c e s : List ℕ) (l x : ℕ) (r : TCheck.TCheck) (s′ o : List ℕ) : Type 0 where
+-- Literal l asserts it or its negation; s′ is the solver's table after. `lv` gives the entries' levels; a new entry has the present level.
+pub record AssertsTester (b : Bool) (c e s : List ℕ) (l x : ℕ) (r : TCheck.TCheck) (s′ o : List ℕ) : Type 0 where
   pub sound : StateSound c e s′
   pub app : TesterApp
   pub is-tester : tester-app (context c) x ≡ some app
-  pub conflict : (lv : ℕ → ℕ) → ConflictIs r (tester-conflict (state c e s lv) l app) o
-  pub state : (lv : ℕ → ℕ) → lv (records# s) ≡ level e → state c e s′ lv ≡ record-tester (state c e s lv) x l
+  pub conflict : (lv : ℕ → ℕ) → ConflictIs r (conflict-by b (state c e s lv) l app) o
+  pub state : (lv : ℕ → ℕ) → lv (records# s) ≡ level e → state c e s′ lv ≡ recording b (state c e s lv) x l
   pub marks : (m : TesterMarks) → MarksSound s m → MarksSound s′ m
   pub readable : Readable r o
 

@@ -12,7 +12,7 @@ use Rattle.core.specs.Memory.Words.{at}
 use Rattle.core.specs.Memory.Table.{context, ContextSound}
 use Rattle.theory.specs.Memory.Answer.{answer-size}
 use Rattle.solver.specs.State.{State}
-use Rattle.solver.specs.Rules.{Ruled, pass, then, tester-clash, instantiate-injectivity-selectors, collapse-lemma, tester-lemma, instantiate-constructor, exhaustiveness-split, unknown-fence}
+use Rattle.solver.specs.Rules.{Ruled, pass, then, tester-clash, negative-clash, instantiate-injectivity-selectors, collapse-lemma, tester-lemma, instantiate-constructor, exhaustiveness-split, unknown-fence}
 use Rattle.solver.specs.Ring.{constructor-graph-find-cycle}
 use Rattle.solver.specs.Check.{Checked, ring-answer, check, full-check}
 use Rattle.solver.specs.declared.answer.TCheck as TCheck
@@ -57,8 +57,11 @@ from-collapse s = then (collapse-lemma s) from-tester-lemma
 abbrev pub from-injectivity : State → Ruled
 from-injectivity s = then (pass (instantiate-injectivity-selectors s)) from-collapse
 
+abbrev pub from-negative-clash : State → Ruled
+from-negative-clash s = then (negative-clash s) from-injectivity
+
 abbrev pub from-tester-clash : State → Ruled
-from-tester-clash s = then (tester-clash s) from-injectivity
+from-tester-clash s = then (tester-clash s) from-negative-clash
 
 -- the tables of a check under way, and the answer table
 pub record Underway (c e s w o : List ℕ) : Type 0 where
@@ -114,7 +117,7 @@ pub record WatchedAsked (c s o : List ℕ) : Type 0 where
   pub solver : SolverSound s
   pub long : answer-size ≤ length o
 
--- a full check where no constructor application is marked and no tester was asserted: no mark is set
+-- a full check where no constructor application is marked and no tester was asserted positively: no mark is set
 pub record ChecksWatched (c s : List ℕ) (r : TCheck.TCheck) (c′ s′ o : List ℕ) : Type 0 where
   pub fully : (e : List ℕ) → StateSound c e s → NoneAnnounced s → NoneLasting c s → ChecksFully c e s r c′ s′ (marks-only s) o
   pub marks : (x : ℕ) → x < max-terms → at s′ MARK x ≡ at s MARK x

@@ -1,8 +1,9 @@
--- The level record by levels: the caller's mark counts say how many entries it had when each open level began. What the functions on
--- them promise.
+-- The records of testers by levels: the caller's mark counts say how many entries they had when each open level began. What the
+-- functions on them promise.
 use Prim.Native.Nat.{ℕ, zero, suc, _≤_, _<_}
 use mathlib.Core.Path.{_≡_}
-use mathlib.Core.Bool.{cond}
+use mathlib.Core.Logic.{_⊎_}
+use mathlib.Core.Bool.{Bool, true, false, cond}
 use mathlib.Core.List.{List, [], _∷_}
 use lib.Dec.{eqb, leb}
 use lib.ListN.{length, getD}
@@ -10,10 +11,10 @@ use Rattle.core.specs.Limits.{max-levels, max-terms, table-words}
 use Rattle.core.specs.Memory.Words.{at, Kept}
 use Rattle.core.specs.Memory.Table.{context}
 use Rattle.theory.specs.Memory.Table.{level}
-use Rattle.solver.specs.State.{with-level-record}
-use Rattle.solver.specs.Records.{record-tester, pop-testers}
+use Rattle.solver.specs.State.{State, with-level-record, with-negative-record}
+use Rattle.solver.specs.Records.{entered, record-tester, record-negative, pop-testers}
 use Rattle.solver.specs.declared.levels.TesterMarks.{TesterMarks}
-use Rattle.solver.specs.Memory.Table.{COUNTS, RECORDED, REC-ATOM, REC-LIT, solver-room, records#, level-record, state, term-kind, SolverSound, StateSound}
+use Rattle.solver.specs.Memory.Table.{COUNTS, RECORDED, REC-KEY, REC-LIT, max-records, solver-room, records#, of-sign, key-atom, record-of, state, term-kind, SolverSound, StateSound}
 
 -- ---- levels
 
@@ -34,10 +35,10 @@ pub record MarksSound (s : List ℕ) (m : TesterMarks) : Type 0 where
   pub rise : (i j : ℕ) → i ≤ j → j < m .levels → getD (m .counts) i 0 ≤ getD (m .counts) j 0
   pub within : (i : ℕ) → i < m .levels → getD (m .counts) i 0 ≤ records# s
 
--- the solver's table is sound, and its level record has terms; both follow from a sound state
+-- the solver's table is sound, and its records have keys; both follow from a sound state
 pub record RecordsSound (s : List ℕ) : Type 0 where
   pub solver : SolverSound s
-  pub terms : (i : ℕ) → i < records# s → at s REC-ATOM i < max-terms
+  pub keys : (i : ℕ) → i < records# s → at s REC-KEY i < max-records
 
 -- ---- push
 
@@ -45,7 +46,7 @@ pub record RecordsSound (s : List ℕ) : Type 0 where
 pub record Opened (s : List ℕ) (m m′ : TesterMarks) : Type 0 where
   pub marks : MarksSound s m′
   pub one-more : m′ .levels ≡ suc (m .levels)
-  pub entries : level-record s (entry-level m′) ≡ level-record s (entry-level m)
+  pub entries : (b : Bool) → record-of b s (entry-level m′) ≡ record-of b s (entry-level m)
   pub state : (c e : List ℕ) → state c e s (entry-level m′) ≡ state c e s (entry-level m)
 
 -- ---- pop
@@ -62,36 +63,60 @@ pub record Popped (s : List ℕ) (m : TesterMarks) (to : ℕ) (s′ : List ℕ) 
   pub marks : MarksSound s′ m′
   pub below : to < m .levels → m′ .levels ≡ to
   pub above : m .levels ≤ to → (s′ ≡ s) × (m′ ≡ m)
-  pub entries : level-record s′ (entry-level m′) ≡ pop-testers to (level-record s (entry-level m))
+  pub entries : (b : Bool) → record-of b s′ (entry-level m′) ≡ pop-testers to (record-of b s (entry-level m))
   pub state-sound : (c e : List ℕ) → StateSound c e s → StateSound c e s′
   pub state : (c e : List ℕ) →
-      state c e s′ (entry-level m′) ≡ with-level-record (state c e s (entry-level m)) (pop-testers to (level-record s (entry-level m)))
+      state c e s′ (entry-level m′)
+      ≡ with-negative-record
+      (with-level-record (state c e s (entry-level m)) (pop-testers to (record-of true s (entry-level m))))
+      (pop-testers to (record-of false s (entry-level m)))
   pub kept : Kept solver-room (COUNTS ∷ RECORDED ∷ []) s s′
 
 -- ---- record_tester
 
--- the atom x may be recorded
-pub record Recordable (s : List ℕ) (x : ℕ) : Type 0 where
+-- a key may be entered
+pub record Recordable (s : List ℕ) (k : ℕ) : Type 0 where
+  pub sound : RecordsSound s
+  pub key : k < max-records
+
+-- and has no entry
+pub record NewEntry (s : List ℕ) (k : ℕ) : Type 0 where
+  pub may : Recordable s k
+  pub new : at s RECORDED k ≡ 0
+
+-- there is one entry more: the key k with the literal l
+pub record Entered (s : List ℕ) (k l : ℕ) (s′ : List ℕ) : Type 0 where
+  pub long : table-words ≤ length s′
+  pub count : records# s′ ≡ suc (records# s)
+  pub flags : (y : ℕ) → y < max-records → at s′ RECORDED y ≡ cond (eqb y k) 1 (at s RECORDED y)
+  pub keys : (i : ℕ) → i < max-records → at s′ REC-KEY i ≡ cond (eqb i (records# s)) k (at s REC-KEY i)
+  pub lits : (i : ℕ) → i < max-records → at s′ REC-LIT i ≡ cond (eqb i (records# s)) l (at s REC-LIT i)
+  pub kept : Kept solver-room (COUNTS ∷ RECORDED ∷ REC-KEY ∷ REC-LIT ∷ []) s s′
+
+-- the key k has an entry in the record of its sign
+pub record Enters (s : List ℕ) (k l : ℕ) (s′ : List ℕ) : Type 0 where
+  pub sound : RecordsSound s′
+  pub more : records# s ≤ records# s′
+  pub entries : (b : Bool) (lv : ℕ → ℕ) →
+      record-of b s′ lv
+      ≡ cond (of-sign b k) (entered (lv (records# s)) (key-atom k) l (record-of b s lv)) (record-of b s lv)
+  pub keys : (i : ℕ) → i < records# s′ →
+      (at s′ REC-KEY i ≡ k) ⊎ ((j : ℕ) × (j < records# s) × (at s′ REC-KEY i ≡ at s REC-KEY j))
+  pub kept : Kept solver-room (COUNTS ∷ RECORDED ∷ REC-KEY ∷ REC-LIT ∷ []) s s′
+
+-- the tester application x may be recorded
+pub record TesterRecordable (s : List ℕ) (x : ℕ) : Type 0 where
   pub sound : RecordsSound s
   pub atom : x < max-terms
 
--- and is not
-pub record NewEntry (s : List ℕ) (x : ℕ) : Type 0 where
-  pub may : Recordable s x
-  pub new : at s RECORDED x ≡ 0
-
--- there is one entry more: the atom x with the literal l
-pub record Entered (s : List ℕ) (x l : ℕ) (s′ : List ℕ) : Type 0 where
-  pub long : table-words ≤ length s′
-  pub count : records# s′ ≡ suc (records# s)
-  pub flags : (y : ℕ) → y < max-terms → at s′ RECORDED y ≡ cond (eqb y x) 1 (at s RECORDED y)
-  pub atoms : (i : ℕ) → i < max-terms → at s′ REC-ATOM i ≡ cond (eqb i (records# s)) x (at s REC-ATOM i)
-  pub lits : (i : ℕ) → i < max-terms → at s′ REC-LIT i ≡ cond (eqb i (records# s)) l (at s REC-LIT i)
-  pub kept : Kept solver-room (COUNTS ∷ RECORDED ∷ REC-ATOM ∷ REC-LIT ∷ []) s s′
+-- what the definition records of a tester, positive or negative
+abbrev pub recording : Bool → State → ℕ → ℕ → State
+recording true = record-tester
+recording false = record-negative
 
 -- The tester x was recorded with the literal l. `lv` gives the entries' levels; a new entry has the present level.
-pub record Recorded (s : List ℕ) (x l : ℕ) (s′ : List ℕ) : Type 0 where
+pub record Recorded (b : Bool) (s : List ℕ) (x l : ℕ) (s′ : List ℕ) : Type 0 where
   pub sound : RecordsSound s′
   pub state-sound : (c e : List ℕ) → StateSound c e s → term-kind (context c) x ≡ 4 → StateSound c e s′
-  pub state : (c e : List ℕ) (lv : ℕ → ℕ) → lv (records# s) ≡ level e → state c e s′ lv ≡ record-tester (state c e s lv) x l
+  pub state : (c e : List ℕ) (lv : ℕ → ℕ) → lv (records# s) ≡ level e → state c e s′ lv ≡ recording b (state c e s lv) x l
   pub marks : (m : TesterMarks) → MarksSound s m → MarksSound s′ m

@@ -20,9 +20,9 @@ use Rattle.solver.specs.Memory.Table.{COUNTS, BLOCK, blocks, block-terms
 
 -- ---- an empty table
 
--- the count of the level record, the words of the blocks and the flags of all terms stand side by side, from COUNTS on
+-- the count of the records, the marks, the words of the blocks and the flags of all terms and keys stand side by side, from COUNTS on
 abbrev pub flag-words : ℕ
-flag-words = 6208
+flag-words = 7232
 
 -- these words are 0
 pub record Wiped (s u : List ℕ) : Type 0 where

@@ -1,13 +1,14 @@
 -- The lent table of this layer: where each part stands, what a table means, and when the three tables fit together.
-use Prim.Native.Nat.{ℕ, zero, suc, _-_, _/_, _≤_, _<_}
+use Prim.Native.Nat.{ℕ, zero, suc, _+_, _-_, _/_, _≤_, _<_}
 use mathlib.Core.Path.{_≡_}
 use mathlib.Core.Logic.{_⊎_}
-use mathlib.Core.Bool.{Bool, true, false, cond, _||_}
+use mathlib.Core.Bool.{Bool, true, false, cond, not, _||_}
 use mathlib.Core.List.{List, [], _∷_}
-use lib.Dec.{eqb}
+use mathlib.Core.Option.{Option, none, some}
+use lib.Dec.{eqb, ltb}
 use lib.ListN.{length, take}
 use Rattle.core.specs.Limits.{max-terms, table-words}
-use Rattle.core.specs.Lists.{In, Apart, any, keep, range}
+use Rattle.core.specs.Lists.{In, Apart, any, gather, keep, range}
 use Rattle.core.specs.Term as Term
 use Rattle.core.specs.Term.{Role, Constructor, Tester, Selector, Function, Op, Eq}
 use Rattle.core.specs.Context.{Context, symbol, term, children, is-datatype-sort}
@@ -25,7 +26,7 @@ use Rattle.solver.specs.State.{State, DtSolver, AssertedTester}
 abbrev pub REGISTRY : ℕ
 REGISTRY = 0
 
--- how many entries the level record has
+-- how many entries the two records of testers have
 abbrev pub COUNTS : ℕ
 COUNTS = 3136
 
@@ -46,8 +47,7 @@ blocks = 32
 abbrev pub block-terms : ℕ
 block-terms = 32
 
--- for each term: whether it was collected, whether it stands in the lasting record, was handed out, was split on, stands in the level
--- record
+-- for each term: whether it was collected, whether it stands in the lasting record, was handed out, was split on
 abbrev pub COLLECTED : ℕ
 COLLECTED = 4224
 
@@ -60,17 +60,23 @@ EMITTED = 6272
 abbrev pub SPLIT : ℕ
 SPLIT = 7296
 
+-- The level record and the record of negative testers are one list, in order of assertion. The key of an entry is its atom, and 1,024
+-- more if the tester is negative. For each key: whether it has an entry.
 abbrev pub RECORDED : ℕ
 RECORDED = 8320
 
--- for each entry of the level record: its atom and its literal
-abbrev pub REC-ATOM : ℕ
-REC-ATOM = 9344
+-- for each entry: its key and its literal
+abbrev pub REC-KEY : ℕ
+REC-KEY = 10368
 
 abbrev pub REC-LIT : ℕ
-REC-LIT = 10368
+REC-LIT = 12416
 
--- The words from 11,392 on are free; at least 4,000 are to stay so.
+-- an atom may have an entry in each record
+abbrev pub max-records : ℕ
+max-records = 2048
+
+-- The words from 14,464 on are free.
 abbrev pub layout : List (ℕ × ℕ)
 layout =
     (REGISTRY, registry-size)
@@ -81,9 +87,9 @@ layout =
     ∷ (LASTING, max-terms)
     ∷ (EMITTED, max-terms)
     ∷ (SPLIT, max-terms)
-    ∷ (RECORDED, max-terms)
-    ∷ (REC-ATOM, max-terms)
-    ∷ (REC-LIT, max-terms)
+    ∷ (RECORDED, max-records)
+    ∷ (REC-KEY, max-records)
+    ∷ (REC-LIT, max-records)
     ∷ []
 
 abbrev pub solver-room : ℕ → ℕ
@@ -141,18 +147,37 @@ Announced t m b = (x : ℕ) → x < max-terms → at t m x ≡ 1 → is-set (at 
 
 -- ---- what a table means
 
--- The level that an entry of the level record came at is known by the caller's mark counts: `lv` gives it for entry i.
-unfoldable pub asserted-at : List ℕ → (ℕ → ℕ) → ℕ → AssertedTester
-asserted-at s lv i = record { atom = at s REC-ATOM i; lit = at s REC-LIT i; level = lv i }
+-- the key of a tester, positive or negative
+unfoldable pub tester-key : Bool → ℕ → ℕ
+tester-key true x = x
+tester-key false x = x + max-terms
 
-unfoldable pub level-record : List ℕ → (ℕ → ℕ) → List AssertedTester
-level-record s lv = counted (asserted-at s lv) (records# s)
+-- is a key one of a positive tester, or of a negative one?
+unfoldable pub of-sign : Bool → ℕ → Bool
+of-sign true k = ltb k max-terms
+of-sign false k = not (ltb k max-terms)
+
+unfoldable pub key-atom : ℕ → ℕ
+key-atom k = cond (ltb k max-terms) k (k - max-terms)
+
+-- The level that an entry came at is known by the caller's mark counts: `lv` gives it for entry i.
+unfoldable pub asserted-at : List ℕ → (ℕ → ℕ) → ℕ → AssertedTester
+asserted-at s lv i = record { atom = key-atom (at s REC-KEY i); lit = at s REC-LIT i; level = lv i }
+
+-- entry i, if its tester is of that sign
+unfoldable pub entry-of : Bool → List ℕ → (ℕ → ℕ) → ℕ → Option AssertedTester
+entry-of b s lv i = cond (of-sign b (at s REC-KEY i)) (some (asserted-at s lv i)) none
+
+-- the record of positive testers, which is the level record, or that of negative ones
+unfoldable pub record-of : Bool → List ℕ → (ℕ → ℕ) → List AssertedTester
+record-of b s lv = gather (entry-of b s lv) (range 0 (records# s))
 
 -- what the solver keeps, with these marks
 unfoldable pub dt-with : List ℕ → (ℕ → ℕ) → List ℕ → DtSolver
 dt-with s lv marks = record {
   marks = marks;
-  level-record = level-record s lv;
+  level-record = record-of true s lv;
+  negative-record = record-of false s lv;
   lasting = flagged s LASTING;
   emitted = flagged s EMITTED;
   split-done = flagged s SPLIT;
@@ -177,10 +202,10 @@ state c e s lv = state-with c e s lv (flagged s MARK)
 pub record SolverSound (s : List ℕ) : Type 0 where
   pub long : table-words ≤ length s
   pub atoms : RegistrySound (registry s)
-  -- an atom stands in the level record once, and its flag says so
-  pub records-fit : records# s ≤ max-terms
-  pub once : Apart (counted (at s REC-ATOM) (records# s))
-  pub recorded : (x : ℕ) → x < max-terms → is-set (at s RECORDED x) ≡ any (eqb x) (counted (at s REC-ATOM) (records# s))
+  -- a key has one entry, and its flag says so
+  pub records-fit : records# s ≤ max-records
+  pub once : Apart (counted (at s REC-KEY) (records# s))
+  pub recorded : (x : ℕ) → x < max-records → is-set (at s RECORDED x) ≡ any (eqb x) (counted (at s REC-KEY) (records# s))
 
 -- a collected term: its mark is there if it is to have one, and its children are collected
 pub record CollectedSound (cx : Context) (s : List ℕ) (x : ℕ) : Type 0 where
@@ -199,6 +224,6 @@ pub record StateSound (c e s : List ℕ) : Type 0 where
   pub marks : MarksAre (context c) s MARK
   pub announced : Announced s MARK BLOCK
   pub collected : (x : ℕ) → x < max-terms → is-set (at s COLLECTED x) ≡ true → CollectedSound (context c) s x
-  -- the atoms of both records are tester applications
+  -- the atoms of the records are tester applications
   pub lasting : (x : ℕ) → x < max-terms → is-set (at s LASTING x) ≡ true → term-kind (context c) x ≡ 4
-  pub records : (i : ℕ) → i < records# s → term-kind (context c) (at s REC-ATOM i) ≡ 4
+  pub records : (i : ℕ) → i < records# s → term-kind (context c) (key-atom (at s REC-KEY i)) ≡ 4

@@ -4,31 +4,22 @@ use Rattle.solver.proofs.Memory.Asserting.{assert-asked, recordable, as
 use Rattle.solver.proofs.asserting.assert_tester.Statement.{statement}
 use Rattle.solver.proofs.asserting.assert_tester.Tie as tie
 
-part-end : tie.Need-part-tester-conflict-end
+part-end : tie.Need-part-asserted-conflict-end
 part-end c =
     let entry = c .before .before .before .before .before in
     omega (arith, entry .pre .sound .solver .long)
 
-tester-conflict-requires : tie.Need-tester-conflict-requires
-tester-conflict-requires c κs =
-    let entry = c .before .before .before .before .before .before .before in
-    assert-asked (entry .pre)
+asserted-conflict-requires : tie.Need-asserted-conflict-requires
+asserted-conflict-requires c κs = search assert-asked
 
 record-tester-requires : tie.Need-record-tester-requires
-record-tester-requires c κs =
-    let at-test = c .before .before .before in
-    let entry = at-test .before .before .before .before .before .before .before .before in
-    recordable (entry .pre)
+record-tester-requires c κs = search recordable
 
 returns : tie.Need-returns
-returns c =
-    let at-record = c .before .before in
-    let at-test = at-record .before .before .before .before in
-    let entry = at-test .before .before .before .before .before .before .before .before in
-    asserted (entry .pre) (at-test .tester-conflict .ensures) (at-record .record-tester .ensures)
+returns c = search asserted
 
 pub assert-tester-spec : {M : Type 1} → statement M
 assert-tester-spec =
     tie.close
-    (tie.spec (λ c. search needs) (λ c. search needs) (λ c. search needs) part-end tester-conflict-requires record-tester-requires
+    (tie.spec (λ c. search needs) (λ c. search needs) (λ c. search needs) part-end asserted-conflict-requires record-tester-requires
     (λ c. search needs) (λ c. search needs) returns)
