@@ -1,7 +1,7 @@
 //! Steps that the topics are built from. They need a rich signature.
 
+use crate::answer::Answer;
 use crate::search::Search;
-use crate::session::Answer;
 use crate::signature::Constructor;
 
 impl Search<'_> {

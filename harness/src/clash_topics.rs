@@ -74,8 +74,12 @@ fn assert_some(s: &mut Search, variables: [usize; 2]) {
 }
 
 /// A class of two marked applications of one constructor; returns one of them.
-fn crowd(s: &mut Search, sort: usize) -> usize {
+pub fn crowd(s: &mut Search, sort: usize) -> usize {
     let constructor = s.any_constructor(sort, 1);
+    crowd_of(s, sort, constructor)
+}
+
+pub fn crowd_of(s: &mut Search, sort: usize, constructor: usize) -> usize {
     let constants = s.constants(sort, 4);
     let applications = s.construct_two(constructor, &constants);
     s.mark(&applications);

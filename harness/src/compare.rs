@@ -1,25 +1,27 @@
-//! Runs a program on generated scripts and holds what it writes to the oracle's run.
+//! Runs a program on generated scripts and holds what it writes to the right run.
 
 use crate::generate::{self, Kind};
-use crate::run::{self, Run};
+use crate::run::{self, Right, Run, Source};
 use std::io::Write;
 use std::process::{Command, Output, Stdio};
 
 /// Takes the scripts in turn from all kinds. Prints what was compared, or returns the first script that differs.
 pub fn compare(program: &str, count: u64, seed: u64) -> Result<(), Vec<u8>> {
-    let (mut lines, mut bytes, mut stopped) = (0, 0, 0);
+    let (mut lines, mut bytes, mut stopped, mut negative) = (0, 0, 0, 0);
     for place in 0..count {
         let kind = Kind::ALL[place as usize % Kind::ALL.len()];
         let script = generate::script(kind, seed + place);
-        let run = run::run(&script, |_, _, _| ());
-        if !agrees(&run, &output_of(program, &script)) {
+        let Right { run, source, agreed } = run::right(&script, run::MOST_OUTPUT);
+        if !agreed || !agrees(&run, &output_of(program, &script)) {
             return Err(script);
         }
         lines += run.lines;
         bytes += run.output.len();
         stopped += u64::from(run.result != 0);
+        negative += u64::from(source == Source::Definition);
     }
     println!("{count} scripts, {lines} lines, {bytes} bytes, {stopped} runs with a result other than 0: no difference");
+    println!("{} held to the published Rust, {negative} with a negative tester to the definition", count - negative);
     Ok(())
 }
 

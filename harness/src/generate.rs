@@ -2,6 +2,7 @@
 
 use crate::damage;
 use crate::limits;
+use crate::negative_topics;
 use crate::reacting;
 use crate::rng::Rng;
 use crate::search::{self, Size};
@@ -16,6 +17,8 @@ pub enum Kind {
     Refused,
     Limits,
     Damaged,
+    /// About negative testers, which the other kinds seldom have; no line is refused.
+    Negative,
     Any,
     /// A search that goes on until a limit is near; for the benchmark.
     Long,
@@ -24,7 +27,8 @@ pub enum Kind {
 }
 
 impl Kind {
-    pub const ALL: [Kind; 6] = [Kind::Search, Kind::Reacting, Kind::Refused, Kind::Limits, Kind::Damaged, Kind::Any];
+    pub const ALL: [Kind; 7] =
+        [Kind::Search, Kind::Reacting, Kind::Refused, Kind::Limits, Kind::Damaged, Kind::Negative, Kind::Any];
 
     pub fn named(name: &str) -> Option<Kind> {
         match name {
@@ -33,6 +37,7 @@ impl Kind {
             "refused" => Some(Kind::Refused),
             "limits" => Some(Kind::Limits),
             "damaged" => Some(Kind::Damaged),
+            "negative" => Some(Kind::Negative),
             "any" => Some(Kind::Any),
             "long" => Some(Kind::Long),
             "stuck" => Some(Kind::Stuck),
@@ -54,6 +59,7 @@ fn script_of(kind: Kind, rng: &mut Rng) -> Vec<u8> {
         Kind::Stuck => search::stuck_search(rng).script,
         Kind::Refused => like_a_search(rng, 20),
         Kind::Limits => limits::limits(rng),
+        Kind::Negative => negative_topics::negative(rng),
         Kind::Damaged => {
             let kinds = [Kind::Search, Kind::Search, Kind::Reacting, Kind::Refused, Kind::Limits];
             let script = script_of(kinds[rng.below(kinds.len())], rng);

@@ -1,7 +1,8 @@
-//! Answers scripts with the published solver, makes scripts, and counts what they meet.
+//! Answers scripts with the published solver or the definition, makes scripts, and counts what they meet.
 
 use oracle::generate::{self, Kind};
-use oracle::{compare, records, run, statistic};
+use oracle::run::{self, Right, Source};
+use oracle::{agree, compare, records, statistic};
 use std::io::{Read, Write};
 
 const USAGE: &str = "harness answer [--result]
@@ -10,8 +11,10 @@ harness batch KIND COUNT SEED
 harness statistic KIND COUNT SEED
 harness fixed EXAMPLES
 harness verify
+harness negative
+harness agree KIND COUNT SEED
 harness compare PROGRAM COUNT SEED
-KIND is search, reacting, refused, limits, damaged or any.";
+KIND is search, reacting, refused, limits, damaged, negative or any.";
 
 fn main() {
     let arguments: Vec<String> = std::env::args().skip(1).collect();
@@ -35,6 +38,8 @@ fn command(arguments: &[&str]) -> Option<()> {
         }
         ["fixed", examples] => records::write_fixed(examples.as_ref(), &mut std::io::stdout()),
         ["verify"] => verify(),
+        ["negative"] => records::negative(&input()).iter().for_each(|place| println!("{place}")),
+        ["agree", kind, count, seed] => agree(Kind::named(kind)?, count.parse().ok()?, seed.parse().ok()?),
         ["compare", program, count, seed] => compare(program, count.parse().ok()?, seed.parse().ok()?),
         _ => return None,
     }
@@ -53,8 +58,11 @@ fn input() -> Vec<u8> {
 
 /// Answers standard input, and says on standard error whether a line was refused.
 fn answer(with_result: bool) {
-    let run = run::run(&input(), |_, _, _| ());
+    let Right { run, source, .. } = run::right(&input(), run::MOST_OUTPUT);
     put(&run.output);
+    if source == Source::Definition {
+        eprintln!("answered by the definition: a negative tester is asserted");
+    }
     match run.refused {
         0 => eprintln!("no line refused"),
         refused => eprintln!("{refused} lines refused"),
@@ -70,6 +78,15 @@ fn statistic(kind: Kind, count: u64, seed: u64) {
         statistic.add(statistic::met_by(&script));
     }
     statistic.print();
+}
+
+/// Answers generated scripts by the definition and by the published Rust, and compares.
+fn agree(kind: Kind, count: u64, seed: u64) {
+    if let Err(script) = agree::agree(kind, count, seed) {
+        println!("the definition and the published Rust answer this script otherwise:");
+        put(&script);
+        std::process::exit(1);
+    }
 }
 
 /// Answers generated scripts by the program, too, and compares.

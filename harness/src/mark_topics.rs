@@ -1,8 +1,8 @@
 //! What the rules make, mark and hand out: lemmas are left alone here, so that it shows in the checks that follow and
 //! in the numbers of terms.
 
+use crate::answer::Answer;
 use crate::search::Search;
-use crate::session::Answer;
 
 /// Classes with two applications of one constructor, their numbers mixed.
 pub fn injectivity(s: &mut Search) {

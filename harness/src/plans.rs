@@ -267,8 +267,9 @@ impl Search<'_> {
                     self.push();
                 }
                 let variable = variables[self.rng.below(2)];
-                let sign = usize::from(self.rng.chance(10));
-                self.w.numbers("assert", &[2 * variable + sign]);
+                let literal = 2 * variable + usize::from(self.rng.chance(10));
+                let literal = if self.may_assert(literal) { literal } else { 2 * variable };
+                self.w.numbers("assert", &[literal]);
                 if self.rng.chance(25) {
                     self.pop();
                 }

@@ -1,15 +1,24 @@
 //! Scripts of a search core that reacts to each answer: it keeps clauses and an assignment, decides, follows the
 //! lemmas, and after a conflict goes back below a cited literal and asserts its opposite. No line is refused.
 
+use crate::answer::{Answer, Leaf};
 use crate::rng::Rng;
 use crate::search::{Search, Size};
-use crate::session::{Answer, Leaf};
 use crate::writer::Writer;
 use std::collections::BTreeMap;
 
 pub fn reacting(rng: &mut Rng) -> Writer {
     let size = if rng.chance(70) { Size::Small } else { Size::Middle };
-    let mut core = Core { search: Search::start(rng, size, 0), clauses: Vec::new(), assigned: BTreeMap::new() };
+    react_with(Search::start(rng, size, 0))
+}
+
+/// The same, and all negative testers are asserted.
+pub fn saying_no(rng: &mut Rng) -> Writer {
+    react_with(Search::start(rng, Size::Small, 0).saying_no(true))
+}
+
+fn react_with(search: Search) -> Writer {
+    let mut core = Core { search, clauses: Vec::new(), assigned: BTreeMap::new() };
     core.prepare();
     core.run();
     core.search.w
@@ -97,10 +106,14 @@ impl Core<'_> {
         })
     }
 
-    /// Assigns a literal, asserts it and merges the sides of an equation that is to hold.
+    /// Assigns a literal, asserts it and merges the sides of an equation that is to hold. Of a negative tester the
+    /// solver is mostly not told.
     fn hold(&mut self, literal: usize) -> Next {
         let variable = literal / 2;
         self.assigned.insert(variable, (literal % 2 == 0, self.search.w.session.level()));
+        if !self.search.may_assert(literal) {
+            return Next::Again;
+        }
         let answer = self.search.w.numbers("assert", &[literal]);
         let atom = self.search.w.session.atom_of(variable as u32);
         if literal % 2 == 0 && self.search.w.session.symbol_of(atom).is_none() {

@@ -4,8 +4,9 @@
 
 use crate::generate::{self, Kind};
 use crate::limits;
+use crate::negative_topics;
 use crate::rng::Rng;
-use crate::run;
+use crate::run::{self, has_negative_tester, MOST_OUTPUT};
 use crate::search;
 use crate::shortcuts;
 use crate::statistic::{self, Statistic};
@@ -25,7 +26,7 @@ const MOST_TOPIC_BYTES: usize = 1_600;
 const SEEDS_PER_FAMILY: u64 = 40;
 
 fn record(script: &[u8]) -> Vec<u8> {
-    let run = run::run(script, |_, _, _| ());
+    let run = run::right(script, MOST_OUTPUT).run;
     let head = format!("{:05} {:05} {:05} {:05}\n", script.len(), run.output.len(), run.result, run.lines);
     [head.as_bytes(), script, &run.output].concat()
 }
@@ -57,6 +58,11 @@ pub fn write_fixed(examples: &Path, out: &mut dyn Write) {
     }
     for &(kind, count, most_bytes) in FIXED {
         put_scripts_of_kind(kind, count, most_bytes, out);
+    }
+    for &(topic, count) in negative_topics::TOPICS {
+        let scripts = (0..).map(|seed| search::on_negative_topic(&mut Rng::new(seed), topic).script);
+        let chosen = |script: &Vec<u8>| script.len() <= MOST_TOPIC_BYTES && has_negative_tester(script);
+        scripts.filter(chosen).take(count).for_each(|script| put(&script, out));
     }
 }
 
@@ -103,15 +109,28 @@ fn put_scripts_of_kind(kind: Kind, count: usize, most_bytes: usize, out: &mut dy
 }
 
 /// Answers the scripts of the records anew. Returns how many there are and how many are answered otherwise.
-pub fn verify(mut bytes: &[u8]) -> (usize, usize) {
-    let (mut count, mut differing) = (0, 0);
-    while !bytes.is_empty() {
+pub fn verify(bytes: &[u8]) -> (usize, usize) {
+    let differing = records(bytes).filter(|&(script, record)| !gives_again(script, record)).count();
+    (records(bytes).count(), differing)
+}
+
+/// The places, from 0, of the records whose script has a negative tester: their answers are the definition's.
+pub fn negative(bytes: &[u8]) -> Vec<usize> {
+    let places = records(bytes).enumerate().filter(|(_, (script, _))| has_negative_tester(script));
+    places.map(|(place, _)| place).collect()
+}
+
+/// Each record with its script before it.
+fn records(mut bytes: &[u8]) -> impl Iterator<Item = (&[u8], &[u8])> {
+    std::iter::from_fn(move || {
+        if bytes.is_empty() {
+            return None;
+        }
         let (script, length) = first_record(bytes).expect("a whole record");
-        count += 1;
-        differing += usize::from(!gives_again(script, &bytes[..length]));
-        bytes = &bytes[length..];
-    }
-    (count, differing)
+        let (record, rest) = bytes.split_at(length);
+        bytes = rest;
+        Some((script, record))
+    })
 }
 
 /// Whether the script gives the record again. A wrong oracle may also break off, which is another answer.

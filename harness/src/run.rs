@@ -1,11 +1,19 @@
 //! A run over a whole script: questions 2 and 12. Question 1 has no counterpart, since no work tables are lent.
 
+use crate::answer::Answer;
+use crate::definition;
 use crate::script;
-use crate::session::{Answer, Session};
+use crate::session;
 
 pub const MOST_SCRIPT: usize = 65_536;
 pub const MOST_OUTPUT: usize = 65_536;
 
+/// A session, which answers one line after the other.
+pub trait Answers {
+    fn answer(&mut self, line: &[u8]) -> Answer;
+}
+
+#[derive(PartialEq, Eq)]
 pub struct Run {
     pub result: u32,
     pub lines: usize,
@@ -13,20 +21,61 @@ pub struct Run {
     pub output: Vec<u8>,
 }
 
-/// A run with the output that the program lends.
-pub fn run(script: &[u8], seen: impl FnMut(&mut Session, &[u8], &Answer)) -> Run {
-    run_within(script, MOST_OUTPUT, seen)
+/// Whose answers a script is held to.
+#[derive(Clone, Copy, PartialEq, Eq, Debug)]
+pub enum Source {
+    Rust,
+    /// The script has a negative tester, which the published Rust is not given.
+    Definition,
 }
 
-/// Answers the script in `room` bytes of output and hands each answered line with its answer, and the session after it,
-/// to `seen`.
-pub fn run_within(script: &[u8], room: usize, mut seen: impl FnMut(&mut Session, &[u8], &Answer)) -> Run {
+/// A run of the published Rust in `room` bytes of output.
+pub fn by_rust(script: &[u8], room: usize) -> Run {
+    run_lines(&mut session::Session::new(), script, room, |_, _, _| ())
+}
+
+/// A run of the definition, and whether the script has a negative tester.
+pub fn by_definition(script: &[u8], room: usize) -> (Run, bool) {
+    let mut session = definition::Session::new();
+    let run = run_lines(&mut session, script, room, |_, _, _| ());
+    (run, session.has_negative_tester())
+}
+
+/// In a run of the definition, was a negative literal whose atom is a tester application asserted, by a line accepted?
+pub fn has_negative_tester(script: &[u8]) -> bool {
+    by_definition(script, MOST_OUTPUT).1
+}
+
+/// A run of the definition that hands each answered line with its answer, and the session after it, to `seen`.
+pub fn watched(script: &[u8], seen: impl FnMut(&definition::Session, &[u8], &Answer)) -> Run {
+    run_lines(&mut definition::Session::new(), script, MOST_OUTPUT, seen)
+}
+
+/// The run that a script is held to.
+pub struct Right {
+    pub run: Run,
+    pub source: Source,
+    /// Whether the definition gives the same run.
+    pub agreed: bool,
+}
+
+/// The right run in `room` bytes of output.
+pub fn right(script: &[u8], room: usize) -> Right {
+    let (defined, has_negative_tester) = by_definition(script, room);
+    if has_negative_tester {
+        return Right { run: defined, source: Source::Definition, agreed: true };
+    }
+    let run = by_rust(script, room);
+    let agreed = run == defined;
+    Right { run, source: Source::Rust, agreed }
+}
+
+fn run_lines<S: Answers>(session: &mut S, script: &[u8], room: usize, mut seen: impl FnMut(&S, &[u8], &Answer)) -> Run {
     let mut run = Run { result: 0, lines: 0, refused: 0, output: Vec::new() };
     if script.len() > MOST_SCRIPT {
         run.result = 2;
         return run;
     }
-    let mut session = Session::new();
     for line in script::lines(script) {
         let answer = session.answer(line);
         let written = run.output.len();
@@ -39,7 +88,7 @@ pub fn run_within(script: &[u8], room: usize, mut seen: impl FnMut(&mut Session,
         }
         run.lines += 1;
         run.refused += usize::from(matches!(answer, Answer::Refused(_)));
-        seen(&mut session, line, &answer);
+        seen(session, line, &answer);
     }
     run
 }

@@ -1,10 +1,11 @@
 //! Scripts like those of a search core: it declares, builds terms, registers atoms, decides, closes under congruence,
 //! checks, follows the lemmas it is handed and goes back after conflicts. Unless asked for, no line is refused.
 
+use crate::answer::Answer;
 use crate::plans::Plan;
 use crate::rng::Rng;
 use crate::run::{MOST_OUTPUT, MOST_SCRIPT};
-use crate::session::{Answer, MOST_LEVELS, MOST_PLACES, MOST_TERMS, MOST_VARIABLES};
+use crate::session::{MOST_LEVELS, MOST_PLACES, MOST_TERMS, MOST_VARIABLES};
 use crate::signature::{Shape, Signature};
 use crate::writer::Writer;
 use std::collections::HashMap;
@@ -31,7 +32,13 @@ pub struct Search<'a> {
     /// Each registered variable with its atom.
     pub variables: Vec<(usize, usize)>,
     pub first_variable: HashMap<usize, usize>,
+    /// Whether the script asserts negative testers; decided when the first one comes up, unless before.
+    says_no: Option<bool>,
 }
+
+/// How many of a hundred scripts in which a negative tester comes up assert it. The published Rust is not given such
+/// scripts, so most do without.
+const SAYS_NO_PERCENT: usize = 10;
 
 pub fn search(rng: &mut Rng, size: Size, refused_percent: usize) -> Writer {
     let mut search = Search::start(rng, size, refused_percent);
@@ -42,7 +49,7 @@ pub fn search(rng: &mut Rng, size: Size, refused_percent: usize) -> Writer {
 /// Random steps until a limit is near. What is joined below all levels soon contradicts itself, so most checks end in a
 /// conflict that no `pop` takes back.
 pub fn stuck_search(rng: &mut Rng) -> Writer {
-    let mut search = Search::start(rng, Size::Large, 0);
+    let mut search = Search::start(rng, Size::Large, 0).saying_no(false);
     search.fill();
     while search.room() {
         search.step();
@@ -52,7 +59,7 @@ pub fn stuck_search(rng: &mut Rng) -> Writer {
 
 /// A search that goes on until a limit is near: it decides at a level of its own, closes under congruence and checks.
 pub fn long_search(rng: &mut Rng) -> Writer {
-    let mut search = Search::start(rng, Size::Large, 0);
+    let mut search = Search::start(rng, Size::Large, 0).saying_no(false);
     let (terms, atoms) = (search.rng.between(20, 120), search.rng.between(8, 50));
     search.make_terms(terms);
     search.make_atoms(atoms);
@@ -67,9 +74,25 @@ pub fn long_search(rng: &mut Rng) -> Writer {
     search.w
 }
 
+/// A search that asserts negative testers too.
+pub fn saying_no(rng: &mut Rng) -> Writer {
+    let size = if rng.chance(70) { Size::Small } else { Size::Middle };
+    let mut search = Search::start(rng, size, 0).saying_no(true);
+    search.fill();
+    search.w
+}
+
 /// A small script on one topic, with a few random steps after it.
 pub fn on_topic(rng: &mut Rng, topic: Plan) -> Writer {
-    let mut search = Search::over(rng, Size::Small, 0, true);
+    about(Search::over(rng, Size::Small, 0, true), topic)
+}
+
+/// The same, and the steps may assert negative testers.
+pub fn on_negative_topic(rng: &mut Rng, topic: Plan) -> Writer {
+    about(Search::over(rng, Size::Small, 0, true).saying_no(true), topic)
+}
+
+fn about(mut search: Search, topic: Plan) -> Writer {
     topic(&mut search);
     for _ in 0..search.rng.below(4) {
         search.step_over_known_terms();
@@ -94,7 +117,19 @@ impl<'a> Search<'a> {
         let mut w = Writer::new();
         let signature = Signature::declare(rng, &mut w, &shape);
         let (variables, first_variable) = (Vec::new(), HashMap::new());
-        Search { rng, w, signature, size, refused_percent, rich, tags: 0, variables, first_variable }
+        Search { rng, w, signature, size, refused_percent, rich, tags: 0, variables, first_variable, says_no: None }
+    }
+
+    /// Decides whether the script asserts negative testers.
+    pub fn saying_no(mut self, yes: bool) -> Search<'a> {
+        self.says_no = Some(yes);
+        self
+    }
+
+    /// Any literal may be asserted but a negative tester, which few scripts assert.
+    pub fn may_assert(&mut self, literal: usize) -> bool {
+        !self.w.session.is_negative_tester(literal as u32)
+            || *self.says_no.get_or_insert_with(|| self.rng.chance(SAYS_NO_PERCENT))
     }
 
     fn fill(&mut self) {
@@ -170,8 +205,9 @@ impl<'a> Search<'a> {
         let Some(&(variable, atom)) = self.rng.pick(&self.variables) else {
             return;
         };
-        if self.rng.chance(20) {
-            self.w.numbers("assert", &[2 * variable + 1]);
+        if self.rng.chance(20) && self.may_assert(2 * variable + 1) {
+            let answer = self.w.numbers("assert", &[2 * variable + 1]);
+            self.go_back_after(&answer);
         } else {
             self.hold(variable, atom);
         }

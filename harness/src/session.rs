@@ -1,15 +1,16 @@
 //! The session: questions 4 to 11 over the published solver. `check` and `assert` answers come from `DtSolver`,
-//! equality from `EqualityEngine`, terms from `Context`.
+//! equality from `EqualityEngine`, terms from `Context`. It is given no script with a negative tester.
 
+use crate::answer::{Answer, Leaf};
+use crate::run::Answers;
 use crate::script::{self, Line};
 use rustc_hash::FxHasher;
-use shinri_core::{BuiltinOp, Context, DtRole, Lit, Op, SortId, SymbolId, TermId, TermNode, TheoryJust, Var};
+use shinri_core::{BuiltinOp, Context, Lit, Op, SortId, SymbolId, TermId, TermNode, TheoryJust, Var};
 use shinri_dt::DtSolver;
 use shinri_sat::Effort;
 use shinri_theory::types::{EqJust, EqLeaf, MergeEvent, Owner};
 use shinri_theory::{AtomRegistry, ENodeId, EqualityEngine, TCheck, TheoryCtx, TheorySolver};
 use std::collections::HashSet;
-use std::fmt;
 use std::hash::BuildHasherDefault;
 
 pub const MOST_SORTS: usize = 64;
@@ -19,23 +20,6 @@ pub const MOST_PLACES: usize = 4_096;
 pub const MOST_PAIRS: usize = 2_048;
 pub const MOST_LEVELS: usize = 64;
 pub const MOST_VARIABLES: u32 = 1_024;
-
-#[derive(Clone, PartialEq, Eq, Debug)]
-pub enum Answer {
-    Ok,
-    Term(usize),
-    Conflict(Vec<Leaf>),
-    Split { atoms: Vec<usize>, guards: Vec<u32>, phases: Vec<Option<bool>> },
-    Sat,
-    Unknown,
-    Refused(u32),
-}
-
-#[derive(Clone, Copy, PartialEq, Eq, Hash, Debug)]
-pub enum Leaf {
-    Literal(u32),
-    Interface { theory: u16, tag: u32 },
-}
 
 /// The number of the question that was answered with no.
 type Refusal = u32;
@@ -64,14 +48,8 @@ pub struct Session {
     events: Vec<MergeEvent>,
 }
 
-impl Session {
-    pub fn new() -> Session {
-        let mut session = Session::default();
-        session.sorts.push(session.terms.bool_sort());
-        session
-    }
-
-    pub fn answer(&mut self, line: &[u8]) -> Answer {
+impl Answers for Session {
+    fn answer(&mut self, line: &[u8]) -> Answer {
         let Some(read) = script::read(line) else {
             return Answer::Refused(3);
         };
@@ -84,59 +62,13 @@ impl Session {
             Err(question) => Answer::Refused(question),
         }
     }
+}
 
-    pub fn term_count(&self) -> usize {
-        self.term_count
-    }
-
-    /// The argument places of all terms.
-    pub fn places(&self) -> usize {
-        self.places
-    }
-
-    pub fn level(&self) -> usize {
-        self.eq.level()
-    }
-
-    /// The number of a term's sort.
-    pub fn sort_of(&self, t: usize) -> usize {
-        let sort = self.terms.sort_of(self.known_term(t));
-        self.sorts.iter().position(|&known| known == sort).expect("a declared sort")
-    }
-
-    /// The number of a term's symbol; an equation has none.
-    pub fn symbol_of(&self, t: usize) -> Option<usize> {
-        match self.operation(self.known_term(t)) {
-            Op::Uninterpreted(symbol) => self.symbols.iter().position(|&known| known == symbol),
-            Op::Builtin(_) => None,
-        }
-    }
-
-    /// What a term's symbol is among the datatype symbols.
-    pub fn role_of(&self, t: usize) -> Option<DtRole> {
-        match self.operation(self.known_term(t)) {
-            Op::Uninterpreted(symbol) => self.terms.dt_role(symbol),
-            Op::Builtin(_) => None,
-        }
-    }
-
-    pub fn is_datatype(&self, t: usize) -> bool {
-        self.terms.is_datatype_sort(self.terms.sort_of(self.known_term(t)))
-    }
-
-    /// The atom of a registered variable.
-    pub fn atom_of(&self, variable: u32) -> usize {
-        self.atoms.atom(Var::new(variable)).index()
-    }
-
-    pub fn arguments_of(&self, t: usize) -> Vec<usize> {
-        self.arguments(self.known_term(t)).iter().map(|argument| argument.index()).collect()
-    }
-
-    pub fn equal(&mut self, t: usize, u: usize) -> bool {
-        let (t, u) = (self.known_term(t), self.known_term(u));
-        let (a, b) = (self.eq.intern(t), self.eq.intern(u));
-        self.eq.are_equal(a, b)
+impl Session {
+    pub fn new() -> Session {
+        let mut session = Session::default();
+        session.sorts.push(session.terms.bool_sort());
+        session
     }
 
     fn obey(&mut self, line: &Line) -> Result<Answer, Refusal> {
@@ -397,10 +329,6 @@ impl Session {
         self.existing_term(number as usize).ok_or(5)
     }
 
-    fn known_term(&self, index: usize) -> TermId {
-        self.existing_term(index).expect("a term of the session")
-    }
-
     fn existing_term(&self, index: usize) -> Option<TermId> {
         let t = TermId::new(u32::try_from(index + 1).ok()?)?;
         self.terms.contains_term(t).then_some(t)
@@ -466,83 +394,4 @@ fn first_occurrences(leaves: &[EqLeaf]) -> Vec<Leaf> {
         }
     }
     kept
-}
-
-impl Answer {
-    /// Appends the answer's text, without its LF.
-    pub fn write(&self, out: &mut Vec<u8>) {
-        match self {
-            Answer::Ok => out.extend_from_slice(b"ok=1"),
-            Answer::Term(number) => {
-                out.extend_from_slice(b"term=");
-                write_number(*number, out);
-            }
-            Answer::Conflict(leaves) => {
-                out.extend_from_slice(b"conflict=");
-                write_list(leaves, out, |leaf, out| leaf.write(out));
-            }
-            Answer::Split { atoms, guards, phases } => {
-                out.extend_from_slice(b"split=");
-                write_list(atoms, out, |&atom, out| write_number(atom, out));
-                out.push(b';');
-                write_list(guards, out, |&guard, out| write_number(guard as usize, out));
-                out.push(b';');
-                write_list(phases, out, |&phase, out| out.push(if phase == Some(true) { b'1' } else { b'-' }));
-            }
-            Answer::Sat => out.extend_from_slice(b"sat=1"),
-            Answer::Unknown => out.extend_from_slice(b"unknown=1"),
-            Answer::Refused(question) => {
-                out.extend_from_slice(b"refused=");
-                write_number(*question as usize, out);
-            }
-        }
-    }
-}
-
-impl Leaf {
-    fn write(&self, out: &mut Vec<u8>) {
-        match self {
-            Leaf::Literal(code) => {
-                out.push(b'a');
-                write_number(*code as usize, out);
-            }
-            Leaf::Interface { theory, tag } => {
-                out.push(b'i');
-                write_number(usize::from(*theory), out);
-                out.push(b'.');
-                write_number(*tag as usize, out);
-            }
-        }
-    }
-}
-
-/// The items parted by commas.
-fn write_list<T>(items: &[T], out: &mut Vec<u8>, write: impl Fn(&T, &mut Vec<u8>)) {
-    for (place, item) in items.iter().enumerate() {
-        if place > 0 {
-            out.push(b',');
-        }
-        write(item, out);
-    }
-}
-
-fn write_number(number: usize, out: &mut Vec<u8>) {
-    let start = out.len();
-    let mut rest = number;
-    loop {
-        out.push(b'0' + (rest % 10) as u8);
-        rest /= 10;
-        if rest == 0 {
-            break;
-        }
-    }
-    out[start..].reverse();
-}
-
-impl fmt::Display for Answer {
-    fn fmt(&self, f: &mut fmt::Formatter<'_>) -> fmt::Result {
-        let mut text = Vec::new();
-        self.write(&mut text);
-        f.write_str(std::str::from_utf8(&text).expect("an answer is ASCII"))
-    }
 }

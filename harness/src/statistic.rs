@@ -2,10 +2,11 @@
 //! form and the session; a second equality engine, with a label of its own for each merge, tells how deep an
 //! explanation goes through congruences. Nothing here takes part in answering.
 
+use crate::answer::{Answer, Leaf};
+use crate::definition::{Role, Session};
 use crate::run;
 use crate::script::{self, Line};
-use crate::session::{Answer, Leaf, Session};
-use shinri_core::{DtRole, TermId, TheoryJust};
+use shinri_core::{TermId, TheoryJust};
 use shinri_theory::types::{EqJust, EqLeaf};
 use shinri_theory::EqualityEngine;
 use std::collections::{BTreeMap, BTreeSet};
@@ -28,7 +29,7 @@ struct Count {
 /// What a run over the script meets, and how often.
 pub fn met_by(script: &[u8]) -> BTreeMap<String, usize> {
     let mut watcher = Watcher::default();
-    let run = run::run(script, |session, line, answer| watcher.see(session, line, answer));
+    let run = run::watched(script, |session, line, answer| watcher.see(session, line, answer));
     watcher.count(format!("result {}", run.result));
     if run.output.len() == run::MOST_OUTPUT {
         watcher.count(format!("result {}, the output is full", run.result));
@@ -110,7 +111,7 @@ struct Step {
 }
 
 impl Watcher {
-    fn see(&mut self, session: &mut Session, line: &[u8], answer: &Answer) {
+    fn see(&mut self, session: &Session, line: &[u8], answer: &Answer) {
         if let Answer::Refused(question) = answer {
             return self.see_refusal(*question, line);
         }
@@ -187,7 +188,7 @@ impl Watcher {
         if session.is_datatype(t) {
             self.watched.insert(t);
         }
-        if matches!(session.role_of(t), Some(DtRole::Constructor { .. })) {
+        if matches!(session.role_of(t), Some(Role::Constructor)) {
             self.constructors.insert(t);
         }
     }
@@ -197,13 +198,18 @@ impl Watcher {
             self.asserted.insert(session.atom_of(literal / 2));
         }
         if let Answer::Conflict(leaves) = answer {
-            self.count("rule assert conflict");
             self.see_conflict(leaves);
             self.see_tester(session, leaves);
+            if literal % 2 == 1 {
+                self.count("rule negative tester in assert");
+                self.see_negative(session, literal);
+            } else {
+                self.count("rule assert conflict");
+            }
         }
     }
 
-    fn see_check(&mut self, session: &mut Session, answer: &Answer) {
+    fn see_check(&mut self, session: &Session, answer: &Answer) {
         if !matches!(answer, Answer::Conflict(_)) {
             self.see_past_clashes(session, answer);
         }
@@ -243,10 +249,16 @@ impl Watcher {
 
     fn see_check_conflict(&mut self, session: &Session, leaves: &[Leaf]) {
         self.see_conflict(leaves);
-        if cites_tester(session, leaves) {
-            self.count("rule tester clash");
-            self.see_tester_clash(session, leaves);
-            return self.see_tester(session, leaves);
+        if let Some(literal) = cited_tester(session, leaves) {
+            self.see_tester(session, leaves);
+            return if literal % 2 == 1 {
+                self.count("rule negative tester in check");
+                self.see_negative(session, literal);
+                self.see_negative_clash(session);
+            } else {
+                self.count("rule tester clash");
+                self.see_tester_clash(session, leaves);
+            };
         }
         if let Some((p, q)) = self.clash(session) {
             self.count("rule constructor clash");
@@ -263,14 +275,17 @@ impl Watcher {
         self.see_depth(&ring.edges);
     }
 
-    /// The depth of a tester's conflict: from the tester's term to its class's lowest application.
+    /// The depth of a tester's conflict: from the tester's term to the application of its class that it is held
+    /// against.
     fn see_tester(&mut self, session: &Session, leaves: &[Leaf]) {
         let Some(Leaf::Literal(literal)) = leaves.first() else {
             return;
         };
-        let t = session.arguments_of(session.atom_of(literal / 2))[0];
+        let atom = session.atom_of(literal / 2);
+        let t = session.arguments_of(atom)[0];
         let class = self.class(t);
-        if let Some(application) = self.lowest(class) {
+        let application = if literal % 2 == 1 { self.own(session, atom) } else { self.lowest(class) };
+        if let Some(application) = application {
             self.see_depth(&[(t, application)]);
         }
     }
@@ -371,12 +386,13 @@ fn key(line: &[u8]) -> String {
     String::from_utf8_lossy(key).into_owned()
 }
 
-/// A tester clash cites first the literal of a tester.
-fn cites_tester(session: &Session, leaves: &[Leaf]) -> bool {
+/// The literal of a tester, which a tester's conflict cites first and no other does.
+fn cited_tester(session: &Session, leaves: &[Leaf]) -> Option<u32> {
     match leaves.first() {
         Some(Leaf::Literal(literal)) => {
-            matches!(session.role_of(session.atom_of(literal / 2)), Some(DtRole::Tester { .. }))
+            let role = session.role_of(session.atom_of(literal / 2));
+            matches!(role, Some(Role::Tester { .. })).then_some(*literal)
         }
-        _ => false,
+        _ => None,
     }
 }

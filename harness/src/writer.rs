@@ -1,8 +1,10 @@
-//! A script in the making: each line goes to a session at once, so that the next line can depend on its answer.
+//! A script in the making: each line goes to a session of the definition at once, so that the next line can depend on
+//! its answer.
 
-use crate::session::{Answer, Session};
+use crate::answer::Answer;
+use crate::definition::Session;
+use crate::run::Answers;
 
-#[derive(Default)]
 pub struct Writer {
     pub script: Vec<u8>,
     pub session: Session,
@@ -11,7 +13,7 @@ pub struct Writer {
 
 impl Writer {
     pub fn new() -> Writer {
-        Writer { session: Session::new(), ..Writer::default() }
+        Writer { script: Vec::new(), session: Session::new(), output: 0 }
     }
 
     pub fn line(&mut self, text: &str) -> Answer {

@@ -5,7 +5,7 @@ use crate::families::{self, Family, Script};
 use crate::growth;
 use crate::library::{self, Lent};
 use crate::plot;
-use oracle::run;
+use oracle::run::{self, Right, Source};
 use std::fmt::Write as _;
 use std::path::Path;
 
@@ -30,10 +30,12 @@ impl Measured {
     }
 }
 
-/// Panics unless both give the script the same answers. Returns how many lines were answered.
+/// Panics unless both give the script the same answers, and if it has a negative tester, which the published Rust is not
+/// given. Returns how many lines were answered.
 pub fn hold_to_the_rust(name: &str, script: &[u8]) -> usize {
     let mut lent = Lent::new(run::MOST_OUTPUT);
-    let expected = run::run(script, |_, _, _| ());
+    let Right { run: expected, source, .. } = run::right(script, run::MOST_OUTPUT);
+    assert!(source == Source::Rust, "{name}: a negative tester is asserted");
     let ran = library::run(script, &mut lent);
     let same = ran.result == expected.result
         && ran.lines == expected.lines
@@ -51,7 +53,7 @@ fn measure(script: &Script, least: f64) -> Measured {
     let (rust, library) = clock::by_turns(
         least,
         || {
-            std::hint::black_box(run::run(bytes, |_, _, _| ()));
+            std::hint::black_box(run::by_rust(bytes, run::MOST_OUTPUT));
         },
         || {
             std::hint::black_box(library::run(bytes, &mut lent));

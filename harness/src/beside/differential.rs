@@ -1,10 +1,11 @@
 //! Generated scripts through the proved library and the published solver: answer bytes, result, counts, the output
-//! past the last answer and the work tables are compared.
+//! past the last answer and the work tables are compared. Scripts with a negative tester are held to the definition
+//! alone; on the others the definition is held to the published solver too.
 
 use crate::library::{self, Lent, Ran, TABLE_WORDS};
 use oracle::generate::{self, Kind};
 use oracle::rng::Rng;
-use oracle::run::{self, Run, MOST_OUTPUT};
+use oracle::run::{self, Right, Run, Source, MOST_OUTPUT};
 use oracle::statistic::{self, Statistic};
 use std::sync::atomic::{AtomicBool, AtomicU64, Ordering};
 use std::time::{Duration, Instant};
@@ -63,21 +64,24 @@ impl Loan {
     }
 }
 
-/// The run that 01 asks for: the oracle's, and question 1, for which the oracle has no tables.
-fn right_run(script: &[u8], loan: &Loan) -> Run {
+/// The run that 01 asks for, and whose it is. Question 1 is answered here, since neither source has tables.
+fn right_run(script: &[u8], loan: &Loan) -> Right {
+    let mut right = run::right(script, loan.output);
     if loan.has_short_table() {
-        return Run { result: 1, lines: 0, refused: 0, output: Vec::new() };
+        right.run = Run { result: 1, lines: 0, refused: 0, output: Vec::new() };
     }
-    run::run_within(script, loan.output, |_, _, _| ())
+    right
 }
 
 /// What the library's run has otherwise than the right run, if anything.
-fn difference(right: &Run, loan: &Loan, lent: &Lent, ran: Ran) -> Option<&'static str> {
+fn difference(right: &Right, loan: &Loan, lent: &Lent, ran: Ran) -> Option<&'static str> {
+    let Right { run: right, agreed, .. } = right;
     let started = right.result != 1 && right.result != 2;
     let tables = [&lent.core, &lent.theory, &lent.solver];
     let tables_are_right =
         if started { lent.tables_are_zero() } else { tables.iter().all(|table| loan.is_untouched(table)) };
     let parts = [
+        ("the definition's answers from the published Rust's", *agreed),
         ("the result", ran.result == right.result),
         ("the lines answered", ran.lines == right.lines),
         ("the bytes written", ran.bytes == right.output.len()),
@@ -88,7 +92,7 @@ fn difference(right: &Run, loan: &Loan, lent: &Lent, ran: Ran) -> Option<&'stati
     parts.iter().find(|(_, equal)| !equal).map(|&(what, _)| what)
 }
 
-fn compare(script: &[u8], loan: &Loan) -> (Run, Option<&'static str>) {
+fn compare(script: &[u8], loan: &Loan) -> (Right, Option<&'static str>) {
     let right = right_run(script, loan);
     let mut lent = loan.lend();
     let ran = library::run(script, &mut lent);
@@ -141,8 +145,8 @@ impl Found {
         println!("{:?} {} differs in {}, with {:?}", self.kind, self.seed, self.what, self.loan);
         println!("the smallest script, which differs in {}:", what.unwrap_or("nothing"));
         println!("{}", String::from_utf8_lossy(&smallest));
-        println!("oracle: result {}, {} lines", right.result, right.lines);
-        println!("{}", String::from_utf8_lossy(&right.output));
+        println!("right by {:?}: result {}, {} lines", right.source, right.run.result, right.run.lines);
+        println!("{}", String::from_utf8_lossy(&right.run.output));
         println!("library: {ran:?}");
         println!("{}", String::from_utf8_lossy(&lent.output[..ran.bytes.min(lent.output.len())]));
     }
@@ -151,6 +155,8 @@ impl Found {
 #[derive(Default)]
 struct Tally {
     scripts: u64,
+    /// How many of them have a negative tester.
+    negative: u64,
     lines: usize,
     bytes: usize,
     results: [u64; 13],
@@ -158,16 +164,19 @@ struct Tally {
 }
 
 impl Tally {
-    fn add(&mut self, script: &[u8], right: &Run) {
+    fn add(&mut self, script: &[u8], right: &Right) {
+        let Right { run, source, .. } = right;
         self.scripts += 1;
-        self.lines += right.lines;
-        self.bytes += right.output.len();
-        self.results[right.result as usize] += 1;
+        self.negative += u64::from(*source == Source::Definition);
+        self.lines += run.lines;
+        self.bytes += run.output.len();
+        self.results[run.result as usize] += 1;
         self.met.add(statistic::met_by(script));
     }
 
     fn join(&mut self, other: Tally) {
         self.scripts += other.scripts;
+        self.negative += other.negative;
         self.lines += other.lines;
         self.bytes += other.bytes;
         for (all, &count) in self.results.iter_mut().zip(&other.results) {
@@ -180,6 +189,8 @@ impl Tally {
         let results: Vec<String> = [0, 1, 2, 12].map(|n| format!("{} with result {n}", self.results[n])).to_vec();
         let results = results.join(", ");
         println!("{} scripts ({results}), {} lines, {} bytes: no difference", self.scripts, self.lines, self.bytes);
+        println!("{} held to the published Rust and the definition", self.scripts - self.negative);
+        println!("{} with a negative tester held to the definition alone", self.negative);
         println!("{} minutes {} seconds; met by whole runs of these scripts:", seconds / 60, seconds % 60);
         self.met.print();
     }

@@ -1,5 +1,6 @@
 //! The scripts of the benchmark, by family. Each is within the limits of the scope document 01 unless its family is
-//! about what is refused.
+//! about what is refused. None has a negative tester: the published Rust is not given one, and both sides have to give
+//! the same answers.
 
 use crate::shapes::Shape;
 use oracle::generate::{self, Kind};
@@ -22,7 +23,7 @@ pub struct Family {
 
 pub fn all() -> Vec<Family> {
     vec![
-        family("examples", "the examples of 01", examples()),
+        family("examples", "the examples of 01 without a negative tester", examples()),
         of_kind("searches", "short search", "generated searches of at most 60 lines", searches(1, 60)),
         of_kind("searches", "search", "generated searches of 200 lines and more", searches(200, usize::MAX)),
         of_kind("searches", "long search", "searches that go on until a limit is near", seeds(Kind::Long)),
@@ -56,27 +57,34 @@ fn script(name: impl Into<String>, bytes: Vec<u8>) -> Script {
     Script { name: name.into(), bytes }
 }
 
+/// All but number 05, which asserts a negative tester.
 fn examples() -> Vec<Script> {
     macro_rules! examples {
         ($($number:literal),*) => {
             vec![$(script($number, include_bytes!(concat!("../../examples/", $number, ".in")).to_vec())),*]
         };
     }
-    examples!("01", "02", "03", "04", "05", "06", "07", "08", "09", "10", "11")
+    examples!("01", "02", "03", "04", "06", "07", "08", "09", "10", "11")
 }
 
 fn lines_of(bytes: &[u8]) -> usize {
     oracle::script::lines(bytes).count()
 }
 
-/// The first twenty generated searches with so many lines.
+/// The first generated scripts of a kind that fit and have no negative tester.
+fn generated(kind: Kind, count: usize, fits: impl Fn(&[u8]) -> bool) -> Vec<Script> {
+    let named = |seed| script(format!("seed {seed}"), generate::script(kind, seed));
+    let chosen = |made: &Script| fits(&made.bytes) && !run::has_negative_tester(&made.bytes);
+    (1..).map(named).filter(chosen).take(count).collect()
+}
+
+/// Generated searches with so many lines.
 fn searches(least: usize, most: usize) -> Vec<Script> {
-    let named = |seed| script(format!("seed {seed}"), generate::script(Kind::Search, seed));
-    (1..).map(named).filter(|made| (least..=most).contains(&lines_of(&made.bytes))).take(20).collect()
+    generated(Kind::Search, 20, |bytes| (least..=most).contains(&lines_of(bytes)))
 }
 
 fn seeds(kind: Kind) -> Vec<Script> {
-    (1..=10).map(|seed| script(format!("seed {seed}"), generate::script(kind, seed))).collect()
+    generated(kind, 10, |_| true)
 }
 
 fn terms() -> Vec<Script> {
@@ -344,7 +352,7 @@ fn asserts() -> Vec<Script> {
             shape.watch(successor);
         }
         let variables = shape.register_testers(count);
-        shape.fill(|rng| format!("assert={}", 2 * variables[rng.below(count)] + rng.below(8) / 7));
+        shape.fill(|rng| format!("assert={}", 2 * variables[rng.below(count)]));
         scripts.push(script(format!("{count} terms, {applications} applications"), shape.script()));
     }
     scripts
@@ -449,25 +457,22 @@ fn refusals() -> Vec<Script> {
     let mut shape = Shape::numbers();
     shape.fill(|_| "push=1".to_string());
     scripts.push(script("question 11, levels", shape.script()));
-    let named = |seed| script(format!("seed {seed}"), generate::script(Kind::Refused, seed));
-    let long = |made: &Script| lines_of(&made.bytes) >= 200 && !refuses_a_check(&made.bytes);
-    scripts.extend((1..).map(named).filter(long).take(10));
+    scripts.extend(generated(Kind::Refused, 10, |bytes| lines_of(bytes) >= 200 && !refuses_a_check(bytes)));
     scripts
 }
 
 /// Does a run refuse a check? The session around the published solver then builds itself anew, line by line.
 fn refuses_a_check(bytes: &[u8]) -> bool {
     let mut refused = false;
-    run::run(bytes, |_, line, answer| {
-        refused |= line == b"check=1" && *answer == oracle::session::Answer::Refused(11);
+    run::watched(bytes, |_, line, answer| {
+        refused |= line == b"check=1" && *answer == oracle::answer::Answer::Refused(11);
     });
     refused
 }
 
 fn damaged() -> Vec<Script> {
-    let named = |seed| script(format!("seed {seed}"), generate::script(Kind::Damaged, seed));
-    let long = |made: &Script| (1_000..=run::MOST_SCRIPT).contains(&made.bytes.len()) && !refuses_a_check(&made.bytes);
-    let mut scripts: Vec<Script> = (1..).map(named).filter(long).take(16).collect();
+    let long = |bytes: &[u8]| (1_000..=run::MOST_SCRIPT).contains(&bytes.len()) && !refuses_a_check(bytes);
+    let mut scripts = generated(Kind::Damaged, 16, long);
     let mut rng = Rng::new(1);
     let any: Vec<u8> = (0..60_000).map(|_| rng.below(256) as u8).collect();
     scripts.push(script("any bytes", any));

@@ -94,7 +94,7 @@ pub fn measure(least: f64) -> Vec<Growth> {
 
 fn point(make: Make, terms: usize, more: usize, least: f64) -> Point {
     let rust = one_check(make, terms, more, least, |script| {
-        std::hint::black_box(run::run(script, |_, _, _| ()));
+        std::hint::black_box(run::by_rust(script, run::MOST_OUTPUT));
     });
     let mut lent = Lent::new(run::MOST_OUTPUT);
     let library = one_check(make, terms, LIBRARY_CHECKS, least, |script| {

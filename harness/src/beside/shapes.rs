@@ -1,9 +1,9 @@
-//! What the scripts of the benchmark are built from. Each line goes to the published solver as it is written, so that
+//! What the scripts of the benchmark are built from. Each line goes to the definition as it is written, so that
 //! terms and lemmas are named by the numbers that they get.
 
+use oracle::answer::Answer;
 use oracle::rng::Rng;
 use oracle::run::{MOST_OUTPUT, MOST_SCRIPT};
-use oracle::session::Answer;
 use oracle::writer::Writer;
 
 pub struct Shape {

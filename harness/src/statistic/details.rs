@@ -1,8 +1,8 @@
 //! Things on which an answer hangs and that chance brings seldom, told from the session and the answer.
 
 use super::{Ring, Watcher};
-use crate::session::{Answer, Leaf, Session};
-use shinri_core::DtRole;
+use crate::answer::{Answer, Leaf};
+use crate::definition::{Role, Session};
 use std::collections::BTreeMap;
 
 impl Watcher {
@@ -41,6 +41,43 @@ impl Watcher {
         if leaves.len() > 2 {
             self.count("tester clash with two leaves or more after the tester");
         }
+        if !session.denied_testers().is_empty() {
+            self.count("tester clash before a negative tester's");
+        }
+    }
+
+    /// What the conflict of a negative tester hangs on, in `assert` and in a check.
+    pub(super) fn see_negative(&mut self, session: &Session, literal: u32) {
+        let atom = session.atom_of(literal / 2);
+        let class = self.class(session.arguments_of(atom)[0]);
+        if self.own(session, atom) != self.lowest(class) {
+            self.count("negative tester against an application that is not the lowest");
+        }
+        if self.first_variable.get(&atom) != Some(&(literal / 2)) {
+            self.count("negative tester that cites a later variable");
+        }
+    }
+
+    /// The same in a check only.
+    pub(super) fn see_negative_clash(&mut self, session: &Session) {
+        let denied: Vec<usize> = session.denied_testers().iter().map(|literal| session.atom_of(literal / 2)).collect();
+        if denied.len() > 1 {
+            self.count("negative tester that is the first of several");
+        }
+        if denied.iter().any(|&atom| atom < denied[0]) {
+            self.count("negative tester asserted before that of a lower atom");
+        }
+        if self.went_back {
+            self.count("negative tester in check after a pop");
+        }
+    }
+
+    /// The lowest marked application of a tester's own constructor in its term's class.
+    pub(super) fn own(&mut self, session: &Session, atom: usize) -> Option<usize> {
+        let (class, constructor) = (self.class(session.arguments_of(atom)[0]), constructor_behind(session, atom));
+        let of_constructor = |&&application: &&usize| session.symbol_of(application) == constructor;
+        let applications: Vec<usize> = self.constructors.iter().filter(of_constructor).copied().collect();
+        applications.into_iter().find(|&application| self.class(application) == class)
     }
 
     pub(super) fn see_clashing_classes(&mut self, session: &Session) {
@@ -52,6 +89,9 @@ impl Watcher {
 
     /// What a check meets that found no clash.
     pub(super) fn see_past_clashes(&mut self, session: &Session, answer: &Answer) {
+        if session.has_negative_record() {
+            self.count("check past negative testers");
+        }
         let crowds = self.crowds();
         if crowds.values().any(|crowd| crowd.len() > 2) {
             self.count("check with three applications in a class");
@@ -70,7 +110,7 @@ impl Watcher {
     /// Is there a collected selector application whose argument has another constructor?
     fn has_foreign_selector(&mut self, session: &Session, crowds: &BTreeMap<usize, Vec<usize>>) -> bool {
         self.collected.clone().into_iter().any(|t| {
-            let Some(DtRole::Selector { .. }) = session.role_of(t) else {
+            let Some(Role::Selector { .. }) = session.role_of(t) else {
                 return false;
             };
             let crowd = crowds.get(&self.class(session.arguments_of(t)[0]));
@@ -81,7 +121,7 @@ impl Watcher {
     /// Is an asserted tester's term without an application, and the atom that equates it handed out by collapse?
     fn meets_collapsed(&mut self, session: &Session) -> bool {
         self.asserted.clone().into_iter().any(|atom| {
-            let Some(DtRole::Tester { .. }) = session.role_of(atom) else {
+            let Some(Role::Tester { .. }) = session.role_of(atom) else {
                 return false;
             };
             let t = session.arguments_of(atom)[0];
@@ -107,9 +147,9 @@ impl Watcher {
 /// The symbol of the constructor to which a selector or tester belongs: it comes right before them.
 fn constructor_behind(session: &Session, t: usize) -> Option<usize> {
     let before = match session.role_of(t)? {
-        DtRole::Selector { index, .. } => 2 + index as usize,
-        DtRole::Tester { .. } => 1,
-        DtRole::Constructor { .. } => 0,
+        Role::Selector { index, .. } => 2 + index,
+        Role::Tester { .. } => 1,
+        Role::Constructor | Role::Function => 0,
     };
     session.symbol_of(t).map(|symbol| symbol - before)
 }
