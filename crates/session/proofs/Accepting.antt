@@ -2,12 +2,12 @@
 use Prim.Native.Nat.{ℕ, suc, _≤_, _<_}
 use mathlib.Core.Path.{_≡_, refl, sym, subst, subst⁻¹, ap, _∙_}
 use mathlib.Core.Logic.{_⊎_, inl, inr, _≢_}
-use mathlib.Core.Bool.{Bool, true, false, cond, not, false≢true, _&&_}
+use mathlib.Core.Bool.{Bool, true, false, cond, not, false≢true}
 use mathlib.Core.List.{List, [], _∷_, _++_, map}
 use mathlib.Core.Option.{Option, none, some}
 use native.Mathlib.Omega.{arith}
 use lib.Dec.{T, eqb, eqb→eq, ltb→lt}
-use borrow.Author.Tests.{eqb-true, eq-eqb}
+use borrow.Author.Tests.{eqb-true}
 use lib.ListN.{length, length-append}
 use Rattle.core.specs.Lists.{every, same-list}
 use Rattle.core.specs.Ids as Ids
@@ -16,7 +16,7 @@ use Rattle.core.specs.Term.{Term, Op, Eq, Symbol}
 use Rattle.core.specs.Sort.{SortNode}
 use Rattle.core.specs.Context.{Context, Made, CtorApp, TesterApp, term, all-grounded, sort-of, symbol, tester-app, declare-sort, dt-add-constructor, declare-fun, with-symbols, is-datatype-sort, mk-app, mk-eq}
 use Rattle.core.specs.Reading.{Reading}
-use Rattle.core.proofs.Lists.{In, T-both, T-true, true-T, every-in, same-list-eq}
+use Rattle.core.proofs.Lists.{In, T-true, every-in, same-list-eq}
 use Rattle.core.proofs.Readings.{has-reading}
 use Rattle.theory.specs.Types.{EqLeaf}
 use Rattle.theory.specs.EqEngine.{Merge}
@@ -30,12 +30,12 @@ use Rattle.solver.specs.Rules as Rules
 use Rattle.solver.specs.Rules.{Phase, TCheck, Conflict, Split}
 use Rattle.solver.specs.Check as Check
 use Rattle.solver.specs.Check.{before-ring}
-use Rattle.solver.proofs.Basics.{Ascending, none-some, some-none, first-none, T-no, false-T}
+use Rattle.solver.proofs.Basics.{Ascending, none-some, some-none, T-no, false-T}
 use Rattle.solver.proofs.Terms.{Extends, extends-sorts, extends-symbols, Below, Agrees, Formed, Makes, mk-app-makes, mk-app-formed, app}
 use Rattle.solver.proofs.Signature.{Signed, sort-signed, fun-signed, ctor-signed}
 use Rattle.solver.proofs.Apps.{op-is, ctor-app-is, tester-app-is}
 use Rattle.solver.proofs.Walk.{class-ctor}
-use Rattle.solver.proofs.Clash.{Refuted, signed-record, Recorded, ctor-in, tester-refuted, negative-refuted}
+use Rattle.solver.proofs.Clash.{Refuted, signed-record, Recorded, ctor-in, own-there, tester-refuted, negative-refuted}
 use Rattle.solver.proofs.Moves.{Follows, follows-self, AnswerHolds}
 use Rattle.solver.proofs.Answers.{CheckedWell, RingDecides, full-check-decides, full-check-well}
 use Rattle.solver.proofs.Collection.{relevant-kept}
@@ -664,16 +664,11 @@ module _ (s : Session) (h : History) (l : ℕ) (I : Inv s h) (closed : T (s .clo
 
   own-says : (x : TesterApp) (d : CtorApp) → In d (ctor-apps (s .state)) → T (equal (s .state) (x .arg) (d .app)) → d .ctor ≡ x .ctor →
       SaysConflict (conflict-or-ok (Records.negative-conflict (s .state) l x))
-  unfolding Records.negative-conflict Records.own-app Records.denies
+  unfolding Records.negative-conflict Records.denies
   own-says x d i e n = go (Records.own-app (s .state) x) refl
     where
-      own : CtorApp → Bool
-      own c = eqb (c .ctor) (x .ctor) && equal (s .state) (x .arg) (c .app)
-
       go : (o : Option CtorApp) → Records.own-app (s .state) x ≡ o → SaysConflict (conflict-or-ok (Records.denies (s .state) l x o))
-      go none w = absurd (false-T (own d) (first-none own (ctor-apps (s .state)) d w i)
-          (T-both (eqb (d .ctor) (x .ctor)) (equal (s .state) (x .arg) (d .app)) (true-T (eqb (d .ctor) (x .ctor)) (eq-eqb (d .ctor)
-          (x .ctor) n)) e))
+      go none w = absurd (own-there (s .state) x d i e n w)
       go (some c) w = unfold conflict-or-ok in (Records.tester-leaves (s .state) l (x .arg) c, refl)
 
   -- the answer of a tester's literal is that of its sign

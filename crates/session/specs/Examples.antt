@@ -191,6 +191,11 @@ negatives =
     ∷ record { script = "equate=0\nassert=7\n"; answers = "ok=1\nok=1\n" }
     -- both signs of an atom are no conflict by themselves
     ∷ record { script = "assert=4\nassert=5\n"; answers = "ok=1\nok=1\n" }
+    -- nor in a check: instantiation answers
+    ∷ record { script = "assert=4\nassert=5\ncheck=1\n"; answers = "ok=1\nok=1\nsplit=5;5;\n" }
+    -- each stands in a record of its own: the negative one is there though the positive one was first, and the other way round
+    ∷ record { script = "assert=4\nassert=5\nequate=0\ncheck=1\n"; answers = "ok=1\nok=1\nok=1\nconflict=a5,a0\n" }
+    ∷ record { script = "assert=5\nassert=4\nequate=2\ncheck=1\n"; answers = "ok=1\nok=1\nok=1\nconflict=a4,a2\n" }
     -- the lowest application of its constructor, which is not the lowest of the class
     ∷ record { script = "equate=0\nequate=2\nassert=7\n"; answers = "ok=1\nok=1\nconflict=a7,a2\n" }
     -- the lowest of two applications of its constructor
@@ -199,6 +204,8 @@ negatives =
     ∷ record { script = "assert=5\nequate=0\nequate=2\ncheck=1\n"; answers = "ok=1\nok=1\nok=1\nconflict=a0,a2\n" }
     -- after tester clash, though asserted before it
     ∷ record { script = "assert=5\nassert=6\nequate=0\ncheck=1\n"; answers = "ok=1\nok=1\nok=1\nconflict=a6,a0\n" }
+    -- before injectivity, which makes no selector then: term 12 is new
+    ∷ record { script = "assert=7\nequate=2\nequate=14\ncheck=1\nterm=4,4\n"; answers = "ok=1\nok=1\nok=1\nconflict=a7,a2\nterm=12\n" }
     -- in order of assertion
     ∷ record { script = "assert=13\nassert=5\nequate=0\nequate=10\ncheck=1\n"; answers = "ok=1\nok=1\nok=1\nok=1\nconflict=a13,a10\n" }
     -- a negative literal of an equation gives no entry

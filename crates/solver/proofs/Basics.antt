@@ -6,8 +6,9 @@ use mathlib.Core.Bool.{Bool, true, false, cond, not}
 use mathlib.Core.List.{List, [], _∷_, _++_, foldl, reverse, reverse-cons}
 use mathlib.Core.Option.{Option, none, some, Option·some-injective}
 use native.Mathlib.Omega.{arith}
+use native.Mathlib.Decide.{ℕ-discrete}
 use lib.Dec.{T, eqb, ltb, eqb→eq, eqb-refl}
-use borrow.Author.Tests.{ltb-true, ltb-false}
+use borrow.Author.Tests.{ltb-true, ltb-false, eq-eqb, ne-eqb}
 use Rattle.core.specs.Lists.{first, beside, pairs, cons-option, gather, mem, insert}
 use Rattle.core.proofs.Lists.{In, any-in, true-T}
 use Rattle.theory.proofs.Members.{in-any, in-left, in-right, in-either}
@@ -41,6 +42,14 @@ T-no false t = refl
 pub by-test : {A : Type 0} (b : Bool) → (b ≡ true → A) → (b ≡ false → A) → A
 by-test true f g = f refl
 by-test false f g = g refl
+
+-- two tests of equality that say the same
+pub eqb-same : (p q r t : ℕ) → (p ≡ q → r ≡ t) → (r ≡ t → p ≡ q) → eqb p q ≡ eqb r t
+eqb-same p q r t f g = go (ℕ-discrete p q)
+  where
+    go : Dec (p ≡ q) → eqb p q ≡ eqb r t
+    go (yes e) = eq-eqb p q e ∙ sym (eq-eqb r t (f e))
+    go (no d) = ne-eqb p q d ∙ sym (ne-eqb r t (λ e. d (g e)))
 
 -- ---- sets of numbers
 
@@ -113,6 +122,12 @@ insert-ascending x (y ∷ ys) (l, a) = go (ltb x y) (eqb x y) refl (insert-ascen
     go false false e b = (λ z i. higher (ltb-false x y e) z (insert-in z x ys i), b)
 
 -- ---- first, gather, pairs, reverse
+
+-- two partial functions that agree on a list
+pub gather-same : {A B : Type 0} (f g : A → Option B) (xs : List A) → ((x : A) → In x xs → f x ≡ g x) → gather f xs ≡ gather g xs
+unfolding gather
+gather-same f g [] h = refl
+gather-same f g (x ∷ xs) h = rw (h x (inl refl), gather-same f g xs (λ y i. h y (inr i)))
 
 module _ {A : Type 0} where
   pub first-some : (p : A → Bool) (xs : List A) (x : A) → first p xs ≡ some x → In x xs × T (p x)

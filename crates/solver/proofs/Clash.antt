@@ -4,25 +4,25 @@
 use Prim.Native.Nat.{ℕ, suc, _+_, _≤_, _<_}
 use mathlib.Core.Path.{_≡_, refl, sym, subst, subst⁻¹, ap, _∙_}
 use mathlib.Core.Logic.{_⊎_, inl, inr, _≢_}
-use mathlib.Core.Bool.{Bool, true, false, cond, not, _&&_}
+use mathlib.Core.Bool.{Bool, true, false, cond, not}
 use mathlib.Core.List.{List, [], _∷_, cons≢nil}
 use mathlib.Core.Option.{Option, none, some}
 use native.Mathlib.Omega.{arith}
 use lib.Dec.{T, eqb, eqb→eq}
-use borrow.Author.Tests.{eqb-true, eqb-false}
+use borrow.Author.Tests.{eq-eqb, eqb-true, eqb-false}
 use Rattle.core.specs.Lists.{keep}
 use Rattle.core.specs.Context.{Context, CtorApp, TesterApp, term, ctor-app, tester-app, is-datatype-sort, sort-of}
 use Rattle.core.specs.Reading.{Value, Values, truth, element, tree, nil, cons, Reading, built-by, value}
-use Rattle.core.proofs.Lists.{In, T-and, keep-in}
+use Rattle.core.proofs.Lists.{In, true-T, T-and, T-both, keep-in}
 use Rattle.theory.specs.Types.{EqLeaf, AssertedLeaf}
 use Rattle.theory.specs.EqEngine.{Merge, explain, firsts}
 use Rattle.theory.proofs.Members.{in-left, in-right, in-either}
 use Rattle.theory.proofs.Explain.{Cites, Justified, Sound, TwoTerms, explain-cites, explain-forces, explain-nonempty, firsts-in, firsts-empty}
 use Rattle.solver.specs.State.{State, AssertedTester, ctor-apps, ctor-of-class, equal}
-use Rattle.solver.specs.Records.{tester-leaves, disagrees, tester-conflict, own-app, denies, negative-conflict}
+use Rattle.solver.specs.Records.{tester-leaves, disagrees, tester-conflict, is-own, own-app, denies, negative-conflict}
 use Rattle.solver.specs.Rules.{clash}
 use Rattle.solver.specs.Ring.{Edge, kids, edge-leaves, acyclicity-conflict}
-use Rattle.solver.proofs.Basics.{none-some, some-is, first-some, gather-in, reverse-in, by-test, T-no}
+use Rattle.solver.proofs.Basics.{none-some, some-is, first-some, first-none, gather-in, reverse-in, by-test, T-no, false-T}
 use Rattle.solver.proofs.Terms.{Formed}
 use Rattle.solver.proofs.Signature.{Signed}
 use Rattle.solver.proofs.Values.{values-of}
@@ -82,11 +82,19 @@ ctor-in s c i =
 -- the application that a negative tester is against
 pub own-is : (s : State) (x : TesterApp) (c : CtorApp) → own-app s x ≡ some c →
     In c (ctor-apps s) × T (equal s (x .arg) (c .app)) × (c .ctor ≡ x .ctor)
-unfolding own-app
+unfolding own-app is-own
 own-is s x c e =
-    let (i, t) = first-some (λ (d : CtorApp). eqb (d .ctor) (x .ctor) && equal s (x .arg) (d .app)) (ctor-apps s) c e in
+    let (i, t) = first-some (is-own s x) (ctor-apps s) c e in
     let (n, k) = T-and (eqb (c .ctor) (x .ctor)) (equal s (x .arg) (c .app)) t in
     (i, k, eqb→eq (c .ctor) (x .ctor) n)
+
+-- there is one if the class has an application of its constructor
+pub own-there : (s : State) (x : TesterApp) (c : CtorApp) → In c (ctor-apps s) → T (equal s (x .arg) (c .app)) → c .ctor ≡ x .ctor →
+    own-app s x ≡ none → ⊥
+unfolding own-app is-own
+own-there s x c i k e n =
+    false-T (is-own s x c) (first-none (is-own s x) (ctor-apps s) c n i)
+    (T-both (eqb (c .ctor) (x .ctor)) (equal s (x .arg) (c .app)) (true-T _ (eq-eqb (c .ctor) (x .ctor) e)) k)
 
 module _ (s : State) (R : Ready s) where
   -- leaves of an explanation

@@ -3,14 +3,14 @@
 use Prim.Native.Nat.{ℕ}
 use mathlib.Core.Path.{_≡_, refl, sym, subst, subst⁻¹, ap, _∙_}
 use mathlib.Core.Logic.{_⊎_, inl, inr}
-use mathlib.Core.Bool.{Bool, true, false, cond, not, _&&_}
+use mathlib.Core.Bool.{Bool, true, false, cond, not}
 use mathlib.Core.List.{List, [], _∷_}
 use mathlib.Core.Option.{Option, none, some}
 use lib.Dec.{T, eqb}
-use borrow.Author.Tests.{eqb-true, eq-eqb}
+use borrow.Author.Tests.{eqb-true, eq-eqb, ne-eqb}
 use Rattle.core.specs.Lists.{first, pairs}
 use Rattle.core.specs.Context.{CtorApp, TesterApp, tester-app}
-use Rattle.core.proofs.Lists.{In, T-both, true-T}
+use Rattle.core.proofs.Lists.{In, T-both}
 use Rattle.theory.specs.Types.{EqLeaf}
 use Rattle.theory.specs.EqEngine.{are-equal, explain, firsts}
 use Rattle.theory.proofs.Classes.{equal-sym, equal-trans}
@@ -19,7 +19,7 @@ use Rattle.solver.specs.Records.{tester-leaves, disagrees, tester-confli
 use Rattle.solver.specs.Rules.{TCheck, Conflict, Ruled, pass, answered, go-on, then, try-each, clash, clash-answer, constructor-clash, conflict-of, tester-clash-at, tester-clash, negative-clash-at, negative-clash}
 use Rattle.solver.specs.Check.{before-ring}
 use Rattle.solver.proofs.Basics.{in-pairs, none-some, some-none, some-is, first-some, first-none, false-T, by-test}
-use Rattle.solver.proofs.Clash.{signed-record}
+use Rattle.solver.proofs.Clash.{signed-record, own-there}
 
 -- ---- rules that answer conflict or nothing
 
@@ -210,23 +210,17 @@ module _ (s : State) (a : constructor-clash s .answer ≡ none) (b : tester-clas
           one-constructor s a c d j k (equal-trans (s .eq) (c .app) (x .arg) (d .app) (equal-sym (s .eq) (x .arg) (c .app) t) f) ∙ agrees
           (e .lit) x (ctor-of-class s (x .arg)) said d w
 
-  -- no application passes the test
-  none-own : (l : ℕ) (x : TesterApp) (o : Option CtorApp) → conflict-of s (denies s l x o) .answer ≡ none → o ≡ none
-  none-own l x none e = refl
-  none-own l x (some d) e = absurd (some-none (Conflict (tester-leaves s l (x .arg) d)) (unfold denies conflict-of answered in e))
+  -- no application was found
+  no-denial : (l : ℕ) (x : TesterApp) (o : Option CtorApp) → conflict-of s (denies s l x o) .answer ≡ none → o ≡ none
+  no-denial l x none e = refl
+  no-denial l x (some d) e = absurd (some-none (Conflict (tester-leaves s l (x .arg) d)) (unfold denies conflict-of answered in e))
 
   negative-constructor : (e : AssertedTester) (x : TesterApp) (c : CtorApp) → In e (s .dt .negative-record) → tester-app (s .terms)
       (e .atom) ≡ some x → In c (ctor-apps s) → T (equal s (x .arg) (c .app)) → eqb (c .ctor) (x .ctor) ≡ false
-  unfolding negative-clash own-app
+  unfolding negative-clash
   negative-constructor e x c i q j t =
-      by-test (eqb (c .ctor) (x .ctor))
-      (λ w. absurd (false-T (own c) (first-none own (ctor-apps s) c (none-own (e .lit) x (own-app s x) said) j)
-      (T-both (eqb (c .ctor) (x .ctor)) (equal s (x .arg) (c .app)) (true-T (eqb (c .ctor) (x .ctor)) w) t)))
-      (λ w. w)
+      ne-eqb (c .ctor) (x .ctor) (λ w. own-there s x c j t w (no-denial (e .lit) x (own-app s x) said))
     where
-      own : CtorApp → Bool
-      own d = eqb (d .ctor) (x .ctor) && equal s (x .arg) (d .app)
-
       here : negative-clash-at (e .lit) (tester-app (s .terms) (e .atom)) s .answer ≡ none
       here = try-none s (λ (y : AssertedTester) s′. negative-clash-at (y .lit) (tester-app (s′ .terms) (y .atom)) s′)
           (s .dt .negative-record) (λ y. negative-at-tells s (y .lit) (tester-app (s .terms) (y .atom))) n e i

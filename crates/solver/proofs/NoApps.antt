@@ -1,10 +1,10 @@
 -- Where no constructor application is marked, no class has a constructor: the clashes, injectivity, collapse and the tester lemma pass,
 -- and the ring's walk enters nothing. Where no tester was asserted, instantiation passes too. Only the watched terms are left to ask.
-use Rattle.core.proofs.Kit.{ℕ, suc, _≡_, refl, ap, _∙_, _&&_, eqb, List, [], _∷_, foldl, Option, none, some, length}
+use Rattle.core.proofs.Kit.{ℕ, suc, _≡_, refl, ap, _∙_, List, [], _∷_, foldl, Option, none, some, length}
 use Rattle.core.specs.Lists.{first, pairs}
 use Rattle.core.specs.Context.{CtorApp, SelApp, TesterApp, tester-app}
 use Rattle.solver.specs.State.{State, AssertedTester, ctor-apps, sel-apps, testers, ctor-of-class, equal, watched-dt-terms}
-use Rattle.solver.specs.Records.{disagrees, tester-conflict, own-app, denies, negative-conflict}
+use Rattle.solver.specs.Records.{disagrees, tester-conflict, is-own, own-app, denies, negative-conflict}
 use Rattle.solver.specs.Rules.{Ruled, pass, go-on, then, try-each, clash, clash-answer, constructor-clash, conflict-of, tester-clash-at, tester-clash, negative-clash-at, negative-clash, mint-selectors, instantiate-injectivity-selectors, collapse-at, collapse-lemma, tester-lemma-at, tester-lemma, instantiate-at, instantiate-constructor}
 use Rattle.solver.specs.Ring.{Finished, enter, after, walk-from, walk-watched, ring-of, constructor-graph-find-cycle}
 use Rattle.solver.specs.Check.{before-ring}
@@ -41,7 +41,7 @@ module _ (s : State) (n : ctor-apps s ≡ []) where
 
   none-own : (x : TesterApp) → own-app s x ≡ none
   unfolding own-app first
-  none-own x = ap (first (λ (c : CtorApp). eqb (c .ctor) (x .ctor) && equal s (x .arg) (c .app))) n
+  none-own x = ap (first (is-own s x)) n
 
   no-negative-clash : negative-clash s ≡ pass s
   unfolding negative-clash negative-clash-at conflict-of negative-conflict denies

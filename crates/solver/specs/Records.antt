@@ -74,9 +74,13 @@ tester-conflict s l x = disagrees s l x (ctor-of-class s (x .arg))
 
 -- ---- 02 (i): a negative tester against the applications of its constructor in its class
 
--- the lowest marked application of that very constructor in its term's class
+-- is it of that very constructor, and in its term's class?
+unfoldable pub is-own : State → TesterApp → CtorApp → Bool
+is-own s x c = eqb (c .ctor) (x .ctor) && equal s (x .arg) (c .app)
+
+-- the lowest such marked application
 unfoldable pub own-app : State → TesterApp → Option CtorApp
-own-app s x = first (λ (c : CtorApp). eqb (c .ctor) (x .ctor) && equal s (x .arg) (c .app)) (ctor-apps s)
+own-app s x = first (is-own s x) (ctor-apps s)
 
 -- the literal, then the term explained to that application
 unfoldable pub denies : State → ℕ → TesterApp → Option CtorApp → Option (List EqLeaf)
@@ -108,5 +112,5 @@ unfoldable pub assert : State → ℕ → Outcome
 assert s l = assert-atom s l (tester-app (s .terms) (Atom.atom (s .atoms) (Ids.var l)))
 
 unfoldable pub records-definitions : Unit {0}
-unfolding is-some relevant collect new-var recorded entered record-tester record-negative pop-testers tester-leaves disagrees tester-conflict own-app denies negative-conflict assert-tester assert-atom assert
+unfolding is-some relevant collect new-var recorded entered record-tester record-negative pop-testers tester-leaves disagrees tester-conflict is-own own-app denies negative-conflict assert-tester assert-atom assert
 records-definitions = tt

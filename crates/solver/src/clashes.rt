@@ -129,8 +129,8 @@ fn is_own(t: &[u32], e: &[u32], w: &[u32], c: SymbolId, root: TermId, i: usize) 
     other.0 == root.0
 }
 
-// The lowest marked application of constructor c in a term's class, if any.
-fn own_app(t: &[u32], e: &[u32], w: &[u32], x: TermId, c: SymbolId) -> CtorOf
+// The lowest marked application of constructor c in a term's class, if any, by a pass over the terms.
+fn search_own(t: &[u32], e: &[u32], w: &[u32], x: TermId, c: SymbolId) -> CtorOf
     requires { ⌜ CtorAsked (now t) (now e) (now w) (x .0) ⌝ }
     ensures { λ r. ⌜ OwnApp (now (t .entry)) (now (e .entry)) (now (w .entry)) (x .0) (c .0) r ⌝ }
 {
@@ -144,6 +144,22 @@ fn own_app(t: &[u32], e: &[u32], w: &[u32], x: TermId, c: SymbolId) -> CtorOf
         i += 1;
     }
     CtorOf::Nothing
+}
+
+// The same. Only a class whose lowest application is of another constructor, and so is in a clash if it has one of c, takes a search.
+fn own_app(t: &[u32], e: &[u32], w: &[u32], x: TermId, c: SymbolId) -> CtorOf
+    requires { ⌜ CtorAsked (now t) (now e) (now w) (x .0) ⌝ }
+    ensures { λ r. ⌜ OwnApp (now (t .entry)) (now (e .entry)) (now (w .entry)) (x .0) (c .0) r ⌝ }
+{
+    match ctor_of_class(t, e, w, x) {
+        CtorOf::Nothing => CtorOf::Nothing,
+        CtorOf::At(f, app) => {
+            if f.0 == c.0 {
+                return CtorOf::At(f, app);
+            }
+            search_own(t, e, w, x, c)
+        }
+    }
 }
 
 // The conflict of a negative tester with the lowest marked application of its own constructor, or `Sat`.

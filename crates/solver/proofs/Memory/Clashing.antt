@@ -1,10 +1,10 @@
 -- Testers against their classes, of both signs. What the code finds of a class is what the definition asks for, and the leaves of a
 -- conflict are the literal and then what an explanation appends to it. The loop over the list of entries: what the rest of them gives
 -- for a record is what all of them give.
-use Rattle.core.proofs.Kit.{ℕ, suc, _+_, _-_, _≤_, _<_, _≡_, refl, sym, ap, ap₂, _∙_, subst, inl, inr, true≢false, Bool, true, false, cond, not, _&&_, List, [], _∷_, _++_, none, some, Option, add-one, arith, eqb, length, getD}
+use Rattle.core.proofs.Kit.{ℕ, suc, _+_, _-_, _≤_, _<_, _≡_, refl, sym, ap, ap₂, _∙_, subst, inl, true≢false, Bool, true, false, cond, not, List, [], _∷_, _++_, none, some, Option, add-one, arith, eqb, length, getD}
 use borrow.Author.Tests.{not-true, not-false}
 use Rattle.core.specs.Limits.{max-terms}
-use Rattle.core.specs.Lists.{In, any, first, gather, cons-option, range}
+use Rattle.core.specs.Lists.{In, any, gather, cons-option, range}
 use Rattle.core.specs.Term as Term
 use Rattle.core.specs.Context.{CtorApp, TesterApp, tester-app, children, symbol}
 use Rattle.core.specs.Memory.Words.{at}
@@ -26,7 +26,7 @@ use Rattle.theory.specs.Memory.Explaining.{Explainable, Explains}
 use Rattle.theory.proofs.Memory.Leaves.{first-sound}
 use Rattle.theory.proofs.Classes.{equal-sym, equal-trans}
 use Rattle.solver.specs.State.{State, AssertedTester, ctor-apps, ctor-of-class, equal}
-use Rattle.solver.specs.Records.{tester-leaves, disagrees, tester-conflict, own-app, denies, negative-conflict}
+use Rattle.solver.specs.Records.{tester-leaves, disagrees, tester-conflict, is-own, own-app, denies, negative-conflict}
 use Rattle.solver.specs.Rules.{Ruled, pass, answered, go-on, then, try-each, conflict-of, tester-clash-at, tester-clash, negative-clash-at, negative-clash}
 use Rattle.solver.specs.declared.answer.TCheck as TCheck
 use Rattle.solver.specs.declared.work.CtorOf as CtorOf
@@ -39,40 +39,9 @@ use Rattle.solver.proofs.Terms.{extends-self}
 use Rattle.solver.proofs.Apps.{op-is}
 use Rattle.solver.proofs.Signature.{tester-of}
 use Rattle.solver.proofs.Memory.Roles.{TesterAt, kind-tester, kind-within}
+use Rattle.solver.proofs.Memory.Owning.{own-first}
 
 -- ---- a class and one constructor
-
-module _ (d : ℕ) (p : CtorApp → Bool) where
-  abbrev own : CtorApp → Bool
-  own a = eqb (a .ctor) d && p a
-
-  no-own : (xs : List CtorApp) → ((a : CtorApp) → In a xs → p a ≡ true → eqb (a .ctor) d ≡ false) → first own xs ≡ none
-  unfolding first
-  no-own [] h = refl
-  no-own (x ∷ xs) h = go (eqb (x .ctor) d) (p x) refl refl (no-own xs (λ a i. h a (inr i)))
-    where
-      go : (b q : Bool) → eqb (x .ctor) d ≡ b → p x ≡ q → first own xs ≡ none → cond (b && q) (some x) (first own xs) ≡ none
-      go true true e f r = absurd (true≢false (sym e ∙ h x (inl refl) f))
-      go true false e f r = r
-      go false q e f r = r
-
-  -- where those that pass have one constructor, the first of constructor d is the first that passes, or none
-  pub own-first : (xs : List CtorApp) → ((a b : CtorApp) → In a xs → In b xs → p a ≡ true → p b ≡ true → a .ctor ≡ b .ctor) →
-      with-ctor d (first p xs) ≡ first own xs
-  unfolding first with-ctor
-  own-first [] h = refl
-  own-first (x ∷ xs) h =
-      go (p x) (eqb (x .ctor) d) refl refl
-      (own-first xs (λ a b i j. h a b (inr i) (inr j)))
-    where
-      go : (q b : Bool) → p x ≡ q → eqb (x .ctor) d ≡ b → with-ctor d (first p xs) ≡ first own xs →
-          with-ctor d (cond q (some x) (first p xs)) ≡ cond (b && q) (some x) (first own xs)
-      go true true e f r = rw f
-      go true false e f r =
-          rw f
-          (sym (no-own xs (λ a i t. ap (λ (c : ℕ). eqb c d) (h a x (inr i) (inl refl) t e) ∙ f)))
-      go false true e f r = r
-      go false false e f r = r
 
 -- a class that has one constructor, by its lowest application
 pub found-of-class : (b : Bool) {c e w : List ℕ} {x : ℕ} (d : ℕ) {k : CtorOf.CtorOf} → (b ≡ false → Lone c e w) →
@@ -105,7 +74,7 @@ class-ctor c e s w lv x = refl
 
 class-own : (c e s w : List ℕ) (lv : ℕ → ℕ) (x : TesterApp) →
     own-app (state-at c e s w lv) x ≡ own-in-class (merges e) (x .arg) (x .ctor) (apps-from (context c) w 0)
-unfolding own-app ctor-apps equal own-in-class apps-from state-with dt-with
+unfolding own-app is-own ctor-apps equal own-in-class apps-from state-with dt-with
 class-own c e s w lv x = refl
 
 by-found : (b : Bool) (c e w : List ℕ) (arg d : ℕ) (k : CtorOf.CtorOf) → Found b c e w arg d k → (s : List ℕ) (lv : ℕ → ℕ) (l : ℕ)
@@ -214,19 +183,19 @@ module _ (c : List ℕ) (x : ℕ) (core : ContextSound c) (formed : Formed (cont
   tested : TesterAt (context c) formed signed x
   tested = kind-tester (context c) formed signed x kind
 
-  pub tester-within : x < length (context c .terms)
+  tester-within : x < length (context c .terms)
   unfolding is-set
   tester-within = kind-within (context c) x (ap is-set kind)
 
   module _ {args : List ℕ} (q : args ≡ children (context c) x) where
-    pub one-arg : 0 < length args
+    one-arg : 0 < length args
     one-arg = let n = ap length (q ∙ tested .5) in omega arith
 
-    pub arg-is : children (context c) x ≡ getD args 0 0 ∷ []
+    arg-is : children (context c) x ≡ getD args 0 0 ∷ []
     arg-is = tested .5 ∙ ap (λ (v : ℕ). v ∷ []) (sym (ap (λ (xs : List ℕ). getD xs 0 0) (q ∙ tested .5)))
 
     -- it is a term
-    pub arg-within : getD args 0 0 < max-terms
+    arg-within : getD args 0 0 < max-terms
     arg-within =
         let i : In (getD args 0 0) (children (context c) x) = subst (In (getD args 0 0)) (sym arg-is) (inl refl) in
         let below = formed .lower x tester-within (getD args 0 0) i in

@@ -17,7 +17,7 @@ use Rattle.solver.specs.Memory.Levels.{RecordsSound, Dropped, NewEntry, 
 use Rattle.solver.proofs.Memory.Frames.{registry-kept, flagged-kept, announced-kept}
 use Rattle.solver.proofs.Memory.Growing.{kind-within}
 use Rattle.solver.proofs.Memory.TableStores.{kept-none, stores}
-use Rattle.solver.proofs.Memory.Signs.{atom-fits, gather-same, gather-more, entry-same, entry-is}
+use Rattle.solver.proofs.Memory.Signs.{atom-fits, gather-range, gather-more, entry-same, entry-is}
 
 -- ---- lists with one element more
 
@@ -117,30 +117,30 @@ drop-next {s} {t} {u} {n} {i} {x} z h e q =
       flags = λ y l. flag y (search (q, stores)) (z .flags y l) (ℕ-discrete y x);
     }
   where
-    atoms : ℕ → List ℕ
-    atoms k = counted (at s REC-KEY) k
+    keys : ℕ → List ℕ
+    keys k = counted (at s REC-KEY) k
 
-    last : atoms i ≡ atoms (i - 1) ++ (at s REC-KEY (i - 1) ∷ [])
+    last : keys i ≡ keys (i - 1) ++ (at s REC-KEY (i - 1) ∷ [])
     last = let m : i ≡ suc (i - 1) = omega arith in ap (counted (at s REC-KEY)) m ∙ counted-more (at s REC-KEY) (i - 1)
 
     is-last : x ≡ at s REC-KEY (i - 1)
     is-last = e ∙ drop-key z (i - 1) (omega arith)
 
-    parts : Apart (atoms (i - 1)) × (In (at s REC-KEY (i - 1)) (atoms (i - 1)) → ⊥)
-    parts = apart-init (atoms (i - 1)) (at s REC-KEY (i - 1)) (subst Apart last (z .once))
+    parts : Apart (keys (i - 1)) × (In (at s REC-KEY (i - 1)) (keys (i - 1)) → ⊥)
+    parts = apart-init (keys (i - 1)) (at s REC-KEY (i - 1)) (subst Apart last (z .once))
 
-    flag : (y : ℕ) → at u RECORDED y ≡ cond (eqb y x) 0 (at t RECORDED y) → is-set (at t RECORDED y) ≡ any (eqb y) (atoms i) →
-        Dec (y ≡ x) → is-set (at u RECORDED y) ≡ any (eqb y) (atoms (i - 1))
+    flag : (y : ℕ) → at u RECORDED y ≡ cond (eqb y x) 0 (at t RECORDED y) → is-set (at t RECORDED y) ≡ any (eqb y) (keys i) →
+        Dec (y ≡ x) → is-set (at u RECORDED y) ≡ any (eqb y) (keys (i - 1))
     flag y p r (yes d) =
         rw (p, eq-eqb y x d)
-        (sym (any-not y (atoms (i - 1)) (λ k. parts .1 (subst (λ (a : ℕ). In a (atoms (i - 1))) (d ∙ is-last) k))))
+        (sym (any-not y (keys (i - 1)) (λ k. parts .1 (subst (λ (a : ℕ). In a (keys (i - 1))) (d ∙ is-last) k))))
     flag y p r (no d) =
         rw (p, ne-eqb y x d)
         (r
         ∙ ap (any (eqb y)) last
-        ∙ any-last (eqb y) (atoms (i - 1)) (at s REC-KEY (i - 1))
-        ∙ ap (λ (b : Bool). cond (any (eqb y) (atoms (i - 1))) true b) (ne-eqb y (at s REC-KEY (i - 1)) (λ f. d (f ∙ sym is-last)))
-        ∙ cond-same (any (eqb y) (atoms (i - 1))))
+        ∙ any-last (eqb y) (keys (i - 1)) (at s REC-KEY (i - 1))
+        ∙ ap (λ (b : Bool). cond (any (eqb y) (keys (i - 1))) true b) (ne-eqb y (at s REC-KEY (i - 1)) (λ f. d (f ∙ sym is-last)))
+        ∙ cond-same (any (eqb y) (keys (i - 1))))
 
 pub drop-done : {s t u : List ℕ} {n i : ℕ} → Dropping s t n i → i ≤ n → u ≡ put t COUNTS RECORDS n → Dropped s n u
 drop-done {s} {t} {u} {n} {i} z h e =
@@ -154,7 +154,7 @@ drop-done {s} {t} {u} {n} {i} z h e =
     let kept : Kept solver-room (COUNTS ∷ RECORDED ∷ []) s u =
     search (e, kept-more solver-room (RECORDED ∷ []) (COUNTS ∷ RECORDED ∷ []) s t tt (z .kept), stores) in
     let same : (k : ℕ) → k < n → at u REC-KEY k ≡ at s REC-KEY k = λ k l. kept .rest REC-KEY k tt (omega arith) in
-    let atoms : counted (at u REC-KEY) (records# u) ≡ counted (at s REC-KEY) i =
+    let left : counted (at u REC-KEY) (records# u) ≡ counted (at s REC-KEY) i =
     ap (counted (at u REC-KEY)) count
     ∙ counted-same (at u REC-KEY) (at s REC-KEY) n same
     ∙ ap (counted (at s REC-KEY)) (sym q) in
@@ -164,9 +164,9 @@ drop-done {s} {t} {u} {n} {i} z h e =
           long = long;
           atoms = subst RegistrySound (sym (registry-kept kept tt (z .sound .solver .long))) (z .sound .solver .atoms);
           records-fit = omega arith;
-          once = subst Apart (sym atoms) (z .once);
+          once = subst Apart (sym left) (z .once);
           recorded = λ x l.
-              let d : at u RECORDED x ≡ at t RECORDED x = search (e, stores) in ap is-set d ∙ z .flags x l ∙ ap (any (eqb x)) (sym atoms);
+              let d : at u RECORDED x ≡ at t RECORDED x = search (e, stores) in ap is-set d ∙ z .flags x l ∙ ap (any (eqb x)) (sym left);
         };
         keys = λ k l. let b = z .sound .keys k (omega arith) in let d = same k (omega arith) in omega arith;
       };
@@ -243,14 +243,14 @@ module _ {s u : List ℕ} {x l : ℕ} (z : NewEntry s x) (w : Entered s x l u) w
       w .lits (records# s) (omega arith)
       ∙ ap (λ (b : Bool). cond b l (at s REC-LIT (records# s))) (eq-eqb (records# s) (records# s) refl)
 
-  entered-atoms : counted (at u REC-KEY) (records# u) ≡ counted (at s REC-KEY) (records# s) ++ (x ∷ [])
-  entered-atoms = counted-grown (at s REC-KEY) (at u REC-KEY) (records# s) (records# u) x (w .count) old-key new-key
+  entered-keys : counted (at u REC-KEY) (records# u) ≡ counted (at s REC-KEY) (records# s) ++ (x ∷ [])
+  entered-keys = counted-grown (at s REC-KEY) (at u REC-KEY) (records# s) (records# u) x (w .count) old-key new-key
 
   entered-flags : (y : ℕ) → y < max-records → is-set (at u RECORDED y) ≡ any (eqb y) (counted (at u REC-KEY) (records# u))
   unfolding is-set
   entered-flags y h =
       go (ℕ-discrete y x)
-      ∙ sym (ap (any (eqb y)) entered-atoms ∙ any-last (eqb y) (counted (at s REC-KEY) (records# s)) x)
+      ∙ sym (ap (any (eqb y)) entered-keys ∙ any-last (eqb y) (counted (at s REC-KEY) (records# s)) x)
     where
       go : Dec (y ≡ x) → is-set (at u RECORDED y) ≡ cond (any (eqb y) (counted (at s REC-KEY) (records# s))) true (eqb y x)
       go (yes e) = rw (w .flags y h, eq-eqb y x e) (sym (cond-both (any (eqb y) (counted (at s REC-KEY) (records# s)))))
@@ -267,7 +267,7 @@ module _ {s u : List ℕ} {x l : ℕ} (z : NewEntry s x) (w : Entered s x l u) w
           atoms = subst RegistrySound (sym (registry-kept (w .kept) tt (z .may .sound .solver .long))) (z .may .sound .solver .atoms);
           records-fit = let n = w .count in omega arith;
           once =
-              subst Apart (sym entered-atoms)
+              subst Apart (sym entered-keys)
               (apart-last (counted (at s REC-KEY) (records# s)) x (z .may .sound .solver .once) (not-in z));
           recorded = entered-flags;
         };
@@ -291,7 +291,7 @@ module _ {s u : List ℕ} {x l : ℕ} (z : NewEntry s x) (w : Entered s x l u) w
       ap (λ (n : ℕ). gather (entry-of b u lv) (range 0 n)) (w .count)
       ∙ gather-more (entry-of b u lv) 0 (records# s)
       ∙ ap₂ (λ (es : List AssertedTester) (o : Option AssertedTester). es ++ cons-option o [])
-      (gather-same (entry-of b u lv) (entry-of b s lv) 0 (records# s)
+      (gather-range (entry-of b u lv) (entry-of b s lv) 0 (records# s)
       (λ i g h. entry-same b s u lv lv i (old-key i (omega arith)) (old-lit i (omega arith)) refl))
       (ap (entry-of b u lv) (zero-add (records# s)) ∙ entry-is b u lv (records# s) x l new-key new-lit)
 

@@ -1,7 +1,7 @@
 -- A term table that grows at its end: what the tables of a check keep, since marks and flags concern old terms; and terms made in a check.
-use Rattle.core.proofs.Kit.{ℕ, zero, suc, _≤_, _<_, _≡_, refl, sym, ap, _∙_, subst, subst⁻¹, _⊎_, inl, inr, true, false, true≢false, List, [], _∷_, Option, arith, length}
+use Rattle.core.proofs.Kit.{ℕ, zero, suc, _≤_, _<_, _≡_, refl, sym, ap, _∙_, subst, subst⁻¹, _⊎_, inl, inr, true, false, true≢false, List, [], _∷_, arith, length}
 use Rattle.core.specs.Limits.{max-terms}
-use Rattle.core.specs.Lists.{In, gather}
+use Rattle.core.specs.Lists.{In}
 use Rattle.core.specs.Term as Term
 use Rattle.core.specs.Term.{Term, Op, Eq}
 use Rattle.core.specs.Context as Context
@@ -16,7 +16,7 @@ use Rattle.solver.specs.Rules.{make-eq}
 use Rattle.solver.specs.Memory.Table.{MARK, REC-KEY, is-set, flagged-from, term-kind, key-atom, MarksAre, CollectedSound, StateSound, state-with}
 use Rattle.solver.specs.Memory.Work.{W-MARK, state-at, apps-from, WorkSound, ChainSound, CheckSound}
 use Rattle.solver.specs.Memory.Making.{Making, Makeable, Equatable, MadeOutcome, MadeWithin, MakesTerm}
-use Rattle.solver.proofs.Basics.{by-test}
+use Rattle.solver.proofs.Basics.{by-test, gather-same}
 use Rattle.solver.proofs.Terms.{Below, extends-self, mk-app-makes, mk-app-formed, extends-symbol, extends-term, extends-length}
 use Rattle.solver.proofs.Signature.{extends-signed}
 use Rattle.solver.proofs.Memory.Flags.{flagged-in}
@@ -75,12 +75,6 @@ module _ (a b : Context) (e : Extends a b) where
   old-tester-app t l =
       ap (λ (x : Term). tester-by-op b t (x .op) (x .args)) (extends-term a b t e l)
       ∙ tester-by-op-same t (term a t .op) (term a t .args)
-
--- two partial functions that agree on a list
-pub gather-same : {A B : Type 0} (f g : A → Option B) (xs : List A) → ((x : A) → In x xs → f x ≡ g x) → gather f xs ≡ gather g xs
-unfolding gather
-gather-same f g [] h = refl
-gather-same f g (x ∷ xs) h = rw (h x (inl refl), gather-same f g xs (λ y i. h y (inr i)))
 
 -- the marked constructor applications are old terms
 pub old-apps : (a b : Context) → Extends a b → (w : List ℕ) → MarksAre a w W-MARK → (i : ℕ) → i ≤ max-terms →

@@ -13,7 +13,7 @@ use Rattle.solver.specs.declared.levels.TesterMarks.{TesterMarks}
 use Rattle.solver.specs.Memory.Table.{COUNTS, MARK, LASTING, EMITTED, SPLIT, RECORDED, REC-KEY, REC-LIT, solver-room, records#, registry, is-set, flagged, term-kind, of-sign, key-atom, asserted-at, entry-of, record-of, dt-with, state-with, state}
 use Rattle.solver.specs.Memory.Levels.{begun, entry-level, MarksSound, RecordsSound, Opened, Dropped, Popped}
 use Rattle.solver.proofs.Memory.Frames.{flagged-kept}
-use Rattle.solver.proofs.Memory.Signs.{gather-same, Tests, keep-gathered, entry-same, record-same}
+use Rattle.solver.proofs.Memory.Signs.{gather-range, Tests, keep-gathered, entry-same, record-same}
 use Rattle.solver.proofs.Memory.TableStores.{kept-none}
 use Rattle.solver.proofs.Memory.Entries.{record-regions, records-changed, state-by-entries}
 
@@ -211,7 +211,7 @@ module _ {s u : List ℕ} {m m′ : TesterMarks} {to n : ℕ} (z : RecordsSound 
   unfolding record-of pop-testers entry-level
   closed-entries b =
       ap (λ (k : ℕ). gather (entry-of b u (entry-level m′)) (range 0 k)) (d .count)
-      ∙ gather-same (entry-of b u (entry-level m′)) (entry-of b s (entry-level m)) 0 n (λ i g h. each i (omega arith))
+      ∙ gather-range (entry-of b u (entry-level m′)) (entry-of b s (entry-level m)) 0 n (λ i g h. each i (omega arith))
       ∙ sym (keep-gathered (λ (a : AssertedTester). leb (a .level) to) (entry-of b s (entry-level m)) 0 (records# s) n few
       (λ i g h. level-tested b s (entry-level m) to i true (stays i (omega arith)))
       (λ i g h. level-tested b s (entry-level m) to i false (goes i (omega arith) (omega arith))))

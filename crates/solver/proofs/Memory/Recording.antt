@@ -1,5 +1,5 @@
 -- A tester recorded: a key that has its entry, and the lasting record.
-use Rattle.core.proofs.Kit.{ℕ, zero, suc, _+_, _<_, _≡_, refl, sym, ap, ap₂, _∙_, subst, _⊎_, inl, inr, ⊎-elim, Bool, true, false, cond, List, [], _∷_, _++_, none, some, ℕ-discrete, arith, eqb, ne-eqb}
+use Rattle.core.proofs.Kit.{ℕ, zero, suc, _+_, _<_, _≡_, refl, sym, ap, ap₂, _∙_, subst, _⊎_, inl, inr, ⊎-elim, Bool, true, false, cond, List, [], _∷_, _++_, append-nil, none, some, ℕ-discrete, arith, eqb, ne-eqb}
 use Rattle.core.specs.Limits.{max-terms}
 use Rattle.core.specs.Lists.{any, cons-option, insert}
 use Rattle.core.specs.Context.{Context}
@@ -29,10 +29,6 @@ set-true (suc v) n = refl
 set-none : is-set 0 ≡ false
 unfolding is-set
 set-none = refl
-
-append-none : {A : Type 0} (xs : List A) → xs ++ [] ≡ xs
-append-none [] = refl
-append-none {A = A} (x ∷ xs) = ap (λ (ys : List A). x ∷ ys) (append-none xs)
 
 -- ---- a key
 
@@ -88,7 +84,7 @@ enters-new {s} {u} {k} {l} {r} z q n w = record {
         record-of b s lv ++ cons-option (cond d (some (record { atom = key-atom k; lit = l; level = lv (records# s) })) none) []
         ≡ cond d (entered (lv (records# s)) (key-atom k) l (record-of b s lv)) (record-of b s lv)
     go b lv true o = rw (recorded-by-flag b s lv k (z .sound .solver) (z .key) o ∙ flag)
-    go b lv false o = append-none (record-of b s lv)
+    go b lv false o = append-nil (record-of b s lv)
 
     key : (i : ℕ) → i < records# u → Dec (i ≡ records# s) →
         (at u REC-KEY i ≡ k) ⊎ ((j : ℕ) × (j < records# s) × (at u REC-KEY i ≡ at s REC-KEY j))

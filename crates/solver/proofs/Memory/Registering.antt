@@ -67,8 +67,8 @@ module _ {s u : List ℕ} (k : Kept solver-room (REGISTRY ∷ []) s u) (z : Solv
   same-count : records# u ≡ records# s
   same-count = k .rest COUNTS RECORDS tt (omega arith)
 
-  same-atoms : counted (at u REC-KEY) (records# u) ≡ counted (at s REC-KEY) (records# s)
-  same-atoms =
+  same-keys : counted (at u REC-KEY) (records# u) ≡ counted (at s REC-KEY) (records# s)
+  same-keys =
       let fit = z .records-fit in
       ap (counted (at u REC-KEY)) same-count
       ∙ counted-same (at u REC-KEY) (at s REC-KEY) (records# s) (λ i h. k .rest REC-KEY i tt (omega arith))
@@ -83,8 +83,8 @@ module _ {s u : List ℕ} (k : Kept solver-room (REGISTRY ∷ []) s u) (z : Solv
         long = omega arith;
         atoms = g;
         records-fit = omega arith;
-        once = subst Apart (sym same-atoms) (z .once);
-        recorded = λ x h. ap is-set (k .rest RECORDED x tt h) ∙ z .recorded x h ∙ ap (any (eqb x)) (sym same-atoms);
+        once = subst Apart (sym same-keys) (z .once);
+        recorded = λ x h. ap is-set (k .rest RECORDED x tt h) ∙ z .recorded x h ∙ ap (any (eqb x)) (sym same-keys);
       }
 
   state-with-atoms : (c e : List ℕ) (lv : ℕ → ℕ) → state c e u lv ≡ with-atoms (state c e s lv) (atoms (registry u))

@@ -1,13 +1,15 @@
 -- The level record and the record of negative testers in one list: keys by sign and atom, and what is gathered from the list when it
 -- stays, grows by an entry or is cut.
-use Rattle.core.proofs.Kit.{ℕ, zero, suc, _+_, _-_, _≤_, _<_, _≡_, refl, sym, ap, ap₂, _∙_, Bool, true, false, cond, not, List, [], _∷_, _++_, map, Option, none, some, ℕ-discrete, decLt, arith, eqb, eq-eqb, ne-eqb, ltb, ltb-true, le-ltb, add-zero, true≢false}
+use Rattle.core.proofs.Kit.{ℕ, zero, suc, _+_, _-_, _≤_, _<_, _≡_, refl, sym, ap, _∙_, Bool, true, false, cond, not, List, [], _∷_, _++_, map, Option, none, some, decLt, arith, eqb, ne-eqb, ltb, ltb-true, le-ltb, add-zero, true≢false}
 use borrow.Author.Tests.{lt-ltb}
 use Rattle.core.specs.Limits.{max-terms}
 use Rattle.core.specs.Lists.{any, keep, gather, cons-option, range}
 use Rattle.core.specs.Memory.Words.{at, counted}
+use Rattle.core.proofs.Lists.{range-in}
 use Rattle.solver.specs.State.{AssertedTester}
 use Rattle.solver.specs.Records.{recorded}
 use Rattle.solver.specs.Memory.Table.{REC-KEY, REC-LIT, max-records, records#, tester-key, of-sign, key-atom, asserted-at, entry-of, record-of}
+use Rattle.solver.proofs.Basics.{eqb-same, gather-same}
 
 -- ---- keys
 
@@ -54,13 +56,9 @@ sign-atom false k h o = go (decLt k max-terms)
 -- ---- what is gathered
 
 module _ {A : Type 0} where
-  pub gather-same : (f g : ℕ → Option A) (a n : ℕ) → ((i : ℕ) → a ≤ i → i < a + n → f i ≡ g i) →
+  pub gather-range : (f g : ℕ → Option A) (a n : ℕ) → ((i : ℕ) → a ≤ i → i < a + n → f i ≡ g i) →
       gather f (range a n) ≡ gather g (range a n)
-  unfolding gather range
-  gather-same f g a zero h = refl
-  gather-same f g a (suc n) h =
-      ap₂ {C = List A} cons-option (h a (omega arith) (omega arith))
-      (gather-same f g (suc a) n (λ i l k. h i (omega arith) (omega arith)))
+  gather-range f g a n h = gather-same f g (range a n) (λ i j. let (l, u) = range-in a n i j in h i l u)
 
   cons-after : (o : Option A) (xs ys : List A) → cons-option o (xs ++ ys) ≡ cons-option o xs ++ ys
   unfolding cons-option
@@ -125,7 +123,7 @@ module _ {A : Type 0} where
 
 -- ---- the records of a table
 
--- entry i of one table as entry j of another
+-- an entry whose words and level are as before
 pub entry-same : (b : Bool) (s u : List ℕ) (lv lw : ℕ → ℕ) (i : ℕ) → at u REC-KEY i ≡ at s REC-KEY i → at u REC-LIT i ≡ at s REC-LIT i →
     lw i ≡ lv i → entry-of b u lw i ≡ entry-of b s lv i
 unfolding entry-of asserted-at
@@ -144,7 +142,7 @@ pub record-same : (b : Bool) (s u : List ℕ) (lv lw : ℕ → ℕ) (n : ℕ) �
 unfolding record-of
 record-same b s u lv lw n p q k l v =
     ap (λ (m : ℕ). gather (entry-of b u lw) (range 0 m)) q
-    ∙ gather-same (entry-of b u lw) (entry-of b s lv) 0 n
+    ∙ gather-range (entry-of b u lw) (entry-of b s lv) 0 n
     (λ i g h. entry-same b s u lv lw i (k i (omega arith)) (l i (omega arith)) (v i (omega arith)))
     ∙ ap (λ (m : ℕ). gather (entry-of b s lv) (range 0 m)) (sym p)
 
@@ -159,20 +157,13 @@ recorded-by-key b s lv x h =
     test : AssertedTester → Bool
     test a = eqb (a .atom) x
 
-    same : (p q r t : ℕ) → (p ≡ q → r ≡ t) → (r ≡ t → p ≡ q) → eqb p q ≡ eqb r t
-    same p q r t f g = go (ℕ-discrete p q)
-      where
-        go : Dec (p ≡ q) → eqb p q ≡ eqb r t
-        go (yes e) = eq-eqb p q e ∙ sym (eq-eqb r t (f e))
-        go (no d) = ne-eqb p q d ∙ sym (ne-eqb r t (λ e. d (g e)))
-
     each : (d : Bool) (k l v : ℕ) →
         any-option test (cond (of-sign d k) (some (record { atom = key-atom k; lit = l; level = v })) none) ≡ eqb (tester-key d x) k
     each true k l v = go (decLt k max-terms)
       where
         go : Dec (k < max-terms) →
             any-option test (cond (ltb k max-terms) (some (record { atom = key-atom k; lit = l; level = v })) none) ≡ eqb x k
-        go (yes g) = rw (lt-ltb k max-terms g) (same k x x k (λ e. sym e) (λ e. sym e))
+        go (yes g) = rw (lt-ltb k max-terms g) (eqb-same k x x k (λ e. sym e) (λ e. sym e))
         go (no g) = rw (le-ltb k max-terms (omega arith)) (sym (ne-eqb x k (omega arith)))
     each false k l v = go (decLt k max-terms)
       where
@@ -182,4 +173,4 @@ recorded-by-key b s lv x h =
         go (yes g) = rw (lt-ltb k max-terms g) (sym (ne-eqb (x + max-terms) k (omega arith)))
         go (no g) =
             rw (le-ltb k max-terms (omega arith))
-            (same (k - max-terms) x (x + max-terms) k (λ e. omega arith) (λ e. omega arith))
+            (eqb-same (k - max-terms) x (x + max-terms) k (λ e. omega arith) (λ e. omega arith))
