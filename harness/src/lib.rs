@@ -18,6 +18,7 @@ mod reacting;
 pub mod records;
 mod ring_topics;
 pub mod rng;
+pub mod rows;
 pub mod run;
 pub mod script;
 mod search;

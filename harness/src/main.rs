@@ -1,8 +1,8 @@
 //! Answers scripts with the published solver or the definition, makes scripts, and counts what they meet.
 
 use oracle::generate::{self, Kind};
-use oracle::run::{self, Right, Source};
-use oracle::{agree, compare, records, statistic};
+use oracle::run::{self, Source};
+use oracle::{agree, compare, records, rows, statistic};
 use std::io::{Read, Write};
 
 const USAGE: &str = "harness answer [--result]
@@ -13,6 +13,7 @@ harness fixed EXAMPLES
 harness verify
 harness negative
 harness agree KIND COUNT SEED
+harness rows FILE
 harness compare PROGRAM COUNT SEED
 KIND is search, reacting, refused, limits, damaged, negative or any.";
 
@@ -40,6 +41,7 @@ fn command(arguments: &[&str]) -> Option<()> {
         ["verify"] => verify(),
         ["negative"] => records::negative(&input()).iter().for_each(|place| println!("{place}")),
         ["agree", kind, count, seed] => agree(Kind::named(kind)?, count.parse().ok()?, seed.parse().ok()?),
+        ["rows", file] => rows(file),
         ["compare", program, count, seed] => compare(program, count.parse().ok()?, seed.parse().ok()?),
         _ => return None,
     }
@@ -58,7 +60,7 @@ fn input() -> Vec<u8> {
 
 /// Answers standard input, and says on standard error whether a line was refused.
 fn answer(with_result: bool) {
-    let Right { run, source, .. } = run::right(&input(), run::MOST_OUTPUT);
+    let (run, source) = run::agreed(&input());
     put(&run.output);
     if source == Source::Definition {
         eprintln!("answered by the definition: a negative tester is asserted");
@@ -89,6 +91,18 @@ fn agree(kind: Kind, count: u64, seed: u64) {
     }
 }
 
+/// Answers the definition's own table of negative testers, which stands in the file, and compares.
+fn rows(file: &str) {
+    let text = std::fs::read_to_string(file).expect("the file of the table");
+    match rows::rows(&text) {
+        Ok(count) => println!("rows: {count} rows of the definition's table answered alike"),
+        Err(what) => {
+            println!("{what}");
+            std::process::exit(1);
+        }
+    }
+}
+
 /// Answers generated scripts by the program, too, and compares.
 fn compare(program: &str, count: u64, seed: u64) {
     if let Err(script) = compare::compare(program, count, seed) {
@@ -98,11 +112,12 @@ fn compare(program: &str, count: u64, seed: u64) {
     }
 }
 
-/// Answers the scripts of records on standard input anew and compares.
+/// Answers the scripts of records on standard input anew and compares. Says on standard error which differ.
 fn verify() {
     let (count, differing) = records::verify(&input());
-    println!("{count} scripts, {differing} answered otherwise");
-    if differing > 0 {
+    println!("{count} scripts, {} answered otherwise", differing.len());
+    differing.iter().for_each(|place| eprintln!("record {place}, from 0, is answered otherwise"));
+    if !differing.is_empty() {
         std::process::exit(1);
     }
 }

@@ -6,7 +6,7 @@ use crate::generate::{self, Kind};
 use crate::limits;
 use crate::negative_topics;
 use crate::rng::Rng;
-use crate::run::{self, has_negative_tester, MOST_OUTPUT};
+use crate::run::{self, has_negative_tester};
 use crate::search;
 use crate::shortcuts;
 use crate::statistic::{self, Statistic};
@@ -25,8 +25,9 @@ const MOST_TOPIC_BYTES: usize = 1_600;
 /// Of each family at a limit, the scripts of the first seeds that meet a limit not met before, or the first script.
 const SEEDS_PER_FAMILY: u64 = 40;
 
+/// Panics if the definition and the published Rust differ: no record is made of a disputed script.
 fn record(script: &[u8]) -> Vec<u8> {
-    let run = run::right(script, MOST_OUTPUT).run;
+    let (run, _) = run::agreed(script);
     let head = format!("{:05} {:05} {:05} {:05}\n", script.len(), run.output.len(), run.result, run.lines);
     [head.as_bytes(), script, &run.output].concat()
 }
@@ -108,10 +109,11 @@ fn put_scripts_of_kind(kind: Kind, count: usize, most_bytes: usize, out: &mut dy
     }
 }
 
-/// Answers the scripts of the records anew. Returns how many there are and how many are answered otherwise.
-pub fn verify(bytes: &[u8]) -> (usize, usize) {
-    let differing = records(bytes).filter(|&(script, record)| !gives_again(script, record)).count();
-    (records(bytes).count(), differing)
+/// Answers the scripts of the records anew. Returns how many there are and the places, from 0, of those answered
+/// otherwise.
+pub fn verify(bytes: &[u8]) -> (usize, Vec<usize>) {
+    let differing = records(bytes).enumerate().filter(|(_, (script, record))| !gives_again(script, record));
+    (records(bytes).count(), differing.map(|(place, _)| place).collect())
 }
 
 /// The places, from 0, of the records whose script has a negative tester: their answers are the definition's.
@@ -133,7 +135,8 @@ fn records(mut bytes: &[u8]) -> impl Iterator<Item = (&[u8], &[u8])> {
     })
 }
 
-/// Whether the script gives the record again. A wrong oracle may also break off, which is another answer.
+/// Whether the script gives the record again. A wrong oracle differs from the definition, or breaks off, at a negative
+/// tester too if its terms have other numbers: another answer in each case.
 fn gives_again(script: &[u8], expected: &[u8]) -> bool {
     std::panic::catch_unwind(|| record(script)).is_ok_and(|again| again == expected)
 }

@@ -70,6 +70,14 @@ pub fn right(script: &[u8], room: usize) -> Right {
     Right { run, source: Source::Rust, agreed }
 }
 
+/// The right run and whose it is. Panics, and says on which script, if the definition and the published Rust differ.
+pub fn agreed(script: &[u8]) -> (Run, Source) {
+    let Right { run, source, agreed } = right(script, MOST_OUTPUT);
+    let text = String::from_utf8_lossy(script);
+    assert!(agreed, "the definition and the published Rust answer this script otherwise:\n{text}");
+    (run, source)
+}
+
 fn run_lines<S: Answers>(session: &mut S, script: &[u8], room: usize, mut seen: impl FnMut(&S, &[u8], &Answer)) -> Run {
     let mut run = Run { result: 0, lines: 0, refused: 0, output: Vec::new() };
     if script.len() > MOST_SCRIPT {

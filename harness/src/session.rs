@@ -1,11 +1,12 @@
 //! The session: questions 4 to 11 over the published solver. `check` and `assert` answers come from `DtSolver`,
-//! equality from `EqualityEngine`, terms from `Context`. It is given no script with a negative tester.
+//! equality from `EqualityEngine`, terms from `Context`. It is given no script with a negative tester, and breaks off at
+//! one.
 
 use crate::answer::{Answer, Leaf};
 use crate::run::Answers;
 use crate::script::{self, Line};
 use rustc_hash::FxHasher;
-use shinri_core::{BuiltinOp, Context, Lit, Op, SortId, SymbolId, TermId, TermNode, TheoryJust, Var};
+use shinri_core::{BuiltinOp, Context, DtRole, Lit, Op, SortId, SymbolId, TermId, TermNode, TheoryJust, Var};
 use shinri_dt::DtSolver;
 use shinri_sat::Effort;
 use shinri_theory::types::{EqJust, EqLeaf, MergeEvent, Owner};
@@ -263,6 +264,9 @@ impl Session {
 
     fn assert(&mut self, literal: u32) -> Result<Answer, Refusal> {
         let literal = self.literal(literal)?;
+        // Asked of the published table, so that the definition's view alone does not decide who answers a script.
+        let denies = !literal.is_positive() && self.is_tester(self.atoms.atom(literal.var()));
+        assert!(!denies, "a negative tester was given to the published Rust");
         let (dt, mut cx) = self.solver();
         Ok(match dt.assert(&mut cx, literal) {
             None => Answer::Ok,
@@ -344,6 +348,13 @@ impl Session {
         match self.terms.term_node(t) {
             TermNode::App { op, .. } => *op,
             TermNode::Const { .. } => unreachable!("a script has no constants"),
+        }
+    }
+
+    fn is_tester(&self, t: TermId) -> bool {
+        match self.operation(t) {
+            Op::Uninterpreted(symbol) => matches!(self.terms.dt_role(symbol), Some(DtRole::Tester { .. })),
+            _ => false,
         }
     }
 
