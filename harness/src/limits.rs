@@ -1,5 +1,6 @@
 //! Scripts at the limits: terms, places, pairs, levels, sorts, symbols, numbers, leaves, script and output sizes.
 
+use crate::needs::Needs;
 use crate::rng::Rng;
 use crate::run::{MOST_OUTPUT, MOST_SCRIPT};
 use crate::search::{Search, Size};
@@ -9,8 +10,8 @@ use crate::writer::Writer;
 pub type Family = fn(&mut Rng) -> Vec<u8>;
 
 pub const FAMILIES: &[Family] = &[
-    terms, full_checks, crowd, places, place_checks, pairs, levels, sorts, symbols, numbers, leaves, long_ring,
-    tall_towers, script_size, output_size,
+    terms, full_checks, crowd, places, place_checks, pairs, levels, sorts, inhabitation, symbols, numbers, leaves,
+    long_ring, tall_towers, script_size, output_size,
 ];
 
 /// A script of a random family; the size families come more often, since each of their scripts meets its limit once.
@@ -236,6 +237,59 @@ fn sorts(rng: &mut Rng) -> Vec<u8> {
     w.line("close=1");
     w.line("check=1");
     w.script
+}
+
+/// Datatypes, mostly as many as there may be, each over the one before it in some order, now and then in a ring. The
+/// first one's plain constructor comes when `close` was refused, in a few scripts never.
+fn inhabitation(rng: &mut Rng) -> Vec<u8> {
+    let mut w = Writer::new();
+    let count = if rng.chance(60) { MOST_SORTS - 1 } else { rng.between(2, MOST_SORTS - 2) };
+    for _ in 0..count {
+        w.line("sort=d");
+    }
+    w.line("sort=u");
+    let order = Needs::Chain.order(rng, (1..=count).collect());
+    let (first, last) = (order[0], order[count - 1]);
+    let mut links: Vec<[usize; 2]> = order.windows(2).map(|two| [two[1], two[0]]).collect();
+    if rng.chance(40) {
+        links.push([first, last]);
+    }
+    rng.shuffle(&mut links);
+    for link in &links {
+        w.numbers("ctor", link);
+    }
+    w.numbers("fun", &[last]);
+    w.line("close=1");
+    if rng.chance(85) {
+        w.numbers("ctor", &[first]);
+    }
+    w.line("close=1");
+    let constructors: Vec<usize> = order[1..].iter().map(|sort| 3 * place_of(&links, *sort)).collect();
+    use_tree(&mut w, 3 * links.len(), &constructors);
+    w.script
+}
+
+/// The place of the constructor of a sort other than the first.
+fn place_of(links: &[[usize; 2]], sort: usize) -> usize {
+    links.iter().position(|link| link[0] == sort).expect("each has one")
+}
+
+/// The tree of all the constructors over the plain one, which is the symbol behind the constant, and what follows of it
+/// for the constant.
+fn use_tree(w: &mut Writer, constant: usize, constructors: &[usize]) {
+    let mut tree = w.term("term", &[constant + 1]).unwrap_or(0);
+    for &constructor in constructors {
+        tree = w.term("term", &[constructor, tree]).unwrap_or(tree);
+    }
+    let x = w.term("term", &[constant]).unwrap_or(0);
+    let tester = constructors[constructors.len() - 1] + 1;
+    let atoms = [w.term("eq", &[x, tree]).unwrap_or(0), w.term("term", &[tester, x]).unwrap_or(0)];
+    for (variable, &atom) in atoms.iter().enumerate() {
+        w.numbers("var", &[variable, atom]);
+    }
+    for line in ["assert=2", "check=1", "check=1", "equate=0", "check=1", "check=1"] {
+        w.line(line);
+    }
 }
 
 fn symbols(rng: &mut Rng) -> Vec<u8> {

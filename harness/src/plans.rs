@@ -125,7 +125,7 @@ impl Search<'_> {
         let (symbol, fields) = (base.symbol, base.fields.clone());
         let mut numbers = vec![symbol];
         for sort in fields {
-            numbers.push(self.any_term(sort, 0));
+            numbers.push(self.determined(sort));
         }
         self.w.term("term", &numbers).expect("well sorted, and room")
     }

@@ -3,6 +3,7 @@
 //! script's bytes and the answers' bytes, with nothing between or after them.
 
 use crate::generate::{self, Kind};
+use crate::inhabitation;
 use crate::limits;
 use crate::negative_topics;
 use crate::rng::Rng;
@@ -47,7 +48,7 @@ pub fn write_fixed(examples: &Path, out: &mut dyn Write) {
     for example in scripts_in(examples) {
         put(&example, out);
     }
-    for script in shortcuts::scripts() {
+    for script in shortcuts::scripts().chain(inhabitation::scripts()) {
         put(&script, out);
     }
     for family in limits::FAMILIES {

@@ -2,6 +2,7 @@
 //! checks, follows the lemmas it is handed and goes back after conflicts. Unless asked for, no line is refused.
 
 use crate::answer::Answer;
+use crate::needs::Needs;
 use crate::plans::Plan;
 use crate::rng::Rng;
 use crate::run::{MOST_OUTPUT, MOST_SCRIPT};
@@ -49,7 +50,7 @@ pub fn search(rng: &mut Rng, size: Size, refused_percent: usize) -> Writer {
 /// Random steps until a limit is near. What is joined below all levels soon contradicts itself, so most checks end in a
 /// conflict that no `pop` takes back.
 pub fn stuck_search(rng: &mut Rng) -> Writer {
-    let mut search = Search::start(rng, Size::Large, 0).saying_no(false);
+    let mut search = Search::for_benchmark(rng);
     search.fill();
     while search.room() {
         search.step();
@@ -59,7 +60,7 @@ pub fn stuck_search(rng: &mut Rng) -> Writer {
 
 /// A search that goes on until a limit is near: it decides at a level of its own, closes under congruence and checks.
 pub fn long_search(rng: &mut Rng) -> Writer {
-    let mut search = Search::start(rng, Size::Large, 0).saying_no(false);
+    let mut search = Search::for_benchmark(rng);
     let (terms, atoms) = (search.rng.between(20, 120), search.rng.between(8, 50));
     search.make_terms(terms);
     search.make_atoms(atoms);
@@ -84,12 +85,12 @@ pub fn saying_no(rng: &mut Rng) -> Writer {
 
 /// A small script on one topic, with a few random steps after it.
 pub fn on_topic(rng: &mut Rng, topic: Plan) -> Writer {
-    about(Search::over(rng, Size::Small, 0, true), topic)
+    about(Search::over(rng, Size::Small, 0, true, Needs::Nothing), topic)
 }
 
 /// The same, and the steps may assert negative testers.
 pub fn on_negative_topic(rng: &mut Rng, topic: Plan) -> Writer {
-    about(Search::over(rng, Size::Small, 0, true).saying_no(true), topic)
+    about(Search::over(rng, Size::Small, 0, true, Needs::Nothing).saying_no(true), topic)
 }
 
 fn about(mut search: Search, topic: Plan) -> Writer {
@@ -103,17 +104,25 @@ fn about(mut search: Search, topic: Plan) -> Writer {
 impl<'a> Search<'a> {
     pub fn start(rng: &'a mut Rng, size: Size, refused_percent: usize) -> Search<'a> {
         let rich = rng.chance(60);
-        Search::over(rng, size, refused_percent, rich)
+        let needs = if rich { Needs::Nothing } else { Needs::any(rng) };
+        Search::over(rng, size, refused_percent, rich, needs)
     }
 
-    fn over(rng: &'a mut Rng, size: Size, refused_percent: usize, rich: bool) -> Search<'a> {
+    /// The long scripts of the benchmark close in one round, as they did when they were first timed.
+    fn for_benchmark(rng: &'a mut Rng) -> Search<'a> {
+        let rich = rng.chance(60);
+        Search::over(rng, Size::Large, 0, rich, Needs::Nothing).saying_no(false)
+    }
+
+    fn over(rng: &'a mut Rng, size: Size, refused_percent: usize, rich: bool, needs: Needs) -> Search<'a> {
         let (datatypes, others, constants, functions) = match size {
             Size::Small if rich => (1, rng.below(2), 4, 0),
             Size::Small => (rng.between(1, 2), rng.below(2), 2, 2),
             Size::Middle => (rng.between(1, 3), rng.below(3), 4, 4),
             Size::Large => (rng.between(2, 6), rng.below(4), 6, 8),
         };
-        let shape = Shape { datatypes, others, constants, functions, refused_percent, rich };
+        let datatypes = needs.datatypes(rng, datatypes);
+        let shape = Shape { datatypes, others, constants, functions, refused_percent, rich, needs };
         let mut w = Writer::new();
         let signature = Signature::declare(rng, &mut w, &shape);
         let (variables, first_variable) = (Vec::new(), HashMap::new());

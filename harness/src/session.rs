@@ -134,18 +134,11 @@ impl Session {
     }
 
     fn close(&mut self) -> Result<Answer, Refusal> {
-        let datatypes = self.sorts.iter().filter(|&&sort| self.terms.is_datatype_sort(sort));
-        ensure(datatypes.copied().all(|datatype| self.has_base_constructor(datatype)), 10)?;
+        let is_datatype = |&sort: &SortId| self.terms.is_datatype_sort(sort);
+        let datatypes: Vec<SortId> = self.sorts.iter().copied().filter(is_datatype).collect();
+        ensure(self.terms.dt_first_ill_founded(&datatypes).is_none(), 10)?;
         self.closed = true;
         Ok(Answer::Ok)
-    }
-
-    fn has_base_constructor(&self, datatype: SortId) -> bool {
-        let constructors = self.terms.dt_constructors(datatype).unwrap_or_default();
-        constructors.iter().any(|&constructor| {
-            let fields = self.terms.fun_params(constructor).unwrap_or_default();
-            fields.iter().all(|&field| !self.terms.is_datatype_sort(field))
-        })
     }
 
     fn make_application(&mut self, symbol: u32, arguments: &[u32]) -> Result<Answer, Refusal> {

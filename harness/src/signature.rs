@@ -1,8 +1,11 @@
-//! Random declarations: enumerations, records, lists, trees, mutually recursive datatypes, other sorts, functions.
+//! Random declarations: enumerations, records, lists, trees, mutually recursive datatypes, datatypes that are inhabited
+//! only through others, other sorts, functions.
 
+use crate::needs::Needs;
 use crate::offence;
 use crate::rng::Rng;
 use crate::writer::Writer;
+use std::collections::BTreeMap;
 
 pub struct Symbol {
     pub arguments: Vec<usize>,
@@ -41,17 +44,20 @@ pub struct Shape {
     /// Whether each datatype has what the topics build with: a constructor without fields, one with one field of the
     /// datatype's own sort and one with two, constants, a predicate and functions of several places.
     pub rich: bool,
+    pub needs: Needs,
 }
+
+/// A constructor that is declared after the functions: its sort and fields.
+type Late = (usize, Vec<usize>);
 
 impl Signature {
     /// Declares a random signature of the given shape, and `close=1`.
     pub fn declare(rng: &mut Rng, w: &mut Writer, shape: &Shape) -> Signature {
         let mut signature = Signature { datatype: vec![false], ..Signature::default() };
         signature.declare_sorts(rng, w, shape);
-        for sort in signature.datatypes() {
-            signature.declare_constructors(rng, w, sort, shape);
-        }
+        let late = signature.declare_constructors(rng, w, shape);
         signature.declare_functions(rng, w, shape);
+        signature.declare_late(w, late);
         w.line("close=1");
         signature
     }
@@ -60,20 +66,35 @@ impl Signature {
         (0..self.datatype.len()).filter(|&sort| self.datatype[sort]).collect()
     }
 
-    /// Has each datatype a constructor with no datatype field?
+    /// Is each datatype inhabited?
     pub fn may_close(&self) -> bool {
-        let plain = |constructor: &&Constructor| constructor.fields.iter().all(|&field| !self.datatype[field]);
-        self.datatypes().into_iter().all(|sort| self.constructors_of(sort).iter().any(plain))
+        self.base_constructors().len() == self.datatypes().len()
+    }
+
+    /// By round, for each datatype found inhabited, the place of the first constructor that shows it: its datatype
+    /// fields were found in earlier rounds.
+    fn base_constructors(&self) -> BTreeMap<usize, usize> {
+        let mut found: BTreeMap<usize, usize> = BTreeMap::new();
+        loop {
+            let ready = |field: &usize| !self.datatype[*field] || found.contains_key(field);
+            let shows = |c: &Constructor| !found.contains_key(&c.sort) && c.fields.iter().all(ready);
+            let places: Vec<usize> = (0..self.constructors.len()).filter(|&c| shows(&self.constructors[c])).collect();
+            if places.is_empty() {
+                return found;
+            }
+            for place in places {
+                found.entry(self.constructors[place].sort).or_insert(place);
+            }
+        }
     }
 
     pub fn constructors_of(&self, sort: usize) -> Vec<&Constructor> {
         self.constructors.iter().filter(|constructor| constructor.sort == sort).collect()
     }
 
-    /// The constructor of `sort` that question 10 asks for.
+    /// The constructor of `sort` that leads to a finite tree.
     pub fn base_constructor(&self, sort: usize) -> &Constructor {
-        let plain = |constructor: &&Constructor| constructor.fields.iter().all(|&field| !self.datatype[field]);
-        self.constructors.iter().filter(|constructor| constructor.sort == sort).find(plain).expect("declared so")
+        &self.constructors[self.base_constructors()[&sort]]
     }
 
     pub fn constants_of(&self, sort: usize) -> Vec<usize> {
@@ -99,7 +120,56 @@ impl Signature {
         }
     }
 
-    fn declare_constructors(&mut self, rng: &mut Rng, w: &mut Writer, sort: usize, shape: &Shape) {
+    /// Declares the constructors of all datatypes but those that are handed back: where lines may be refused, one
+    /// datatype may lack some of its own until the functions are declared.
+    fn declare_constructors(&mut self, rng: &mut Rng, w: &mut Writer, shape: &Shape) -> Vec<Late> {
+        let order = shape.needs.order(rng, self.datatypes());
+        let lacking = if shape.refused_percent > 0 { lacking(rng, &order) } else { None };
+        let mut late = Vec::new();
+        for sort in self.datatypes() {
+            let mut field_lists = self.field_lists(rng, shape, &order, sort);
+            rng.shuffle(&mut field_lists);
+            if lacking == Some(sort) {
+                late = self.hold_back(rng, &mut field_lists).into_iter().map(|fields| (sort, fields)).collect();
+            }
+            for fields in field_lists {
+                if rng.chance(shape.refused_percent) {
+                    offence::among_declarations(rng, w, self);
+                }
+                self.declare_constructor(w, sort, fields);
+            }
+        }
+        late
+    }
+
+    /// Takes out all constructors of a datatype, or those with no datatype field.
+    fn hold_back(&self, rng: &mut Rng, field_lists: &mut Vec<Vec<usize>>) -> Vec<Vec<usize>> {
+        let all = rng.chance(40);
+        let (held, kept) = field_lists.drain(..).partition(|fields| all || self.is_plain(fields));
+        *field_lists = kept;
+        held
+    }
+
+    /// Declares what was held back. As long as a datatype is not inhabited, `close=1` comes before and is refused.
+    fn declare_late(&mut self, w: &mut Writer, late: Vec<Late>) {
+        for (sort, fields) in late {
+            if !self.may_close() {
+                w.line("close=1");
+            }
+            self.declare_constructor(w, sort, fields);
+        }
+    }
+
+    /// Is no field a datatype's?
+    fn is_plain(&self, fields: &[usize]) -> bool {
+        fields.iter().all(|&field| !self.datatype[field])
+    }
+
+    /// The fields of each constructor of a datatype.
+    fn field_lists(&self, rng: &mut Rng, shape: &Shape, order: &[usize], sort: usize) -> Vec<Vec<usize>> {
+        if shape.needs != Needs::Nothing {
+            return self.needy_field_lists(rng, shape.needs, order, sort);
+        }
         let mut field_lists = match rng.below(5) {
             _ if shape.rich => self.rich_field_lists(rng, sort),
             0 => vec![Vec::new(); rng.between(1, 6)],
@@ -108,17 +178,25 @@ impl Signature {
             3 => vec![self.fields(rng, 0, 2, 0), self.recursive_fields(rng, sort, 2)],
             _ => (0..rng.between(1, 4)).map(|_| self.fields(rng, 0, 4, 60)).collect(),
         };
-        let plain = |fields: &Vec<usize>| fields.iter().all(|&field| !self.datatype[field]);
-        if !field_lists.iter().any(plain) {
+        if !field_lists.iter().any(|fields| self.is_plain(fields)) {
             field_lists.push(self.fields(rng, 0, 2, 0));
         }
-        rng.shuffle(&mut field_lists);
-        for fields in field_lists {
-            if rng.chance(shape.refused_percent) {
-                offence::among_declarations(rng, w, self);
-            }
-            self.declare_constructor(w, sort, fields);
+        field_lists
+    }
+
+    /// The same for a datatype that may need others. One more constructor has a field of the datatype's own sort, so it
+    /// takes no part in the rounds.
+    fn needy_field_lists(&self, rng: &mut Rng, needs: Needs, order: &[usize], sort: usize) -> Vec<Vec<usize>> {
+        let place = order.iter().position(|&other| other == sort).expect("a datatype");
+        let mut field_lists = needs.datatype_fields(rng, order, place);
+        for fields in field_lists.iter_mut() {
+            fields.extend(self.fields(rng, 0, 1, 0));
+            rng.shuffle(fields);
         }
+        if rng.chance(40) {
+            field_lists.push(self.recursive_fields(rng, sort, 1));
+        }
+        field_lists
     }
 
     fn rich_field_lists(&self, rng: &mut Rng, sort: usize) -> Vec<Vec<usize>> {
@@ -190,5 +268,14 @@ impl Signature {
             self.functions.push(self.symbols.len());
             self.symbols.push(Symbol { arguments: function[1..].to_vec(), result: function[0] });
         }
+    }
+}
+
+/// The datatype that lacks constructors, if one does: the one that others need, or any.
+fn lacking(rng: &mut Rng, order: &[usize]) -> Option<usize> {
+    match rng.below(10) {
+        0..=1 => rng.pick(order).copied(),
+        2..=4 => Some(order[0]),
+        _ => None,
     }
 }

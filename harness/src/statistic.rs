@@ -11,6 +11,7 @@ use shinri_theory::types::{EqJust, EqLeaf};
 use shinri_theory::EqualityEngine;
 use std::collections::{BTreeMap, BTreeSet};
 
+mod closing;
 mod details;
 
 /// How often each thing was met, and in how many scripts.
@@ -80,6 +81,8 @@ impl Statistic {
 #[derive(Default)]
 struct Watcher {
     times: BTreeMap<String, usize>,
+    /// Whether question 10 refused a line.
+    refused_close: bool,
     labels: EqualityEngine,
     /// The argument pairs of each labelled merge; none for a literal or an interface leaf.
     reasons: Vec<Vec<(usize, usize)>>,
@@ -113,10 +116,11 @@ struct Step {
 impl Watcher {
     fn see(&mut self, session: &Session, line: &[u8], answer: &Answer) {
         if let Answer::Refused(question) = answer {
-            return self.see_refusal(*question, line);
+            return self.see_refusal(session, *question, line);
         }
         self.count(format!("answer {}", key(answer.to_string().as_bytes())));
         match script::read(line).expect("an accepted line reads") {
+            Line::Close => self.see_close(session),
             Line::Var { variable, atom } => {
                 self.first_variable.entry(atom as usize).or_insert(variable);
                 self.collect(session, atom as usize);
@@ -142,8 +146,11 @@ impl Watcher {
         *self.times.entry(name.into()).or_default() += 1;
     }
 
-    fn see_refusal(&mut self, question: u32, line: &[u8]) {
+    fn see_refusal(&mut self, session: &Session, question: u32, line: &[u8]) {
         self.count(format!("refused {question:>2}"));
+        if question == 10 {
+            self.see_refused_close(session);
+        }
         if script::read(line).is_some() {
             self.count(format!("refused {question:>2} {}", key(line)));
         }

@@ -103,11 +103,38 @@ impl Context {
         (0..self.symbols[ctor].params.len()).map(|index| ctor + 2 + index).collect()
     }
 
+    pub fn datatypes(&self) -> Vec<usize> {
+        (0..self.sorts.len()).filter(|&sort| self.is_datatype_sort(sort)).collect()
+    }
+
+    /// Are all fields of a constructor of other sorts or of datatypes already found?
+    fn has_ready_fields(&self, c: usize, found: &[usize]) -> bool {
+        self.symbols[c].params.iter().all(|field| !self.is_datatype_sort(*field) || found.contains(field))
+    }
+
+    fn grounded(&self, dt: usize, found: &[usize]) -> bool {
+        self.dt_constructors(dt).into_iter().any(|c| self.has_ready_fields(c, found))
+    }
+
+    /// The datatypes grounded by those already found.
+    fn round(&self, found: &[usize]) -> Vec<usize> {
+        self.datatypes().into_iter().filter(|&dt| self.grounded(dt, found)).collect()
+    }
+
+    /// The datatypes found by so many rounds, starting from none.
+    pub fn rounds(&self, n: usize) -> Vec<usize> {
+        (0..n).fold(Vec::new(), |found, _| self.round(&found))
+    }
+
+    /// As many rounds as there are sorts: a round that adds no datatype is followed by none that does.
+    pub fn inhabited_datatypes(&self) -> Vec<usize> {
+        self.rounds(self.sorts.len())
+    }
+
     /// Question 10.
     pub fn all_grounded(&self) -> bool {
-        let has_plain_fields = |&c: &usize| self.symbols[c].params.iter().all(|&f| !self.is_datatype_sort(f));
-        let grounded = |dt: usize| self.dt_constructors(dt).iter().any(has_plain_fields);
-        (0..self.sorts.len()).filter(|&sort| self.is_datatype_sort(sort)).all(grounded)
+        let inhabited = self.inhabited_datatypes();
+        self.datatypes().iter().all(|dt| inhabited.contains(dt))
     }
 
     pub fn children(&self, t: usize) -> &[usize] {

@@ -131,7 +131,7 @@ impl Session {
         ask(same_op && self.argument_pairs(t, u).iter().all(|&(a, b)| self.state.equal(a, b)), 9)
     }
 
-    /// 10. For `close`: has each datatype a constructor with no datatype field?
+    /// 10. For `close`: is each datatype inhabited?
     fn inhabited(&self) -> Result<(), Refusal> {
         ask(self.state.terms.all_grounded(), 10)
     }
@@ -268,6 +268,23 @@ impl Session {
 
 /// What the generator and the statistic ask of a session.
 impl Session {
+    pub fn datatypes(&self) -> Vec<usize> {
+        self.state.terms.datatypes()
+    }
+
+    /// The datatypes among the fields of each constructor of a datatype.
+    pub fn datatype_fields(&self, dt: usize) -> Vec<Vec<usize>> {
+        let terms = &self.state.terms;
+        let fields = |c: usize| terms.symbols[c].params.iter().copied();
+        let datatypes = |c| fields(c).filter(|&field| terms.is_datatype_sort(field)).collect();
+        terms.dt_constructors(dt).into_iter().map(datatypes).collect()
+    }
+
+    /// The datatypes found inhabited by so many rounds.
+    pub fn rounds(&self, n: usize) -> Vec<usize> {
+        self.state.terms.rounds(n)
+    }
+
     pub fn term_count(&self) -> usize {
         self.state.terms.terms.len()
     }
