@@ -1,6 +1,6 @@
-//! What the published source does otherwise than the session, shown on the source itself.
+//! What docs/DIFFERENCES.md says of the published source, shown on the source itself.
 
-use shinri_core::{Context, Lit, Op, SymbolId, TermId, TermNode, TheoryJust, Var};
+use shinri_core::{Context, Lit, Op, SortId, SymbolId, TermId, TermNode, TheoryJust, Var};
 use shinri_dt::DtSolver;
 use shinri_sat::Effort;
 use shinri_theory::types::{EqJust, EqLeaf, Owner};
@@ -94,20 +94,44 @@ fn an_unregistered_literal_panics() {
     DtSolver::default().assert(&mut cx, Lit::from_code(0));
 }
 
-#[test]
-fn a_constructor_over_an_inhabited_datatype_founds_its_sort() {
+/// Declares so many datatypes and constructors of them, each by the place of its datatype and of its fields'. Returns
+/// the places of those that the source finds ill-founded, each asked alone.
+fn ill_founded(count: usize, constructors: &[(usize, &[usize])]) -> Vec<usize> {
     let mut terms = Context::new();
-    let (inner, outer) = (terms.declare_datatype_sort("inner"), terms.declare_datatype_sort("outer"));
     let truth = terms.bool_sort();
-    for (sort, fields) in [(inner, &[][..]), (outer, &[inner][..])] {
-        let name = format!("{}", sort.index());
-        let constructor = terms.declare_fun(&name, fields, sort);
-        let tester = terms.declare_fun(&format!("is-{name}"), &[sort], truth);
+    let sorts: Vec<SortId> = (0..count).map(|place| terms.declare_datatype_sort(&format!("sort{place}"))).collect();
+    for (number, &(place, fields)) in constructors.iter().enumerate() {
+        let (sort, fields): (SortId, Vec<SortId>) = (sorts[place], fields.iter().map(|&field| sorts[field]).collect());
+        let constructor = terms.declare_fun(&format!("constructor{number}"), &fields, sort);
+        let tester = terms.declare_fun(&format!("is-constructor{number}"), &[sort], truth);
+        let names = (0..fields.len()).map(|field| format!("field{field}-of-constructor{number}"));
         let selectors: Vec<SymbolId> =
-            fields.iter().map(|&field| terms.declare_fun(&format!("of-{name}"), &[sort], field)).collect();
+            names.zip(&fields).map(|(name, &field)| terms.declare_fun(&name, &[sort], field)).collect();
         terms.dt_add_constructor(sort, constructor, &selectors, tester);
     }
-    assert_eq!(terms.dt_first_ill_founded(&[inner, outer]), None);
+    (0..count).filter(|&place| terms.dt_first_ill_founded(&[sorts[place]]).is_some()).collect()
+}
+
+#[test]
+fn a_constructor_over_an_inhabited_datatype_founds_its_sort() {
+    assert!(ill_founded(2, &[(0, &[]), (1, &[0])]).is_empty());
+    assert!(ill_founded(2, &[(0, &[1]), (1, &[])]).is_empty());
+    // A node over a list of nodes.
+    assert!(ill_founded(2, &[(0, &[1]), (1, &[]), (1, &[0, 1])]).is_empty());
+    assert!(ill_founded(5, &[(0, &[1]), (1, &[2]), (2, &[3]), (3, &[4]), (4, &[0]), (2, &[])]).is_empty());
+}
+
+#[test]
+fn a_datatype_without_constructors_is_ill_founded() {
+    assert_eq!(ill_founded(1, &[]), [0]);
+    assert_eq!(ill_founded(3, &[(0, &[]), (2, &[1])]), [1, 2]);
+}
+
+#[test]
+fn datatypes_that_need_each_other_are_ill_founded() {
+    assert_eq!(ill_founded(1, &[(0, &[0])]), [0]);
+    assert_eq!(ill_founded(2, &[(0, &[1]), (1, &[0])]), [0, 1]);
+    assert_eq!(ill_founded(6, &[(0, &[1]), (1, &[2]), (2, &[3]), (3, &[4]), (4, &[0]), (5, &[])]), [0, 1, 2, 3, 4]);
 }
 
 #[test]
