@@ -1,7 +1,7 @@
 -- Laws of the list functions that the definitions share.
-use Rattle.core.proofs.Kit.{ℕ, zero, suc, _+_, _≤_, _<_, _≡_, refl, sym, subst, ap, ap₂, _∙_, _⊎_, inl, inr, Bool, true, false, cond, _&&_, false≢true, List, [], _∷_, _++_, map, le-antisymm, add-zero, add-suc, suc-add, decLe, arith, T, eqb, eqb→eq, eq-eqb, length, getD, take, drop, set, length-set, drop-of-length-le, sets, getD-set-same, getD-set-other, drop-cons}
+use Rattle.core.proofs.Kit.{ℕ, zero, suc, _+_, _≤_, _<_, _≡_, refl, sym, subst, subst⁻¹, ap, ap₂, _∙_, _⊎_, inl, inr, Bool, true, false, cond, not, _&&_, _||_, false≢true, List, [], _∷_, _++_, map, le-antisymm, add-zero, add-suc, suc-add, decLe, arith, T, eqb, eqb→eq, eqb-refl, eq-eqb, length, getD, take, drop, replicate, set, length-set, drop-of-length-le, sets, getD-set-same, getD-set-other, drop-cons}
 pub use Rattle.core.specs.Lists.{In}
-use Rattle.core.specs.Lists.{keep, every, any, range, same-list}
+use Rattle.core.specs.Lists.{keep, every, any, range, same-list, mem}
 
 -- ---- tests
 
@@ -25,9 +25,31 @@ pub true-T : (b : Bool) → b ≡ true → T b
 true-T true e = tt
 true-T false e = absurd (false≢true e)
 
+-- two tests that say the same
+pub T-same : (a b : Bool) → (T a → T b) → (T b → T a) → a ≡ b
+T-same true b f g = sym (T-true b (f tt))
+T-same false true f g = absurd (g tt)
+T-same false false f g = refl
+
 pub not-true-false : (b : Bool) → (b ≡ true → ⊥) → b ≡ false
 not-true-false true n = absurd (n refl)
 not-true-false false n = refl
+
+pub T-or : (a b : Bool) → T (a || b) → T a ⊎ T b
+T-or true b t = inl tt
+T-or false b t = inr t
+
+pub T-left : (a b : Bool) → T a → T (a || b)
+T-left true b t = tt
+T-left false b t = absurd t
+
+pub T-right : (a b : Bool) → T b → T (a || b)
+T-right true b t = tt
+T-right false b t = t
+
+pub T-implied : (a b : Bool) → (T a → T b) → T (not a || b)
+T-implied true b f = f tt
+T-implied false b f = tt
 
 pub cond-both : (b : Bool) → cond b true true ≡ true
 cond-both true = refl
@@ -44,6 +66,22 @@ module _ {A : Type 0} where
   every-in p (y ∷ ys) x t (inl e) = subst (λ (z : A). T (p z)) (sym e) (cond-and (p y) (every p ys) t .0)
   every-in p (y ∷ ys) x t (inr i) = every-in p ys x (cond-and (p y) (every p ys) t .1) i
 
+  -- every element passes if each one does
+  pub in-every : (p : A → Bool) (xs : List A) → ((x : A) → In x xs → T (p x)) → T (every p xs)
+  unfolding every
+  in-every p [] h = tt
+  in-every p (x ∷ xs) h = let d = T-true (p x) (h x (inl refl)) in rw d (in-every p xs (λ y i. h y (inr i)))
+
+  pub any-same : (p q : A → Bool) (xs : List A) → ((x : A) → In x xs → p x ≡ q x) → any p xs ≡ any q xs
+  unfolding any
+  any-same p q [] h = refl
+  any-same p q (x ∷ xs) h = rw (h x (inl refl), any-same p q xs (λ y i. h y (inr i)))
+
+  pub every-same : (p q : A → Bool) (xs : List A) → ((x : A) → In x xs → p x ≡ q x) → every p xs ≡ every q xs
+  unfolding every
+  every-same p q [] h = refl
+  every-same p q (x ∷ xs) h = rw (h x (inl refl), every-same p q xs (λ y i. h y (inr i)))
+
   any-here : (p : A → Bool) (y : A) (ys : List A) (b : Bool) → p y ≡ b → T (cond b true (any p ys)) →
       (T (any p ys) → (x : A) × In x ys × T (p x)) → (x : A) × In x (y ∷ ys) × T (p x)
   any-here p y ys true e t go = (y, inl refl, subst (λ (b : Bool). T b) (sym e) tt)
@@ -54,6 +92,13 @@ module _ {A : Type 0} where
   unfolding any
   any-in p [] t = absurd t
   any-in p (y ∷ ys) t = any-here p y ys (p y) refl t (any-in p ys)
+
+  -- any passes where an element does
+  pub in-any : (p : A → Bool) (xs : List A) (x : A) → In x xs → T (p x) → T (any p xs)
+  unfolding any
+  in-any p [] x i t = absurd i
+  in-any p (y ∷ ys) x (inl e) t = let d = T-true (p y) (rw (sym e) t) in rw d tt
+  in-any p (y ∷ ys) x (inr i) t = let d = T-true (any p ys) (in-any p ys x i t) in rw (d, cond-both) tt
 
   keep-add : (b : Bool) (y : A) (r : List A) (x : A) → In x r → In x (cond b (y ∷ r) r)
   keep-add true y r x i = inr i
@@ -83,6 +128,42 @@ module _ {A : Type 0} where
   unfolding keep
   keep-in p [] x i = absurd i
   keep-in p (y ∷ ys) x i = kept-here p y ys (p y) x refl i (keep-in p ys x)
+
+  pub keep-length : (p : A → Bool) (xs : List A) → length (keep p xs) ≤ length xs
+  unfolding keep
+  keep-length p [] = omega arith
+  keep-length p (x ∷ xs) = go (p x) (keep-length p xs)
+    where
+      go : (b : Bool) → length (keep p xs) ≤ length xs → length (cond b (x ∷ keep p xs) (keep p xs)) ≤ suc (length xs)
+      go true h = omega arith
+      go false h = omega arith
+
+  -- a weaker test keeps the same elements or more of them
+  pub keep-more : (p q : A → Bool) (xs : List A) → ((x : A) → T (p x) → T (q x)) →
+      (keep q xs ≡ keep p xs) ⊎ (length (keep p xs) < length (keep q xs))
+  unfolding keep
+  keep-more p q [] h = inl refl
+  keep-more p q (x ∷ xs) h = go (p x) (q x) (h x) (keep-more p q xs h)
+    where
+      go : (a b : Bool) → (T a → T b) → (keep q xs ≡ keep p xs) ⊎ (length (keep p xs) < length (keep q xs)) →
+          (cond b (x ∷ keep q xs) (keep q xs) ≡ cond a (x ∷ keep p xs) (keep p xs))
+          ⊎ (length (cond a (x ∷ keep p xs) (keep p xs)) < length (cond b (x ∷ keep q xs) (keep q xs)))
+      go true true f (inl e) = inl (ap {B = List A} (λ ys. x ∷ ys) e)
+      go true true f (inr l) = inr (omega arith)
+      go true false f r = absurd (f tt)
+      go false true f (inl e) = let l = ap length e in inr (omega arith)
+      go false true f (inr l) = inr (omega arith)
+      go false false f r = r
+
+-- ---- sets of numbers
+
+pub mem-in : (x : ℕ) (ys : List ℕ) → T (mem x ys) → In x ys
+unfolding mem
+mem-in x ys t = let (y, i, e) = any-in (eqb x) ys t in subst⁻¹ (λ (z : ℕ). In z ys) (eqb→eq x y e) i
+
+pub in-mem : (x : ℕ) (ys : List ℕ) → In x ys → T (mem x ys)
+unfolding mem
+in-mem x ys i = in-any (eqb x) ys x i (eqb-refl x)
 
 range-step : (k n x : ℕ) → Dec (x ≤ k) → k ≤ x → (suc k ≤ x → In x (range (suc k) n)) → In x (k ∷ range (suc k) n)
 range-step k n x (yes l) h go = inl (le-antisymm l h)
@@ -158,6 +239,13 @@ module _ {A : Type 0} where
   getD-sets-in l i (v ∷ vs) (suc k) d h m =
       ap (λ (j : ℕ). getD (sets (set l i v) (suc i) vs) j d) (add-suc i k ∙ sym (suc-add i k))
       ∙ getD-sets-in (set l i v) (suc i) vs k d (omega arith) (rw length-set (omega arith))
+
+-- ---- a list of zeros
+
+pub zeros : (n i : ℕ) → getD {A = ℕ} (replicate n 0) i 0 ≡ 0
+zeros zero i = refl
+zeros (suc n) zero = refl
+zeros (suc n) (suc i) = zeros n i
 
 -- ---- lists compared
 

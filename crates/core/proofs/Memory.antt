@@ -12,7 +12,8 @@ pub mod Views
 pub mod Index
 pub mod Keeping
 -- Terms: an application looked up, one more term, and making a term; Declarations: an empty table, terms given back, one more sort, one
--- more symbol, a function, a constructor; Constructors: a datatype's constructors, and question 10.
+-- more symbol, a function, a constructor; Constructors: a datatype's constructors, and the tests of question 10; Rounds: its rounds.
 pub mod Terms
 pub mod Declarations
 pub mod Constructors
+pub mod Rounds

@@ -1,14 +1,14 @@
 -- Declarations and terms (context.rs): what is made, and what is asked of it. Sorts, symbols and terms are numbered from 0 as made.
 -- Where a number is looked up, the default stands for no answer: question 5 asks that each number of a line exists, and a
 -- term's symbol and arguments were asked about, or made, before the term.
-use Prim.Native.Nat.{ℕ, suc, _+_}
-use mathlib.Core.Bool.{Bool, true, false, not, _&&_}
+use Prim.Native.Nat.{ℕ, zero, suc, _+_}
+use mathlib.Core.Bool.{Bool, true, false, not, _&&_, _||_}
 use mathlib.Core.List.{List, [], _∷_, _++_, map}
 use mathlib.Core.Option.{Option, none, some}
 use lib.Dec.{eqb, leb}
 use lib.ListN.{length, getD, take}
 use Rattle.core.specs.Limits.{max-sorts, max-symbols, max-terms, max-places}
-use Rattle.core.specs.Lists.{keep, every, any, place-from, range, total}
+use Rattle.core.specs.Lists.{keep, every, any, place-from, range, total, mem}
 use Rattle.core.specs.Sort.{SortNode, BoolSort, Uninterpreted, is-datatype}
 use Rattle.core.specs.Term as Term
 use Rattle.core.specs.Term.{Role, Constructor, Tester, Selector, Function, Symbol, Op, Eq, Term, same-term}
@@ -81,15 +81,43 @@ dt-tester c = c + 1
 unfoldable pub dt-selectors : Context → ℕ → List ℕ
 dt-selectors cx c = range (c + 2) (length (symbol cx c .params))
 
--- Question 10: has each datatype a constructor with no datatype field?
-unfoldable pub has-plain-fields : Context → ℕ → Bool
-has-plain-fields cx c = every (λ f. not (is-datatype-sort cx f)) (symbol cx c .params)
+-- ---- question 10
 
-unfoldable pub grounded : Context → ℕ → Bool
-grounded cx dt = any (has-plain-fields cx) (dt-constructors cx dt)
+-- the datatypes, ascending
+unfoldable pub datatypes : Context → List ℕ
+datatypes cx = keep (is-datatype-sort cx) (range 0 (length (cx .sorts)))
 
+-- is a sort another one (Bool is one), or a datatype already found?
+unfoldable pub ready : Context → (ℕ → Bool) → ℕ → Bool
+ready cx found s = not (is-datatype-sort cx s) || found s
+
+unfoldable pub has-ready-fields : Context → (ℕ → Bool) → ℕ → Bool
+has-ready-fields cx found c = every (ready cx found) (symbol cx c .params)
+
+-- has a datatype a constructor with only such fields?
+unfoldable pub grounded : Context → (ℕ → Bool) → ℕ → Bool
+grounded cx found dt = any (has-ready-fields cx found) (dt-constructors cx dt)
+
+-- a round finds the datatypes that are grounded in those found so far
+unfoldable pub round : Context → List ℕ → List ℕ
+round cx found = keep (grounded cx (λ s. mem s found)) (datatypes cx)
+
+-- starting from none
+unfoldable pub rounds : Context → ℕ → List ℕ
+rounds cx zero = []
+rounds cx (suc n) = round cx (rounds cx n)
+
+-- After as many rounds as there are sorts one more adds nothing.
+unfoldable pub inhabited-datatypes : Context → List ℕ
+inhabited-datatypes cx = rounds cx (length (cx .sorts))
+
+-- 02 (ii): inhabited
+abbrev pub inhabited : Context → ℕ → Bool
+inhabited cx s = mem s (inhabited-datatypes cx)
+
+-- Question 10: is each datatype inhabited?
 unfoldable pub all-grounded : Context → Bool
-all-grounded cx = every (grounded cx) (keep (is-datatype-sort cx) (range 0 (length (cx .sorts))))
+all-grounded cx = every (inhabited cx) (datatypes cx)
 
 -- ---- terms
 

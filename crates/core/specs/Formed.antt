@@ -6,7 +6,7 @@ use lib.Dec.{T}
 use lib.ListN.{length, getD}
 use Rattle.core.specs.Lists.{In, mem}
 use Rattle.core.specs.Sort.{BoolSort}
-use Rattle.core.specs.Term.{Role, Constructor, Tester, Selector, Symbol, Op, Eq, Uninterpreted, Term}
+use Rattle.core.specs.Term.{Constructor, Tester, Selector, Symbol, Op, Eq, Uninterpreted, Term}
 use Rattle.core.specs.Context.{Context, sort-node, is-datatype-sort, symbol, term, children, sort-of}
 
 -- ---- signatures

@@ -7,6 +7,7 @@ pub mod Term
 pub mod Context
 pub mod Formed
 pub mod Reading
+pub mod Inhabited
 -- All these definitions by one name, for proofs by computation.
 pub mod Unfolding
 -- How a lent table holds it, and what the functions on it promise one another.

@@ -16,10 +16,10 @@ ghost use mathlib.Core.Path.{_≡_};
 ghost use Prim.Native.Nat.{_+_, _<_, _≤_};
 ghost use lib.ListN.{length, getD};
 ghost use Rattle.core.specs.Limits.{max-sorts, max-symbols, max-terms, max-places, max-params, table-words};
-ghost use Rattle.core.specs.Context.{empty-context, cut-terms, declare-sort, declare-fun, selectors-from, dt-add-constructor, builds, dt-tester, has-plain-fields, grounded, all-grounded, places, is-datatype-sort, symbol, children, sort-of};
+ghost use Rattle.core.specs.Context.{empty-context, cut-terms, declare-sort, declare-fun, selectors-from, dt-add-constructor, builds, dt-tester, datatypes, ready, has-ready-fields, all-grounded, places, is-datatype-sort, symbol, children, sort-of};
 ghost use Rattle.core.specs.Memory.Words.{put-all, stretch};
-ghost use Rattle.core.specs.Memory.Table.{POOL, sorts#, symbols#, terms#, digit, packed, param-at, node-of, op-of, term-at, context, buckets, bucket, AllBelow, ContextSound, HasParam, HasParamWord, FindsApp, MayIntern, MayApply, MayEquate, Appendable, Appended, MayDeclare, SymbolRoom, SymbolAdded, SelectorRoom, SymbolsAdded, NoTerms, NextConstructor};
-ghost use Rattle.core.specs.Lists.{same-list};
+ghost use Rattle.core.specs.Memory.Table.{POOL, sorts#, symbols#, terms#, digit, packed, param-at, node-of, op-of, term-at, context, buckets, bucket, AllBelow, ContextSound, HasParam, HasParamWord, FindsApp, MayIntern, MayApply, MayEquate, Appendable, Appended, MayDeclare, SymbolRoom, SymbolAdded, SelectorRoom, SymbolsAdded, NoTerms, NextConstructor, marked, adds, Marks, MarkRound};
+ghost use Rattle.core.specs.Lists.{every, same-list};
 ghost use Rattle.core.specs.Term.{same-term};
 ghost use Rattle.core.specs.Memory.Codes.{OpAt, RoleAt, MkApp, Declares, declared-node};
 ghost use Rattle.core.specs.Term as Term;
@@ -538,15 +538,25 @@ pub fn first_selector(c: SymbolId) -> SymbolId
 
 // ---- question 10
 
-// Has a symbol no datatype field?
-fn has_plain_fields(t: &[u32], s: usize) -> bool
-    requires { ⌜ ContextSound (now t) × (s < symbols# (now t)) ⌝ }
-    ensures { λ r. ⌜ r ≡ has-plain-fields (context (now (t .entry))) s ⌝ }
+// Is a sort no datatype, or one that was found?
+fn is_ready(t: &[u32], found: &[u32], s: usize) -> bool
+    requires { ⌜ ContextSound (now t) × (max-sorts ≤ length (now found)) × (s < sorts# (now t)) ⌝ }
+    ensures { λ r. ⌜ r ≡ ready (context (now (t .entry))) (marked (now (found .entry))) s ⌝ }
 {
-    let n = get_at(t, ARITY, s);
+    if get_at(t, SORT, s) != 1 {
+        return true;
+    }
+    get_at(found, 0, s) == 1
+}
+
+fn has_ready_fields(t: &[u32], found: &[u32], c: usize) -> bool
+    requires { ⌜ ContextSound (now t) × (max-sorts ≤ length (now found)) × (c < symbols# (now t)) ⌝ }
+    ensures { λ r. ⌜ r ≡ has-ready-fields (context (now (t .entry))) (marked (now (found .entry))) c ⌝ }
+{
+    let n = get_at(t, ARITY, c);
     let mut i = 0;
     while i < n {
-        if get_at(t, SORT, param_sort(t, s, i)) == 1 {
+        if !is_ready(t, found, param_sort(t, c, i)) {
             return false;
         }
         i += 1;
@@ -554,40 +564,64 @@ fn has_plain_fields(t: &[u32], s: usize) -> bool
     true
 }
 
-// Has a datatype a constructor with no datatype field?
-fn grounded(t: &[u32], dt: usize) -> bool
-    requires { ⌜ ContextSound (now t) ⌝ }
-    ensures { λ r. ⌜ r ≡ grounded (context (now (t .entry))) dt ⌝ }
+// Is the datatype of constructor c found by it now? Other symbols find none.
+fn adds(t: &[u32], found: &[u32], c: usize) -> bool
+    requires { ⌜ ContextSound (now t) × (max-sorts ≤ length (now found)) × (c < symbols# (now t)) ⌝ }
+    ensures { λ r. ⌜ r ≡ adds (context (now (t .entry))) (marked (now (found .entry))) c ⌝ }
 {
-    let n = get_at(t, COUNTS, SYMBOLS);
-    let mut s = 0;
-    while s < n {
-        if builds(t, dt, s) {
-            if has_plain_fields(t, s) {
-                return true;
-            }
-        }
-        s += 1;
+    if get_at(t, OWNER, c) != c + 1 {
+        return false;
     }
-    false
+    if is_ready(t, found, get_at(t, RESULT, c)) {
+        return false;
+    }
+    has_ready_fields(t, found, c)
 }
 
-// Has each datatype a constructor with no datatype field?
-pub fn all_grounded(t: &[u32]) -> bool
-    requires { ⌜ ContextSound (now t) ⌝ }
-    ensures { λ r. ⌜ r ≡ all-grounded (context (now (t .entry))) ⌝ }
+// Marks the datatypes that the symbols find, in their order; one that is marked counts at once for those after it. Was any added?
+fn mark_round(t: &[u32], found: &mut [u32]) -> bool
+    requires { ⌜ ContextSound (now t) × Marks (now t) (now found) ⌝ }
+    ensures { λ r. ⌜ MarkRound (now (t .entry)) (now (found .entry)) r (now (found .exit)) ⌝ }
+{
+    let n = get_at(t, COUNTS, SYMBOLS);
+    let mut added = false;
+    let mut c = 0;
+    while c < n {
+        if adds(t, found, c) {
+            put_at(found, 0, get_at(t, RESULT, c), 1);
+            added = true;
+        }
+        c += 1;
+    }
+    added
+}
+
+fn all_found(t: &[u32], found: &[u32]) -> bool
+    requires { ⌜ ContextSound (now t) × (max-sorts ≤ length (now found)) ⌝ }
+    ensures { λ r. ⌜ r ≡ every (marked (now (found .entry))) (datatypes (context (now (t .entry)))) ⌝ }
 {
     let n = get_at(t, COUNTS, SORTS);
     let mut s = 0;
     while s < n {
-        if get_at(t, SORT, s) == 1 {
-            if !grounded(t, s) {
-                return false;
-            }
+        if !is_ready(t, found, s) {
+            return false;
         }
         s += 1;
     }
     true
+}
+
+// Is each datatype inhabited? Each round but the last finds one, and Bool is none: at most as many rounds as sorts, each over all symbols.
+pub fn all_grounded(t: &[u32]) -> bool
+    requires { ⌜ ContextSound (now t) ⌝ }
+    ensures { λ r. ⌜ r ≡ all-grounded (context (now (t .entry))) ⌝ }
+{
+    let mut found = [0u32; MAX_SORTS];
+    let mut more = true;
+    while more {
+        more = mark_round(t, &mut found);
+    }
+    all_found(t, &found)
 }
 
 // How many argument places the terms take.

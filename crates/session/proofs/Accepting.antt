@@ -17,6 +17,7 @@ use Rattle.core.specs.Sort.{SortNode}
 use Rattle.core.specs.Context.{Context, Made, CtorApp, TesterApp, term, all-grounded, sort-of, symbol, tester-app, declare-sort, dt-add-constructor, declare-fun, with-symbols, is-datatype-sort, mk-app, mk-eq}
 use Rattle.core.specs.Reading.{Reading}
 use Rattle.core.proofs.Lists.{In, T-true, every-in, same-list-eq}
+use Rattle.core.proofs.Inhabited.{grounded-kept}
 use Rattle.core.proofs.Readings.{has-reading}
 use Rattle.theory.specs.Types.{EqLeaf}
 use Rattle.theory.specs.EqEngine.{Merge}
@@ -31,7 +32,7 @@ use Rattle.solver.specs.Rules.{Phase, TCheck, Conflict, Split}
 use Rattle.solver.specs.Check as Check
 use Rattle.solver.specs.Check.{before-ring}
 use Rattle.solver.proofs.Basics.{Ascending, none-some, some-none, T-no, false-T}
-use Rattle.solver.proofs.Terms.{Extends, extends-sorts, extends-symbols, Below, Agrees, Formed, Makes, mk-app-makes, mk-app-formed, app}
+use Rattle.solver.proofs.Terms.{extends-sorts, extends-symbols, Below, Agrees, Formed, Makes, mk-app-makes, mk-app-formed, app}
 use Rattle.solver.proofs.Signature.{Signed, sort-signed, fun-signed, ctor-signed}
 use Rattle.solver.proofs.Apps.{op-is, ctor-app-is, tester-app-is}
 use Rattle.solver.proofs.Walk.{class-ctor}
@@ -294,13 +295,10 @@ follows-inv s h d st I c q l z F =
       bool-there = subst⁻¹ (λ (ss : List SortNode). 0 < length ss) (extends-sorts (s .state .terms) (st .terms) (F .extends)) (I .bool-there);
       sorts = extends-sorts (s .state .terms) (st .terms) (F .extends) ∙ I .sorts ∙ ap (λ (y : Context). y .sorts) (sym z);
       symbols = extends-symbols (s .state .terms) (st .terms) (F .extends) ∙ I .symbols ∙ ap (λ (y : Context). y .symbols) (sym z);
-      grounded = λ t. grounded-kept (F .extends) (I .grounded t);
+      grounded = λ t. grounded-kept (s .state .terms) (st .terms) (F .extends) (I .grounded t);
       unmade = λ e. absurd (T-open (s .closed) c e);
       relevant-back = λ a i t m r. subst T (relevant-kept (s .state .terms) (st .terms) t (F .extends) m) r;
     })
-  where
-    grounded-kept : Extends (s .state .terms) (st .terms) → T (all-grounded (s .state .terms)) → T (all-grounded (st .terms))
-    grounded-kept (new, e) t = subst⁻¹ (λ (y : Context). T (all-grounded y)) e (unfold all-grounded Rattle.core.specs.Context.grounded Rattle.core.specs.Context.dt-constructors Rattle.core.specs.Context.has-plain-fields Rattle.core.specs.Context.builds is-datatype-sort Rattle.core.specs.Context.sort-node symbol in t)
 
 -- ---- terms
 

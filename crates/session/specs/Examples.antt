@@ -227,3 +227,68 @@ negatives =
 pub negatives-shown : T (every row-holds negatives)
 unfolding definitions setting setting-answers row-holds negatives
 negatives-shown = tt
+
+-- 02 (ii): a table of signatures, each row a whole script
+unfoldable pub closing-holds : Row → Bool
+closing-holds r = same-list (run program-sizes (bytes (r .script)) .written) (bytes (r .answers))
+
+pub closings : List Row
+closings =
+    -- a node over a list of nodes: the empty list gives a first tree
+    record { script = "sort=d\nsort=d\nctor=1,2\nctor=2\nctor=2,1,2\nclose=1\n"; answers = "ok=1\nok=1\nok=1\nok=1\nok=1\nok=1\n" }
+    -- a node over a list that is never empty
+    ∷ record { script = "sort=d\nsort=d\nctor=1,2\nctor=2,1,2\nclose=1\n"; answers = "ok=1\nok=1\nok=1\nok=1\nrefused=10\n" }
+    -- found in three rounds, against the order of the datatypes and with it
+    ∷ record {
+      script = "sort=d\nsort=d\nsort=d\nctor=1,2\nctor=2,3\nctor=3\nclose=1\n";
+      answers = "ok=1\nok=1\nok=1\nok=1\nok=1\nok=1\nok=1\n";
+    }
+    ∷ record {
+      script = "sort=d\nsort=d\nsort=d\nctor=1\nctor=2,1\nctor=3,2\nclose=1\n";
+      answers = "ok=1\nok=1\nok=1\nok=1\nok=1\nok=1\nok=1\n";
+    }
+    -- five that need each other, one of which has a constructor without fields
+    ∷ record {
+      script = "sort=d\nsort=d\nsort=d\nsort=d\nsort=d\nctor=1,2\nctor=2,3\nctor=3,4\nctor=4,5\nctor=5,1\nctor=5\nclose=1\n";
+      answers = "ok=1\nok=1\nok=1\nok=1\nok=1\nok=1\nok=1\nok=1\nok=1\nok=1\nok=1\nok=1\n";
+    }
+    -- none of which has one; a refused `close` closes nothing, so it can be declared then
+    ∷ record {
+      script = "sort=d\nsort=d\nsort=d\nsort=d\nsort=d\nctor=1,2\nctor=2,3\nctor=3,4\nctor=4,5\nctor=5,1\nclose=1\nctor=3,0\nclose=1\n";
+      answers = "ok=1\nok=1\nok=1\nok=1\nok=1\nok=1\nok=1\nok=1\nok=1\nok=1\nrefused=10\nok=1\nok=1\n";
+    }
+    -- all fields of a constructor have to be of datatypes that were found
+    ∷ record {
+      script = "sort=d\nsort=d\nsort=d\nctor=1\nctor=2,1,3\nctor=3,2\nclose=1\n";
+      answers = "ok=1\nok=1\nok=1\nok=1\nok=1\nok=1\nrefused=10\n";
+    }
+    ∷ record {
+      script = "sort=d\nsort=d\nsort=d\nctor=1,2,3\nctor=2\nctor=3,2,3\nclose=1\n";
+      answers = "ok=1\nok=1\nok=1\nok=1\nok=1\nok=1\nrefused=10\n";
+    }
+    -- its other constructor is tried too
+    ∷ record {
+      script = "sort=d\nsort=d\nctor=1,1,2\nctor=1,2\nctor=2,1\nctor=2,0\nclose=1\n";
+      answers = "ok=1\nok=1\nok=1\nok=1\nok=1\nok=1\nok=1\n";
+    }
+    -- a datatype without constructors, also one that no field is of
+    ∷ record { script = "sort=d\nsort=d\nctor=1,2\nclose=1\n"; answers = "ok=1\nok=1\nok=1\nrefused=10\n" }
+    ∷ record { script = "sort=d\nsort=d\nctor=1\nclose=1\nctor=2,1\nclose=1\n"; answers = "ok=1\nok=1\nok=1\nrefused=10\nok=1\nok=1\n" }
+    -- a function is no constructor
+    ∷ record { script = "sort=d\nfun=1\nclose=1\n"; answers = "ok=1\nok=1\nrefused=10\n" }
+    -- Bool and a sort that is no datatype, and each of them alone
+    ∷ record { script = "sort=u\nsort=d\nctor=2,1\nclose=1\n"; answers = "ok=1\nok=1\nok=1\nok=1\n" }
+    ∷ record { script = "sort=d\nctor=1,0\nclose=1\n"; answers = "ok=1\nok=1\nok=1\n" }
+    ∷ record { script = "sort=d\nsort=u\nctor=1,0,2\nclose=1\n"; answers = "ok=1\nok=1\nok=1\nok=1\n" }
+    -- no datatype
+    ∷ record { script = "sort=u\nfun=1\nclose=1\n"; answers = "ok=1\nok=1\nok=1\n" }
+    -- lines go on: the lemma hands out the testers of a datatype that is found in the second round
+    ∷ record {
+      script = "sort=d\nsort=d\nctor=1,2\nctor=1,1\nctor=2\nfun=1\nclose=1\nterm=8\ncheck=1\nterm=1,0\nvar=0,1\ncheck=1\n";
+      answers = "ok=1\nok=1\nok=1\nok=1\nok=1\nok=1\nok=1\nterm=0\nsat=1\nterm=1\nok=1\nsplit=1,2;;-,-\n";
+    }
+    ∷ []
+
+pub closings-shown : T (every closing-holds closings)
+unfolding definitions closing-holds closings
+closings-shown = tt

@@ -98,7 +98,7 @@ congruent s t u = record {
   refusal = NotCongruent;
 }
 
--- 10. For `close`: has each datatype a constructor with no datatype field?
+-- 10. For `close`: is each datatype inhabited?
 unfoldable pub inhabited : Session → Asked
 inhabited s = record { yes = all-grounded (s .state .terms); refusal = NotGrounded }
 

@@ -7,11 +7,12 @@ use mathlib.Core.List.{List, [], _∷_, _++_, foldl, reverse, reverse-cons}
 use mathlib.Core.Option.{Option, none, some, Option·some-injective}
 use native.Mathlib.Omega.{arith}
 use native.Mathlib.Decide.{ℕ-discrete}
-use lib.Dec.{T, eqb, ltb, eqb→eq, eqb-refl}
+use lib.Dec.{T, eqb, ltb, eqb→eq}
 use borrow.Author.Tests.{ltb-true, ltb-false, eq-eqb, ne-eqb}
-use Rattle.core.specs.Lists.{first, beside, pairs, cons-option, gather, mem, insert}
-use Rattle.core.proofs.Lists.{In, any-in, true-T}
-use Rattle.theory.proofs.Members.{in-any, in-left, in-right, in-either}
+use Rattle.core.specs.Lists.{first, beside, pairs, cons-option, gather, insert}
+pub use Rattle.core.proofs.Lists.{mem-in, in-mem}
+use Rattle.core.proofs.Lists.{In, true-T}
+use Rattle.theory.proofs.Members.{in-left, in-right, in-either}
 
 -- ---- options
 
@@ -52,14 +53,6 @@ eqb-same p q r t f g = go (ℕ-discrete p q)
     go (no d) = ne-eqb p q d ∙ sym (ne-eqb r t (λ e. d (g e)))
 
 -- ---- sets of numbers
-
-pub mem-in : (x : ℕ) (ys : List ℕ) → T (mem x ys) → In x ys
-unfolding mem
-mem-in x ys t = let (y, i, e) = any-in (eqb x) ys t in subst⁻¹ (λ (z : ℕ). In z ys) (eqb→eq x y e) i
-
-pub in-mem : (x : ℕ) (ys : List ℕ) → In x ys → T (mem x ys)
-unfolding mem
-in-mem x ys i = in-any (eqb x) ys x i (eqb-refl x)
 
 pub insert-in : (x y : ℕ) (ys : List ℕ) → In x (insert y ys) → (x ≡ y) ⊎ In x ys
 unfolding insert

@@ -14,12 +14,13 @@ use borrow.Author.Tests.{eq-eqb, eqb-true}
 use lib.ListN.{length, getD, getElem?, length-append, List·getD-eq-default}
 use Rattle.core.specs.Lists.{range, first, insert, pairs}
 use Rattle.core.specs.Ids.{lit, negate}
-use Rattle.core.specs.Sort.{SortNode, BoolSort, Datatype, Uninterpreted, is-datatype, is-bool, is-uninterpreted}
+use Rattle.core.specs.Sort.{SortNode, is-datatype}
 use Rattle.core.specs.Term as Term
 use Rattle.core.specs.Term.{Term, Op, Eq, Symbol, Role, Constructor, Tester, Selector, Function}
 use Rattle.core.specs.Context.{Context, CtorApp, SelApp, TesterApp, sort-node, is-datatype-sort, symbol, is-constructor, builds, dt-constructors, dt-tester, dt-selectors, term, no-term, children, sort-of, result-of, sel-app, tester-app}
 use Rattle.core.specs.Reading.{Reading, Value, Values, truth, element, tree, nil, cons, HasSort, HasSorts, built-by, field, own-field, same-value, value}
-use Rattle.core.proofs.Lists.{In, T-and, T-true, true-T, keep-in, in-keep, in-range, range-in}
+use Rattle.core.proofs.Symbols.{node-apart, node-other, builds-in, in-builds}
+use Rattle.core.proofs.Lists.{In, T-and, T-true, true-T, keep-in, range-in}
 use Rattle.theory.specs.Atom.{var-of-atom}
 use Rattle.theory.proofs.Members.{in-left, in-right}
 use Rattle.solver.specs.State.{State, MadeIn, with-dt, with-split-done, ctor-apps, sel-apps, testers, watched-dt-terms, equal, ctor-of-class, make-app, mint}
@@ -27,7 +28,7 @@ use Rattle.solver.specs.Records.{is-some}
 use Rattle.solver.specs.Rules.{Split, pass, try-each, hand-out-made, make-eq, equate-field, collapse-field, collapse-at, collapse-lemma, tester-lemma-at, tester-lemma, Fields, mint-field, mint-fields, guard, equate-with, instantiate, instantiate-at, instantiate-constructor, Testers, make-tester, phase, split-on, to-split, split-answer, exhaustiveness-split, same-constructor, mint-on-both, mint-selectors, instantiate-injectivity-selectors}
 use Rattle.solver.proofs.Basics.{none-some, some-is, gather-in, first-some, pairs-in, fold-keeps}
 use Rattle.solver.proofs.Terms.{Extends, extends-self, extends-then, extends-length, extends-symbol, extends-term, extends-sort-of, Agrees, Below, Formed, app}
-use Rattle.solver.proofs.Signature.{TesterIs, SelectorIs, Signed, declared-role, constructor-function, extends-sort-node}
+use Rattle.solver.proofs.Signature.{TesterIs, SelectorIs, Signed, extends-sort-node}
 use Rattle.solver.proofs.Values.{values-of, same-value-refl, value-sorted}
 use Rattle.solver.proofs.Apps.{IsCtor, IsTester, tester-app-is, IsSel, sel-app-is, app-within, ctor-value, test-value, select-value, equation-is}
 use Rattle.solver.proofs.Clash.{Ready, ctor-in}
@@ -556,18 +557,6 @@ injectivity-follows s R =
 
 -- ---- exhaustiveness
 
-node-apart : (n : SortNode) → T (is-bool n) → T (is-datatype n) → ⊥
-unfolding is-bool is-datatype
-node-apart BoolSort a b = b
-node-apart Datatype a b = a
-node-apart Uninterpreted a b = b
-
-node-other : (n : SortNode) → T (is-uninterpreted n) → T (is-datatype n) → ⊥
-unfolding is-uninterpreted is-datatype
-node-other BoolSort a b = b
-node-other Datatype a b = a
-node-other Uninterpreted a b = b
-
 -- a value of a datatype is built by one of its constructors
 datatype-tree : {E : Type 0} (cx : Context) (domain : ℕ → E → Type 0) (v : Value E) (s : ℕ) → HasSort cx domain v s → T (is-datatype-sort cx s) → (c : ℕ) × (vs : Values E) × (v ≡ tree c vs) × T (builds cx s c)
 unfolding is-datatype-sort
@@ -587,16 +576,6 @@ unfolding builds
 builds-is cx dt c t =
     let (a, b) = T-and (is-constructor (symbol cx c .role)) (eqb (symbol cx c .result) dt) t in
     (is-ctor-role (symbol cx c .role) a, eqb→eq (symbol cx c .result) dt b)
-
-builds-in : (cx : Context) (dt c : ℕ) → T (builds cx dt c) → In c (dt-constructors cx dt)
-unfolding dt-constructors
-builds-in cx dt c t =
-    let l = declared-role cx c (λ e. constructor-function (sym (builds-is cx dt c t .0) ∙ e)) in
-    in-keep (builds cx dt) (range 0 (length (cx .symbols))) c (in-range 0 (length (cx .symbols)) c (omega arith) (omega arith)) t
-
-in-builds : (cx : Context) (dt c : ℕ) → In c (dt-constructors cx dt) → T (builds cx dt c)
-unfolding dt-constructors
-in-builds cx dt c i = keep-in (builds cx dt) (range 0 (length (cx .symbols))) c i .1
 
 pub builds-kept : (a b : Context) (dt c : ℕ) → Extends a b → T (builds b dt c) → T (builds a dt c)
 unfolding builds

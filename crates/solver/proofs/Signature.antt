@@ -14,7 +14,7 @@ use Rattle.core.specs.Sort.{SortNode, BoolSort, is-datatype}
 use Rattle.core.specs.Context.{Context, empty-context, with-symbols, declare-sort, selectors-from, constructor-symbols, dt-add-constructor, declare-fun, sort-node, is-datatype-sort, symbol, no-symbol, is-constructor}
 pub use Rattle.core.specs.Formed.{TesterIs, SelectorIs, Signed}
 use Rattle.core.specs.Reading.{is-function, is-selector}
-use Rattle.core.proofs.Readings.{datatype-in-range}
+use Rattle.core.proofs.Inhabited.{datatype-in-range}
 use Rattle.core.proofs.Symbols.{symbol-count}
 use Rattle.solver.proofs.Terms.{Extends, extends-sorts}
 

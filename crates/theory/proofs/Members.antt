@@ -1,18 +1,8 @@
--- Tests joined by `||`; membership in appended lists, for `any`, and in lists without repetition.
-use Rattle.core.proofs.Kit.{suc, _≤_, _≡_, refl, sym, ap, _∙_, _⊎_, inl, inr, ⊎-elim, ⊎-map, Bool, true, false, _||_, List, [], _∷_, _++_, arith, T, length}
+-- Membership in appended lists and in lists without repetition.
+use Rattle.core.proofs.Kit.{suc, _≤_, _≡_, refl, sym, ap, _∙_, _⊎_, inl, inr, ⊎-elim, ⊎-map, List, [], _∷_, _++_, arith, length}
 pub use Rattle.core.specs.Lists.{Apart}
-use Rattle.core.specs.Lists.{any}
-use Rattle.core.proofs.Lists.{In, T-true, cond-both}
-
--- ---- tests
-
-pub T-or : (a b : Bool) → T (a || b) → T a ⊎ T b
-T-or true b t = inl tt
-T-or false b t = inr t
-
-pub T-left : (a b : Bool) → T a → T (a || b)
-T-left true b t = tt
-T-left false b t = absurd t
+pub use Rattle.core.proofs.Lists.{T-or, T-left, in-any}
+use Rattle.core.proofs.Lists.{In}
 
 -- ---- members
 
@@ -30,13 +20,6 @@ module _ {A : Type 0} where
   in-either x [] t i = inr i
   in-either x (y ∷ s) t (inl e) = inl (inl e)
   in-either x (y ∷ s) t (inr i) = ⊎-map inr (λ j. j) (in-either x s t i)
-
-  -- any passes where an element does
-  pub in-any : (p : A → Bool) (xs : List A) (x : A) → In x xs → T (p x) → T (any p xs)
-  unfolding any
-  in-any p [] x i t = absurd i
-  in-any p (y ∷ ys) x (inl e) t = let d = T-true (p y) (rw (sym e) t) in rw d tt
-  in-any p (y ∷ ys) x (inr i) t = let d = T-true (any p ys) (in-any p ys x i t) in rw (d, cond-both) tt
 
   -- a list without one of its elements
   record Without (x : A) (ys : List A) : Type 0 where

@@ -1,10 +1,10 @@
 -- Constructors of a datatype, and question 10, by the words of the table.
-use Rattle.core.proofs.Kit.{ℕ, zero, suc, _+_, _-_, _≤_, _<_, _≡_, refl, sym, ap, ap₂, _∙_, Bool, true, false, not, _&&_, List, arith, eq-eqb, ne-eqb, eqb}
-use Rattle.core.specs.Lists.{keep, every, any, range}
-use Rattle.core.specs.Context.{is-constructor, is-datatype-sort, symbol, builds, dt-constructors, has-plain-fields, grounded, all-grounded}
+use Rattle.core.proofs.Kit.{ℕ, zero, suc, _+_, _-_, _≤_, _<_, _≡_, refl, sym, ap, _∙_, Bool, true, false, not, _&&_, _||_, List, arith, eq-eqb, ne-eqb, eqb, length}
+use Rattle.core.specs.Lists.{In, every, any, range}
+use Rattle.core.specs.Context.{is-constructor, is-datatype-sort, builds, datatypes, ready, has-ready-fields}
 use Rattle.core.specs.Memory.Words.{at, counted}
-use Rattle.core.specs.Memory.Table.{SORT, OWNER, RESULT, ARITY, sorts#, symbols#, role-of, member-role, param-at, context, ContextSound, NextConstructor}
-use Rattle.core.proofs.Lists.{and-no}
+use Rattle.core.specs.Memory.Table.{SORT, OWNER, RESULT, ARITY, sorts#, symbols#, role-of, member-role, param-at, context, ContextSound, NextConstructor, marked, adds}
+use Rattle.core.proofs.Lists.{any-same}
 use Rattle.core.proofs.Memory.Codes.{ctor-role}
 use Rattle.core.proofs.Memory.Counted.{counted-range}
 use Rattle.core.proofs.Memory.Searching.{Searched, search-next, any-found, any-missing, every-by-any, any-kept}
@@ -46,101 +46,96 @@ module _ (t : List ℕ) (dt : ℕ) {from s n : ℕ} (w : Searched (builds (conte
       let h = w .within in
       record { after = w .after; within = omega arith; between = w .none; here = λ g. absurd (omega arith) }
 
+-- ---- question 10: sorts
+
+module _ (t m : List ℕ) (s r : ℕ) (h : s < sorts# t) (e : r ≡ at t SORT s) where
+  pub other-ready : (r ≡ 1 → ⊥) → true ≡ ready (context t) (marked m) s
+  unfolding ready
+  other-ready n = rw (← datatype-word t s r h e, ne-eqb r 1 n)
+
+  pub datatype-ready : (w : ℕ) → r ≡ 1 → w ≡ at m 0 s → eqb w 1 ≡ ready (context t) (marked m) s
+  unfolding ready marked
+  datatype-ready w q f = rw (← datatype-word t s r h e, eq-eqb r 1 q, f)
+
+-- a sort is not ready
+abbrev pub Unready : List ℕ → List ℕ → ℕ → Bool
+Unready t m s = not (ready (context t) (marked m) s)
+
 -- ---- question 10: fields
 
--- field i of symbol s is no plain one
-unfoldable pub DatatypeField : List ℕ → ℕ → ℕ → Bool
-DatatypeField t s i = not (not (is-datatype-sort (context t) (param-at t s i)))
+-- field i of symbol c is not ready
+abbrev pub UnreadyField : List ℕ → List ℕ → ℕ → ℕ → Bool
+UnreadyField t m c i = Unready t m (param-at t c i)
 
-module _ (t : List ℕ) (s n : ℕ) (e : n ≡ at t ARITY s) where
-  abbrev field-test : ℕ → Bool
-  field-test f = not (not (is-datatype-sort (context t) f))
+module _ (t m : List ℕ) (c n : ℕ) (e : n ≡ at t ARITY c) where
+  fields-are : c < symbols# t → not (any (Unready t m) (counted (param-at t c) n)) ≡ has-ready-fields (context t) (marked m) c
+  unfolding has-ready-fields
+  fields-are h =
+      sym (every-by-any (ready (context t) (marked m)) (counted (param-at t c) n))
+      ∙ ap (every (ready (context t) (marked m))) (ap (counted (param-at t c)) e ∙ sym (params-are t c h))
 
-  plain-fields : s < symbols# t → not (any field-test (counted (param-at t s) n)) ≡ has-plain-fields (context t) s
-  unfolding has-plain-fields
-  plain-fields h =
-      sym (every-by-any (λ f. not (is-datatype-sort (context t) f)) (counted (param-at t s) n))
-      ∙ ap (every (λ f. not (is-datatype-sort (context t) f))) (ap (counted (param-at t s)) e ∙ sym (params-are t s h))
+  module _ (i p : ℕ) (r : Bool) (l : i < n) (q : p ≡ param-at t c i) (w : r ≡ ready (context t) (marked m) p) where
+    field-word : UnreadyField t m c i ≡ not r
+    field-word = ap (λ (x : ℕ). Unready t m x) (sym q) ∙ ap not (sym w)
 
-  module _ (i p r : ℕ) (l : i < n) (q : p ≡ param-at t s i) (d : p < sorts# t) (w : r ≡ at t SORT p) where
-    field-word : DatatypeField t s i ≡ not (not (eqb r 1))
-    unfolding DatatypeField
-    field-word = ap (λ (b : Bool). not (not b)) (ap (is-datatype-sort (context t)) (sym q) ∙ sym (datatype-word t p r d w))
+    pub field-ready : Searched (UnreadyField t m c) 0 i n → not r ≡ false → Searched (UnreadyField t m c) 0 (i + 1) n
+    field-ready v o = search-next v l (field-word ∙ o)
 
-    pub field-next : Searched (DatatypeField t s) 0 i n → (r ≡ 1 → ⊥) → Searched (DatatypeField t s) 0 (i + 1) n
-    field-next v o = search-next v l (field-word ∙ ap (λ (b : Bool). not (not b)) (ne-eqb r 1 o))
+    pub field-unready : c < symbols# t → not r ≡ true → false ≡ has-ready-fields (context t) (marked m) c
+    field-unready h o = sym (ap not (any-found (Unready t m) (param-at t c) n i l (field-word ∙ o))) ∙ fields-are h
 
-    pub field-is-datatype : s < symbols# t → r ≡ 1 → false ≡ has-plain-fields (context t) s
-    unfolding DatatypeField
-    field-is-datatype h o =
-        let d = field-word ∙ ap (λ (b : Bool). not (not b)) (eq-eqb r 1 o) in
-        sym (ap not (any-found field-test (param-at t s) n i l d)) ∙ plain-fields h
+  pub fields-ready : (i : ℕ) → c < symbols# t → n ≤ i → Searched (UnreadyField t m c) 0 i n →
+      true ≡ has-ready-fields (context t) (marked m) c
+  fields-ready i h l w = sym (ap not (any-missing (Unready t m) (param-at t c) n (λ k a b. w .none k a (omega arith)))) ∙ fields-are h
 
-  pub fields-are-plain : (i : ℕ) → s < symbols# t → n ≤ i → Searched (DatatypeField t s) 0 i n → true ≡ has-plain-fields (context t) s
-  unfolding DatatypeField
-  fields-are-plain i h l w =
-      sym (ap not (any-missing field-test (param-at t s) n (λ k a b. w .none k a (omega arith)))) ∙ plain-fields h
+-- ---- question 10: a datatype is found by its constructor
 
--- ---- datatypes
+pub result-declared : (t : List ℕ) (c p : ℕ) → ContextSound t → c < symbols# t → p ≡ at t RESULT c → p < sorts# t
+result-declared t c p z h f = let k = z .symbols c h .result in omega arith
 
--- symbol s builds dt and has no datatype field
-unfoldable pub Grounds : List ℕ → ℕ → ℕ → Bool
-Grounds t dt s = builds (context t) dt s && has-plain-fields (context t) s
+module _ (t m : List ℕ) (c w : ℕ) (h : c < symbols# t) (e : w ≡ at t OWNER c) where
+  pub other-adds : ContextSound t → (w ≡ c + 1 → ⊥) → false ≡ adds (context t) (marked m) c
+  unfolding adds
+  other-adds z n = rw (← role-is t c h, role-not c (at t OWNER c) (z .symbols c h .owner) (λ q. n (e ∙ q)))
 
-module _ (t : List ℕ) (dt s : ℕ) {r : Bool} where
-  pub not-built : r ≡ builds (context t) dt s → r ≡ false → Grounds t dt s ≡ false
-  unfolding Grounds
-  not-built e q = rw (sym e ∙ q)
+  module _ (p : ℕ) (r : Bool) (q : w ≡ c + 1) (f : p ≡ at t RESULT c) (g : r ≡ ready (context t) (marked m) p) where
+    -- the test of a constructor
+    constructor-adds : adds (context t) (marked m) c ≡ (not r && has-ready-fields (context t) (marked m) c)
+    unfolding adds is-constructor
+    constructor-adds = rw (← role-is t c h, ← e, q, ctor-role c, ← result-is t c h, ← f, ← g)
 
-  pub not-plain : r ≡ has-plain-fields (context t) s → r ≡ false → Grounds t dt s ≡ false
-  unfolding Grounds
-  not-plain e q = rw (sym e ∙ q) (and-no (builds (context t) dt s))
+    pub ready-adds : r ≡ true → false ≡ adds (context t) (marked m) c
+    ready-adds o = sym (constructor-adds ∙ ap (λ (b : Bool). not b && has-ready-fields (context t) (marked m) c) o)
 
-module _ (t : List ℕ) (dt n : ℕ) (e : n ≡ symbols# t) where
-  grounded-is : any (Grounds t dt) (counted (λ i. i) n) ≡ grounded (context t) dt
-  unfolding grounded dt-constructors Grounds
-  grounded-is =
-      ap (any (Grounds t dt)) (counted-range n)
-      ∙ sym (any-kept (builds (context t) dt) (has-plain-fields (context t)) (range 0 n))
-      ∙ ap (λ (m : ℕ). any (has-plain-fields (context t)) (keep (builds (context t) dt) (range 0 m))) (e ∙ sym (symbols-length t))
+    pub fields-add : (b : Bool) → r ≡ false → b ≡ has-ready-fields (context t) (marked m) c → b ≡ adds (context t) (marked m) c
+    fields-add b o k = k ∙ sym (constructor-adds ∙ ap (λ (b : Bool). not b && has-ready-fields (context t) (marked m) c) o)
 
-  pub grounded-by : (s : ℕ) (b p : Bool) → s < n → b ≡ builds (context t) dt s → b ≡ true → p ≡ has-plain-fields (context t) s →
-      p ≡ true → true ≡ grounded (context t) dt
-  unfolding Grounds
-  grounded-by s b p h f q g r =
-      sym (any-found (Grounds t dt) (λ i. i) n s h (ap₂ (λ (x y : Bool). x && y) (sym f ∙ q) (sym g ∙ r))) ∙ grounded-is
+-- ---- question 10: all datatypes
 
-  pub not-grounded : (s : ℕ) → n ≤ s → Searched (Grounds t dt) 0 s n → false ≡ grounded (context t) dt
-  not-grounded s h w = sym (any-missing (Grounds t dt) (λ i. i) n (λ k a b. w .none k a (omega arith))) ∙ grounded-is
-
--- sort s is a datatype that is not grounded
-unfoldable pub Ungrounded : List ℕ → ℕ → Bool
-Ungrounded t s = is-datatype-sort (context t) s && not (grounded (context t) s)
-
-pub other-sort : (t : List ℕ) (s r : ℕ) → s < sorts# t → r ≡ at t SORT s → (r ≡ 1 → ⊥) → Ungrounded t s ≡ false
-unfolding Ungrounded
-other-sort t s r h e n = rw (sym (datatype-word t s r h e) ∙ ne-eqb r 1 n)
-
-pub is-grounded : (t : List ℕ) (s : ℕ) {r : Bool} → r ≡ grounded (context t) s → not r ≡ false → Ungrounded t s ≡ false
-unfolding Ungrounded
-is-grounded t s e q = rw (sym (ap not e) ∙ q) (and-no (is-datatype-sort (context t) s))
-
-module _ (t : List ℕ) (n : ℕ) (e : n ≡ sorts# t) where
-  all-grounded-is : not (any (Ungrounded t) (counted (λ i. i) n)) ≡ all-grounded (context t)
-  unfolding all-grounded Ungrounded
-  all-grounded-is =
+module _ (t m : List ℕ) (n : ℕ) (e : n ≡ sorts# t) where
+  all-found-is : not (any (Unready t m) (counted (λ i. i) n)) ≡ every (marked m) (datatypes (context t))
+  unfolding datatypes ready
+  all-found-is =
       ap not
-      (ap (any (Ungrounded t)) (counted-range n)
-      ∙ sym (any-kept (is-datatype-sort (context t)) (λ s. not (grounded (context t) s)) (range 0 n)))
-      ∙ sym (every-by-any (grounded (context t)) (keep (is-datatype-sort (context t)) (range 0 n)))
-      ∙ ap (λ (m : ℕ). every (grounded (context t)) (keep (is-datatype-sort (context t)) (range 0 m))) (e ∙ sym (sorts-length t))
+      (ap (any (Unready t m)) (counted-range n ∙ ap (range 0) (e ∙ sym (sorts-length t)))
+      ∙ any-same (Unready t m) (λ s. is-datatype-sort (context t) s && not (marked m s)) (range 0 (length (context t .sorts))) each
+      ∙ sym (any-kept (is-datatype-sort (context t)) (λ s. not (marked m s)) (range 0 (length (context t .sorts)))))
+      ∙ sym (every-by-any (marked m) (datatypes (context t)))
+    where
+      turn : (a b : Bool) → not (not a || b) ≡ (a && not b)
+      turn true b = refl
+      turn false b = refl
 
-  pub one-not-grounded : (s r : ℕ) (g : Bool) → s < n → r ≡ at t SORT s → r ≡ 1 → g ≡ grounded (context t) s → not g ≡ true →
-      false ≡ all-grounded (context t)
-  unfolding Ungrounded
-  one-not-grounded s r g h w o f q =
-      let d = sym (datatype-word t s r (omega arith) w) ∙ eq-eqb r 1 o in
-      sym (ap not (any-found (Ungrounded t) (λ i. i) n s h (ap₂ (λ (x y : Bool). x && y) d (ap not (sym f) ∙ q)))) ∙ all-grounded-is
+      each : (s : ℕ) → In s (range 0 (length (context t .sorts))) → Unready t m s ≡ (is-datatype-sort (context t) s && not (marked m s))
+      each s i = turn (is-datatype-sort (context t) s) (marked m s)
 
-  pub each-grounded : (s : ℕ) → n ≤ s → Searched (Ungrounded t) 0 s n → true ≡ all-grounded (context t)
-  each-grounded s h w = sym (ap not (any-missing (Ungrounded t) (λ i. i) n (λ k a b. w .none k a (omega arith)))) ∙ all-grounded-is
+  pub one-unready : (s : ℕ) (r : Bool) → s < n → r ≡ ready (context t) (marked m) s → not r ≡ true →
+      false ≡ every (marked m) (datatypes (context t))
+  one-unready s r h w o = sym (ap not (any-found (Unready t m) (λ i. i) n s h (ap not (sym w) ∙ o))) ∙ all-found-is
+
+  pub sort-ready : (s : ℕ) (r : Bool) → Searched (Unready t m) 0 s n → s < n → r ≡ ready (context t) (marked m) s → not r ≡ false →
+      Searched (Unready t m) 0 (s + 1) n
+  sort-ready s r v h w o = search-next v h (ap not (sym w) ∙ o)
+
+  pub sorts-ready : (s : ℕ) → n ≤ s → Searched (Unready t m) 0 s n → true ≡ every (marked m) (datatypes (context t))
+  sorts-ready s h w = sym (ap not (any-missing (Unready t m) (λ i. i) n (λ k a b. w .none k a (omega arith)))) ∙ all-found-is

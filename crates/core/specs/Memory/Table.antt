@@ -2,16 +2,17 @@
 use Prim.Native.Nat.{ℕ, zero, suc, _+_, _-_, _*_, _/_, _%_, _≤_, _<_}
 use mathlib.Core.Path.{_≡_}
 use mathlib.Core.List.{List, [], _∷_}
-use mathlib.Core.Bool.{true, false, cond}
+use mathlib.Core.Bool.{Bool, true, false, cond, not, _&&_}
 use mathlib.Core.Option.{none, some}
-use lib.Dec.{eqb}
+use lib.Dec.{T, eqb}
 use lib.ListN.{length, getD}
 use Rattle.core.specs.Limits.{max-sorts, max-symbols, max-terms, max-places, max-params, table-words}
-use Rattle.core.specs.Lists.{place-from}
+use Rattle.core.specs.Lists.{keep, place-from, range}
 use Rattle.core.specs.Sort.{SortNode, BoolSort, Datatype, Uninterpreted}
 use Rattle.core.specs.Term as Term
 use Rattle.core.specs.Term.{Role, Constructor, Tester, Selector, Function, Symbol, Op, Eq, Term, same-term}
-use Rattle.core.specs.Context.{Context, with-symbols, intern, builds, symbol}
+use Rattle.core.specs.Context.{Context, with-symbols, intern, is-constructor, builds, symbol, ready, has-ready-fields, inhabited}
+use Rattle.core.specs.Inhabited.{Closed}
 use Rattle.core.specs.Memory.Words.{at, room-in, counted, stretch}
 
 -- ---- the layout
@@ -340,3 +341,28 @@ pub record NextConstructor (t : List ℕ) (dt from r : ℕ) : Type 0 where
   pub within : r ≤ length (context t .symbols)
   pub between : (s : ℕ) → from ≤ s → s < r → builds (context t) dt s ≡ false
   pub here : r < length (context t .symbols) → builds (context t) dt r ≡ true
+
+-- ---- question 10: marks at the datatypes that were found
+
+unfoldable pub marked : List ℕ → ℕ → Bool
+marked m s = eqb (at m 0 s) 1
+
+-- the sorts without a mark
+unfoldable pub unmarked : List ℕ → List ℕ
+unmarked m = keep (λ s. not (marked m s)) (range 0 (length m))
+
+-- the datatype of a constructor is found by it now
+unfoldable pub adds : Context → (ℕ → Bool) → ℕ → Bool
+adds cx found c = is-constructor (symbol cx c .role) && not (ready cx found (symbol cx c .result)) && has-ready-fields cx found c
+
+-- there is room for a mark at each sort, and marked are inhabited datatypes
+pub record Marks (t m : List ℕ) : Type 0 where
+  pub long : max-sorts ≤ length m
+  pub inhabited : (s : ℕ) → T (marked m s) → T (inhabited (context t) s)
+
+-- Marks m have become u: there are more of them, or the set is as it was and has each datatype that is grounded in it.
+pub record MarkRound (t m : List ℕ) (added : Bool) (u : List ℕ) : Type 0 where
+  pub marks : Marks t u
+  pub more : added ≡ true → length (unmarked u) < length (unmarked m)
+  pub same : added ≡ false → u ≡ m
+  pub closed : added ≡ false → Closed (context t) (marked u)

@@ -2,6 +2,7 @@
 -- those of its class that stand there. At term i the words of each class are those of the applications from i on.
 use Rattle.core.proofs.Kit.{ℕ, zero, suc, _+_, _-_, _≤_, _<_, _≡_, refl, sym, ap, ap₂, _∙_, subst, _⊎_, inl, inr, Bool, true, false, cond, _&&_, true≢false, List, [], _∷_, arith, add-one, ℕ-discrete, decLt, eqb, length, getD, replicate}
 use lib.ListN.{length-replicate}
+use Rattle.core.proofs.Lists.{zeros}
 use Rattle.core.specs.Limits.{max-terms}
 use Rattle.core.specs.Context.{Context, ctor-app}
 use Rattle.core.specs.Memory.Words.{at, put, Kept}
@@ -302,12 +303,6 @@ module _ {c e s w w₁ : List ℕ} (z : StateSound c e s) (b : Blank w) (m : Mar
           ∙ sym (unmarked (context c) s MARK (z .marks) x (omega arith) h)
 
 -- ---- a blank work table
-
--- an array of zeros
-pub zeros : (n i : ℕ) → getD {A = ℕ} (replicate n 0) i 0 ≡ 0
-zeros zero i = refl
-zeros (suc n) zero = refl
-zeros (suc n) (suc i) = zeros n i
 
 pub fresh : {w : List ℕ} (n : ℕ) → work-size ≤ n → w ≡ replicate n 0 → Blank w
 fresh n l e = record {

@@ -14,7 +14,7 @@ use Rattle.core.specs.Memory.Table.{context, MayApply}
 use Rattle.core.specs.Memory.Codes.{MkApp}
 use Rattle.core.specs.declared.context.Made as Made
 use Rattle.core.specs.declared.ids.TermId.{TermId}
-use Rattle.core.proofs.Lists.{T-true, true-T}
+use Rattle.core.proofs.Lists.{T-true, true-T, zeros}
 use Rattle.theory.specs.EqEngine.{are-equal}
 use Rattle.theory.specs.Memory.Table.{merges}
 use Rattle.theory.proofs.Classes.{equal-refl, equal-sym}
@@ -37,7 +37,6 @@ use Rattle.solver.proofs.Memory.Growing.{may-apply, old-children, old-c
 use Rattle.solver.proofs.Memory.Trying.{sat-split, tried-pass, tried-as}
 use Rattle.solver.proofs.Memory.Unfitting.{onward-through, try-onward, equate-field-onward, collapse-at-onward}
 use Rattle.solver.proofs.Memory.Flags.{has, flagged-in}
-use Rattle.solver.proofs.Memory.Beginning.{zeros}
 use Rattle.solver.proofs.Memory.Chains.{chain-from, apps-here, all-apps, to-first, still-under}
 use Rattle.solver.proofs.Memory.Collapsing.{made-none, made-is, app-is-term, makeable, makes, own-rule, collapse-others}
 

@@ -1,5 +1,7 @@
 -- The conflict of a ring: where on the path the ring begins, and the leaves of its edges, one after the other.
-use Rattle.core.proofs.Kit.{ℕ, zero, suc, _+_, _-_, _≤_, _<_, _≡_, refl, sym, subst, ap, _∙_, Bool, true, false, cond, List, [], _∷_, _++_, append-assoc, append-nil, arith, eq-eqb, ne-eqb, eqb, length, getD, replicate}
+use Rattle.core.proofs.Kit.{ℕ, zero, suc, _+_, _-_, _≤_, _<_, _≡_, refl, sym, subst, ap, _∙_, Bool, true, false, cond, List, [], _∷_, _++_, append-assoc, append-nil, arith, eq-eqb, ne-eqb, eqb, length, replicate}
+use lib.ListN.{length-replicate}
+use Rattle.core.proofs.Lists.{zeros}
 use Rattle.core.specs.Lists.{any, range}
 use Rattle.core.specs.declared.ids.TermId.{TermId}
 use Rattle.core.specs.Memory.Words.{at}
@@ -182,17 +184,8 @@ edge-asks {e} {r} {n} {field} {app} {o₀} {start} {o} {i} x y a c h p q =
 -- ---- the rule
 
 -- a new array
-zeros : (n k : ℕ) → getD {A = ℕ} (replicate n 0) k 0 ≡ 0
-zeros zero k = refl
-zeros (suc n) zero = refl
-zeros (suc n) (suc k) = zeros n k
-
-length-zeros : (n : ℕ) → length {A = ℕ} (replicate n 0) ≡ n
-length-zeros zero = refl
-length-zeros (suc n) = ap suc (length-zeros n)
-
 pub unmet-new : {r : List ℕ} (n : ℕ) → r ≡ replicate n 0 → ring-size ≤ n → Unmet r
-unmet-new n e l = rw e (record { long = let h = length-zeros n in omega arith; zero = zeros n })
+unmet-new n e l = rw e (record { long = let h = length-replicate {A = ℕ} n 0 in omega arith; zero = zeros n })
 
 pub rings-none : {c e w : List ℕ} (r : List ℕ) {a : Cycle.Cycle} {o : List ℕ} → CycleOutcome c e w a r → a ≡ Cycle.the-variants.Nothing →
     Rings c e w TCheck.the-variants.Sat o

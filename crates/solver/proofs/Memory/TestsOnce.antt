@@ -11,7 +11,7 @@ use Rattle.core.specs.Memory.Words.{at, put}
 use Rattle.core.specs.Memory.Table.{context}
 use Rattle.core.specs.declared.ids.TermId.{TermId}
 use Rattle.core.specs.declared.ids.SymbolId.{SymbolId}
-use Rattle.core.proofs.Lists.{T-true, true-T}
+use Rattle.core.proofs.Lists.{T-true, true-T, zeros}
 use Rattle.core.proofs.Memory.Stores.{other-place, length-put}
 use Rattle.theory.specs.EqEngine.{are-equal}
 use Rattle.theory.specs.Memory.Table.{merges}
@@ -27,7 +27,6 @@ use Rattle.solver.specs.Memory.Collapse.{by-apps, testing, FLAGS, Tester
 use Rattle.solver.proofs.Basics.{first-some}
 use Rattle.solver.proofs.Signature.{tester-of, tester-function, declared-role}
 use Rattle.solver.proofs.Repeats.{try-each-does, try-each-idle, TestedOn, tested-keeps, tester-goes-on, tester-does, tester-again}
-use Rattle.solver.proofs.Memory.Beginning.{zeros}
 use Rattle.solver.proofs.Memory.Trying.{tried-pass}
 use Rattle.solver.proofs.Memory.Chains.{all-apps}
 use Rattle.solver.proofs.Memory.Once.{goes-on, apps-back, role-back}

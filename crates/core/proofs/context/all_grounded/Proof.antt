@@ -1,24 +1,25 @@
--- No datatype below s lacks a constructor with no datatype field.
-use Rattle.core.proofs.Kit.{needs, _-_, ⊎-elim, arith}
-use Rattle.core.proofs.Memory.Searching.{Searched, search-first, search-next}
-use Rattle.core.proofs.Memory.Constructors.{Ungrounded, is-grounded, other-sort, one-not-grounded, each-grounded}
+-- Marked are inhabited datatypes; after a round that adds none they are all marked.
+use Rattle.core.proofs.Kit.{needs, sym}
+use Rattle.core.proofs.Memory.Rounds.{Finding, rounds-left, finding-first, finding-next, fewer-left, finding-done}
 use Rattle.core.proofs.context.all_grounded.Statement.{statement}
 use Rattle.core.proofs.context.all_grounded.Tie as tie
 
 abbrev Inv-loop : tie.InvT-loop
-Inv-loop t n s₀ s = Searched (Ungrounded t) 0 s n
+Inv-loop t found₀ more₀ found more = Finding t more found
 
 abbrev μ-loop : tie.MeasureT-loop
-μ-loop t n s₀ s = n - s
+μ-loop t found₀ more₀ found more = rounds-left more found
 
 loop-again : tie.Need-loop-again Inv-loop μ-loop
 loop-again c =
-    let e = c .before .before .before .before .get-at .ensures .0 in
-    let o = c .before .get-at2 .ensures .0 in
-    search-next (c .before .before .before .loop .inv) (c .before .before .loop-test .taken)
-    (⊎-elim (λ w. is-grounded _ _ (w .1 .ensures) (w .2 .left)) (λ w. other-sort _ _ _ (omega arith) o (w .left)) (c .if1 .came))
+    let called = c .before in
+    finding-next (called .mark-round .ensures) (called .before .before .before .loop .inv) (called .mark-round .kept .1 .0)
+
+loop-less : tie.Need-loop-less Inv-loop μ-loop
+loop-less c = let called = c .before in fewer-left (called .mark-round .ensures) (called .before .before .loop-test .taken)
 
 pub all-grounded-spec : {M : Type 1} → statement M
 all-grounded-spec =
-    tie.close (tie.spec Inv-loop μ-loop (λ c κs. search needs) (λ c. search-first _ 0 _ (search needs)) (λ c κs. search needs)
-    (λ c κs. search needs) (λ c. search one-not-grounded) (λ c. search needs) (λ c. search needs) loop-again (λ c. search each-grounded))
+    tie.close (tie.spec Inv-loop μ-loop (λ c. finding-first _) (λ c. sym (c .before .before .loop .inv .long))
+    (λ c κs. (search needs, search needs)) loop-less loop-again (λ c. sym (c .before .before .loop .inv .long))
+    (λ c κs. (search needs, search needs)) (λ c. search finding-done))
