@@ -95,7 +95,7 @@ fn agree(kind: Kind, count: u64, seed: u64) {
 fn rows(file: &str) {
     let text = std::fs::read_to_string(file).expect("the file of the table");
     match rows::rows(&text) {
-        Ok(count) => println!("rows: {count} rows of the definition's table answered alike"),
+        Ok(count) => println!("rows: {count} rows of the definition's tables answered alike"),
         Err(what) => {
             println!("{what}");
             std::process::exit(1);

@@ -1,5 +1,5 @@
-//! Holds the right run to the table of negative testers on which the prover computes the definition itself
-//! (`negatives` in `crates/session/specs/Examples.antt`), so that its second reading is tied to something fixed.
+//! Holds the right run to the tables on which the prover computes the definition itself (`negatives` and `closings` in
+//! `crates/session/specs/Examples.antt`), so that its second reading is tied to something fixed.
 
 use crate::run;
 
@@ -9,14 +9,20 @@ struct Row {
     answers: String,
 }
 
-/// Answers each row behind the lines that stand before all of them. Returns how many rows there are, or what is wrong.
+/// Answers each row of both tables. Returns how many rows there are, or what is wrong.
 pub fn rows(text: &str) -> Result<usize, String> {
     let setting = Row { script: quoted(text, "\nsetting =")?, answers: quoted(text, "\nsetting-answers =")? };
-    let rows = table(text)?;
+    let nothing = Row { script: String::new(), answers: String::new() };
+    Ok(hold_table(text, "negatives", &setting)? + hold_table(text, "closings", &nothing)?)
+}
+
+/// Answers each row of a table behind the lines that stand before all of them.
+fn hold_table(text: &str, name: &str, setting: &Row) -> Result<usize, String> {
+    let rows = table(text, name)?;
     if rows.is_empty() {
-        return Err("the table has no row".to_string());
+        return Err(format!("the table `{name}` has no row"));
     }
-    rows.iter().try_for_each(|row| hold(&setting, row))?;
+    rows.iter().try_for_each(|row| hold(setting, row))?;
     Ok(rows.len())
 }
 
@@ -31,9 +37,9 @@ fn hold(setting: &Row, row: &Row) -> Result<(), String> {
 }
 
 /// The rows from the table's first line to the end of its list, without those that are commented out.
-fn table(text: &str) -> Result<Vec<Row>, String> {
-    let (_, behind) = text.split_once("\nnegatives =").ok_or("there is no table `negatives`")?;
-    let (list, _) = behind.split_once("∷ []").ok_or("the table has no end")?;
+fn table(text: &str, name: &str) -> Result<Vec<Row>, String> {
+    let (_, behind) = text.split_once(&format!("\n{name} =")).ok_or_else(|| format!("there is no table `{name}`"))?;
+    let (list, _) = behind.split_once("∷ []").ok_or_else(|| format!("the table `{name}` has no end"))?;
     let lines: Vec<&str> = list.lines().filter(|line| !line.trim_start().starts_with("--")).collect();
     lines.join("\n").split("record {").skip(1).map(row).collect()
 }

@@ -56,7 +56,7 @@ fn found(session: &Session, rounds: usize) -> usize {
 /// The rounds until all datatypes are found, which they are in the end.
 fn rounds_needed(session: &Session) -> usize {
     let count = session.datatypes().len();
-    (0..).find(|&rounds| found(session, rounds) == count).expect("all are inhabited")
+    (0..=count).find(|&rounds| found(session, rounds) == count).expect("all are inhabited")
 }
 
 /// The most datatypes of which each has a tree with the others in it.
