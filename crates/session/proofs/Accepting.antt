@@ -24,7 +24,7 @@ use Rattle.theory.specs.EqEngine.{Merge}
 use Rattle.theory.specs.Atom as Atom
 use Rattle.theory.proofs.Explain.{Justified, TwoTerms}
 use Rattle.theory.proofs.Members.{in-either}
-use Rattle.solver.specs.State.{State, AssertedTester, with-terms, with-level, with-level-record, with-negative-record, with-lasting, with-dt, ctor-apps, equal, ctor-of-class}
+use Rattle.solver.specs.State.{State, AssertedAtom, with-terms, with-level, with-level-record, with-negative-record, with-disequalities, with-lasting, with-dt, ctor-apps, equal, ctor-of-class}
 use Rattle.solver.specs.Records as Records
 use Rattle.solver.specs.Records.{relevant}
 use Rattle.solver.specs.Rules as Rules
@@ -36,18 +36,18 @@ use Rattle.solver.proofs.Terms.{extends-sorts, extends-symbols, Below, Agrees, 
 use Rattle.solver.proofs.Signature.{Signed, sort-signed, fun-signed, ctor-signed}
 use Rattle.solver.proofs.Apps.{op-is, ctor-app-is, tester-app-is}
 use Rattle.solver.proofs.Walk.{class-ctor}
-use Rattle.solver.proofs.Clash.{Refuted, signed-record, Recorded, ctor-in, own-there, tester-refuted, negative-refuted}
+use Rattle.solver.proofs.Clash.{Refuted, Assertion, Affirmed, Negated, Unequal, of-tester, record-by, Recorded, ctor-in, own-there, tester-refuted, negative-refuted}
 use Rattle.solver.proofs.Moves.{Follows, follows-self, AnswerHolds}
 use Rattle.solver.proofs.Answers.{CheckedWell, RingDecides, full-check-decides, full-check-well}
 use Rattle.solver.proofs.Collection.{relevant-kept}
 use Rattle.session.specs.Line as Line
-use Rattle.session.specs.Line.{Command, DeclareSort, DeclareCtor, DeclareFun, Close, MkTerm, MkEq, Register, Equate, Cong, Iface, Assert, Push, Pop}
+use Rattle.session.specs.Line.{Command, DeclareSort, DeclareCtor, DeclareFun, Close, MkTerm, MkEq, Register, Equate, Cong, Iface, Assert, Differ, Push, Pop}
 use Rattle.session.specs.Answer.{Refusal, Answer, Ok, TermIs, Checked, Refused}
 use Rattle.session.specs.Session.{Session, Performed, Asked, first-no, term-exists, one-sort, perform, done, numbered, conflict-or-ok}
 use Rattle.session.specs.History.{History, level, level-after, HoldsNow, IsAtom}
 use Rattle.session.specs.Claim.{AllInForce, Impossible, Valid, Ring, Cause, Against, Denied, Determined, Undetermined, Before, After, SaysConflict}
 use Rattle.session.proofs.Forces.{kind}
-use Rattle.session.proofs.Invariant.{signature, declared, kept-self, kept-extends, kept-terms, atom-one, registered-atom, Entry, Entries, entries-on, Inv}
+use Rattle.session.proofs.Invariant.{signature, declared, kept-self, kept-extends, kept-terms, atom-one, registered-atom, line-of, of-kind, sign-of, Shape, Entry, Entries, entries-on, Inv}
 use Rattle.session.proofs.Truth.{two-terms, SaidNow, conflict-holds, lemma-holds}
 use Rattle.session.proofs.Rings.{marked-ctor-in, now, lowest-stands, ring-there, there-ring}
 use Rattle.session.proofs.Causes.{determined, undetermined, cause-now}
@@ -73,6 +73,7 @@ line-kind (Equate l) = 7
 line-kind (Cong t u) = 8
 line-kind (Iface t u h g) = 9
 line-kind (Assert l) = 10
+line-kind (Differ l) = 14
 line-kind Push = 11
 line-kind (Pop k) = 12
 line-kind (Line.Check e) = 13
@@ -150,7 +151,8 @@ declare-kept s h d cx I o k e S b l p q =
       atoms = refl;
       level-up = omega arith;
       level = I .level ∙ sym l;
-      entries = entries-on (signed-record (s .state)) (s .state .level) (s .state .level) h d (λ w. omega arith) (omega arith) (I .entries);
+      entries = entries-on (record-by (s .state)) (s .state .terms) cx (s .state .atoms) (s .state .level) (s .state .level) h d
+          (kept-terms (s .state .terms) cx (sym e)) (I .named) (λ w. omega arith) (omega arith) (I .entries);
       marks = λ t i. i;
       ascending = I .ascending;
       bool-there = b;
@@ -239,7 +241,8 @@ same-kept s h d k c I q l e z g u =
       atoms = refl;
       level-up = l;
       level = e;
-      entries = entries-on (signed-record (s .state)) (s .state .level) k h d (λ w. omega arith) l (I .entries);
+      entries = entries-on (record-by (s .state)) (s .state .terms) (s .state .terms) (s .state .atoms) (s .state .level) k h d
+          (kept-self (s .state .terms)) (I .named) (λ w. omega arith) l (I .entries);
       marks = λ t i. i;
       ascending = I .ascending;
       bool-there = I .bool-there;
@@ -288,8 +291,9 @@ follows-inv s h d st I c q l z F =
       atoms = F .atoms;
       level-up = let e = F .level in omega arith;
       level = F .level ∙ I .level ∙ sym l;
-      entries = λ b x i. entries-on (signed-record (s .state)) (s .state .level) (st .level) h d (λ w. omega arith)
-          (let e = F .level in omega arith) (I .entries) b x (subst (λ (es : List AssertedTester). In x es) (F .entries b) i);
+      entries = λ b x i. entries-on (record-by (s .state)) (s .state .terms) (st .terms) (s .state .atoms) (s .state .level) (st .level) h
+          d (kept-extends (s .state .terms) (st .terms) (F .extends)) (I .named) (λ w. omega arith)
+          (let e = F .level in omega arith) (I .entries) b x (subst (λ (es : List AssertedAtom). In x es) (F .entries b) i);
       marks = F .marks;
       ascending = F .ascending (I .ascending);
       bool-there = subst⁻¹ (λ (ss : List SortNode). 0 < length ss) (extends-sorts (s .state .terms) (st .terms) (F .extends)) (I .bool-there);
@@ -366,13 +370,14 @@ eq-good s h t u I c a b e =
 
 -- ---- checks
 
--- the entries of the records of testers are lines in force
+-- the entries of the records are lines in force
 recorded-said : (s : Session) (h : History) (I : Inv s h) → SaidNow s h I (Recorded (s .state))
 recorded-said s h I b k t (e, i, p, q) =
     let E = I .entries b e i in
-    subst (λ (x : ℕ). HoldsNow h (Assert x) × IsAtom h x t × (Ids.is-positive x ≡ b)) p
-    (subst (λ (x : ℕ). HoldsNow h (Assert (e .lit)) × IsAtom h (e .lit) x × (Ids.is-positive (e .lit) ≡ b)) q
-    ((e .level, E .force), E .atom, E .sign))
+    subst (λ (x : ℕ). HoldsNow h (line-of b x) × IsAtom h x t × (Ids.is-positive x ≡ sign-of b) × Shape (s .state .terms) t b) p
+    (subst (λ (x : ℕ).
+    HoldsNow h (line-of b (e .lit)) × IsAtom h (e .lit) x × (Ids.is-positive (e .lit) ≡ sign-of b) × Shape (s .state .terms) x b) q
+    ((e .level, E .force), E .atom, E .sign, E .shape))
 
 pub full-good : (s : Session) (h : History) → Inv s h → T (s .closed) → Good s (Line.Check true) (perform s (Line.Check true)) h
 unfolding perform done Check.check kind level level-after signature declared answer-kind
@@ -452,9 +457,9 @@ idle-good s h I c = record {
     not-full : Line.Check false ≡ Line.Check true → ⊥
     not-full e = false≢true (full-is true e)
 
--- ---- assert
+-- ---- assert and differ
 
--- only the records of testers change
+-- only the records change
 record Noted (s : State) (s′ : State) : Type 0 where
   terms : s′ .terms ≡ s .terms
   eq : s′ .eq ≡ s .eq
@@ -462,11 +467,12 @@ record Noted (s : State) (s′ : State) : Type 0 where
   level : s′ .level ≡ s .level
   marks : s′ .dt .marks ≡ s .dt .marks
 
-noted-inv : (s : Session) (h : History) (l : ℕ) (st : State) → Inv s h → Noted (s .state) st →
-    Entries (signed-record st) (st .level) (Assert l ∷ h) → Inv (record { state = st; closed = s .closed }) (Assert l ∷ h)
-unfolding kind level level-after signature declared
-noted-inv s h l st I N E =
-    plain-kept s (record { state = st; closed = s .closed }) h (Assert l) I (record {
+noted-inv : (s : Session) (h : History) (d : Assertion) (l : ℕ) (st : State) → Inv s h → Noted (s .state) st →
+    Entries (record-by st) (s .state .terms) (s .state .level) (line-of d l ∷ h) →
+    Inv (record { state = st; closed = s .closed }) (line-of d l ∷ h)
+noted-inv s h d l st I N E =
+    let k = of-kind d l in
+    plain-kept s (record { state = st; closed = s .closed }) h (line-of d l) I (record {
       not-register = λ w. omega arith;
       not-equate = λ w. omega arith;
       not-cong = λ w. omega arith;
@@ -482,17 +488,29 @@ noted-inv s h l st I N E =
       eq = N .eq;
       atoms = N .atoms;
       level-up = let e = N .level in omega arith;
-      level = N .level ∙ I .level;
-      entries = E;
+      level = N .level ∙ I .level ∙ sym (same-level d);
+      entries =
+          subst⁻¹ (λ (cx : Context). Entries (record-by st) cx (st .level) (line-of d l ∷ h)) (N .terms)
+          (subst⁻¹ (λ (n : ℕ). Entries (record-by st) (s .state .terms) n (line-of d l ∷ h)) (N .level) E);
       marks = λ t i. subst⁻¹ (λ (ms : List ℕ). In t ms) (N .marks) i;
       ascending = subst⁻¹ Ascending (N .marks) (I .ascending);
       bool-there = subst⁻¹ (λ (z : Context). 0 < length (z .sorts)) (N .terms) (I .bool-there);
-      sorts = ap (λ (z : Context). z .sorts) (N .terms) ∙ I .sorts;
-      symbols = ap (λ (z : Context). z .symbols) (N .terms) ∙ I .symbols;
+      sorts = ap (λ (z : Context). z .sorts) (N .terms) ∙ I .sorts ∙ ap (λ (z : Context). z .sorts) (sym (same-signature d));
+      symbols = ap (λ (z : Context). z .symbols) (N .terms) ∙ I .symbols ∙ ap (λ (z : Context). z .symbols) (sym (same-signature d));
       grounded = λ t. subst⁻¹ (λ (z : Context). T (all-grounded z)) (N .terms) (I .grounded t);
       unmade = λ e. ap (λ (z : Context). z .terms) (N .terms) ∙ I .unmade e;
       relevant-back = λ a i t m r. subst (λ (z : Context). T (relevant z t)) (N .terms) r;
     })
+  where
+    same-level : (b : Assertion) → level (line-of b l ∷ h) ≡ level h
+    same-level Affirmed = unfold level level-after in refl
+    same-level Negated = unfold level level-after in refl
+    same-level Unequal = unfold level level-after in refl
+
+    same-signature : (b : Assertion) → signature (line-of b l ∷ h) ≡ signature h
+    same-signature Affirmed = unfold signature declared in refl
+    same-signature Negated = unfold signature declared in refl
+    same-signature Unequal = unfold signature declared in refl
 
 conflict-is : (o : Option (List EqLeaf)) (ls : List EqLeaf) → conflict-or-ok o ≡ Checked (Conflict ls) → o ≡ some ls
 unfolding conflict-or-ok answer-kind
@@ -523,13 +541,13 @@ never-unknown none e = let w : _≡_ {A = ℕ} 0 4 = ap check-kind e in omega ar
 never-unknown (some ks) e = let w : _≡_ {A = ℕ} 2 4 = ap check-kind e in omega arith
 
 -- what is said of the atom t by the literal l alone
-abbrev SaidBy : ℕ → ℕ → Bool → ℕ → ℕ → Type 0
-SaidBy l t b k u = (Ids.is-positive l ≡ b) × (k ≡ l) × (u ≡ t)
+abbrev SaidBy : ℕ → ℕ → Assertion → ℕ → ℕ → Type 0
+SaidBy l t b k u = (c : Bool) × (Ids.is-positive l ≡ c) × (of-tester c ≡ b) × (k ≡ l) × (u ≡ t)
 
 -- what an assertion leaves: notes about the atom t of the literal l
 record AssertWell (s : Session) (h : History) (l t : ℕ) (o : Records.Outcome) : Type 1 where
   noted : Noted (s .state) (o .state)
-  entries : Entries (signed-record (o .state)) (o .state .level) (Assert l ∷ h)
+  entries : Entries (record-by (o .state)) (s .state .terms) (s .state .level) (Assert l ∷ h)
   refutes : (ls : List EqLeaf) → o .conflict ≡ some ls → Refuted (s .state) (SaidBy l t) ls
 
 module _ (s : Session) (h : History) (l : ℕ) (I : Inv s h) (closed : T (s .closed))
@@ -541,64 +559,70 @@ module _ (s : Session) (h : History) (l : ℕ) (I : Inv s h) (closed : T (s .clo
   unfolding atom-t
   at = registered-atom (s .state .terms) (s .state .atoms) h (I .named) (Ids.var l) v
 
-  old-entries : Entries (signed-record (s .state)) (s .state .level) (Assert l ∷ h)
-  unfolding kind
-  old-entries = entries-on (signed-record (s .state)) (s .state .level) (s .state .level) h (Assert l) (λ e. omega arith) (omega arith)
-      (I .entries)
+  old-entries : (d : Assertion) → Entries (record-by (s .state)) (s .state .terms) (s .state .level) (line-of d l ∷ h)
+  old-entries d =
+      let k = of-kind d l in
+      entries-on (record-by (s .state)) (s .state .terms) (s .state .terms) (s .state .atoms) (s .state .level) (s .state .level) h
+      (line-of d l) (kept-self (s .state .terms)) (I .named) (λ w. omega arith) (omega arith) (I .entries)
 
   -- the session with nothing noted, under the longer history
   unnoted : Inv s (Assert l ∷ h)
-  unnoted = noted-inv s h l (s .state) I (record { terms = refl; eq = refl; atoms = refl; level = refl; marks = refl }) old-entries
+  unnoted =
+      noted-inv s h Affirmed l (s .state) I (record { terms = refl; eq = refl; atoms = refl; level = refl; marks = refl })
+      (old-entries Affirmed)
 
-  -- one entry more, unless the atom has one
-  entered-well : (b : Bool) → Ids.is-positive l ≡ b → (t : ℕ) → t ≡ atom-t → (e : AssertedTester) →
-      In e (Records.entered (s .state .level) t l (signed-record (s .state) b)) → Entry b (s .state .level) (Assert l ∷ h) e
-  unfolding Records.entered
-  entered-well b p t w e i = go (Records.recorded (signed-record (s .state) b) t) i
+  -- a record with an entry for l more, or as it was
+  entered-well : (d : Assertion) → Ids.is-positive l ≡ sign-of d → (t : ℕ) → t ≡ atom-t → Shape (s .state .terms) t d → (there : Bool)
+      (e : AssertedAtom) →
+      In e (cond there (record-by (s .state) d) (record-by (s .state) d ++ (record { atom = t; lit = l; level = s .state .level } ∷ []))) →
+      Entry d (s .state .terms) (s .state .level) (line-of d l ∷ h) e
+  entered-well d p t w z true e j = old-entries d d e j
+  entered-well d p t w z false e j = is (in-either e (record-by (s .state) d) (new ∷ []) j)
     where
-      new : AssertedTester
+      new : AssertedAtom
       new = record { atom = t; lit = l; level = s .state .level }
 
-      is : In e (signed-record (s .state) b) ⊎ In e (new ∷ []) → Entry b (s .state .level) (Assert l ∷ h) e
-      is (inl j) = old-entries b e j
+      is : In e (record-by (s .state) d) ⊎ In e (new ∷ []) → Entry d (s .state .terms) (s .state .level) (line-of d l ∷ h) e
+      is (inl k) = old-entries d d e k
       is (inr (inl q)) =
-          subst⁻¹ (Entry b (s .state .level) (Assert l ∷ h)) q
-          (record { force = inl (refl, I .level); atom = inr (subst⁻¹ (IsAtom h l) w at); sign = p; low = omega arith })
-      is (inr (inr j)) = absurd j
-
-      go : (c : Bool) → In e (cond c (signed-record (s .state) b) (signed-record (s .state) b ++ (new ∷ []))) →
-          Entry b (s .state .level) (Assert l ∷ h) e
-      go true j = old-entries b e j
-      go false j = is (in-either e (signed-record (s .state) b) (new ∷ []) j)
+          subst⁻¹ (Entry d (s .state .terms) (s .state .level) (line-of d l ∷ h)) q
+          (record { force = inl (refl, I .level); atom = inr (subst⁻¹ (IsAtom h l) w at); sign = p; shape = z; low = omega arith })
+      is (inr (inr k)) = absurd k
 
   tester-well : (b : Bool) → Ids.is-positive l ≡ b → (x : TesterApp) → tester-app (s .state .terms) atom-t ≡ some x →
       AssertWell s h l atom-t (Records.assert-tester (s .state) l b x)
-  unfolding Records.assert-tester Records.record-tester Records.record-negative with-lasting with-level-record with-negative-record with-dt
+  unfolding Records.assert-tester Records.record-tester Records.record-negative Records.entered with-lasting with-level-record with-negative-record with-dt
   tester-well true p x q = record {
     noted = record { terms = refl; eq = refl; atoms = refl; level = refl; marks = refl };
     entries = entries;
-    refutes = λ ls w. tester-refuted (s .state) (I .ready) (SaidBy l atom-t) l atom-t x ls q (p, refl, refl) w;
+    refutes = λ ls w. tester-refuted (s .state) (I .ready) (SaidBy l atom-t) l atom-t x ls q (true, p, refl, refl, refl) w;
   }
     where
-      entries : Entries (signed-record (Records.record-tester (s .state) (x .app) l)) (s .state .level) (Assert l ∷ h)
-      entries true = entered-well true p (x .app) (tester-app-is (s .state .terms) atom-t x q .app)
-      entries false = old-entries false
+      entries : Entries (record-by (Records.record-tester (s .state) (x .app) l)) (s .state .terms) (s .state .level) (Assert l ∷ h)
+      entries Affirmed =
+          entered-well Affirmed p (x .app) (tester-app-is (s .state .terms) atom-t x q .app) tt
+          (Records.recorded (s .state .dt .level-record) (x .app))
+      entries Negated = old-entries Affirmed Negated
+      entries Unequal = old-entries Affirmed Unequal
   tester-well false p x q = record {
     noted = record { terms = refl; eq = refl; atoms = refl; level = refl; marks = refl };
     entries = entries;
-    refutes = λ ls w. negative-refuted (s .state) (I .ready) (SaidBy l atom-t) l atom-t x ls q (p, refl, refl) w;
+    refutes = λ ls w. negative-refuted (s .state) (I .ready) (SaidBy l atom-t) l atom-t x ls q (false, p, refl, refl, refl) w;
   }
     where
-      entries : Entries (signed-record (Records.record-negative (s .state) (x .app) l)) (s .state .level) (Assert l ∷ h)
-      entries true = old-entries true
-      entries false = entered-well false p (x .app) (tester-app-is (s .state .terms) atom-t x q .app)
+      entries : Entries (record-by (Records.record-negative (s .state) (x .app) l)) (s .state .terms) (s .state .level) (Assert l ∷ h)
+      entries Affirmed = old-entries Affirmed Affirmed
+      entries Negated =
+          entered-well Negated p (x .app) (tester-app-is (s .state .terms) atom-t x q .app) tt
+          (Records.recorded (s .state .dt .negative-record) (x .app))
+      entries Unequal = old-entries Affirmed Unequal
 
   atom-well : (o : Option TesterApp) → tester-app (s .state .terms) atom-t ≡ o →
       AssertWell s h l atom-t (Records.assert-atom (s .state) l o)
   unfolding Records.assert-atom
   atom-well none q = record {
     noted = record { terms = refl; eq = refl; atoms = refl; level = refl; marks = refl };
-    entries = old-entries;
+    entries = old-entries Affirmed;
     refutes = λ ls e. absurd (none-some ls e);
   }
   atom-well (some x) q = tester-well (Ids.is-positive l) refl x q
@@ -610,7 +634,7 @@ module _ (s : Session) (h : History) (l : ℕ) (I : Inv s h) (closed : T (s .clo
   outcome-good : (o : Records.Outcome) → AssertWell s h l atom-t o → Good s (Assert l) (done s (conflict-or-ok (o .conflict)) (o .state)) h
   unfolding done line-kind
   outcome-good o W = record {
-    inv = noted-inv s h l (o .state) I (W .noted) (W .entries);
+    inv = noted-inv s h Affirmed l (o .state) I (W .noted) (W .entries);
     spoken = λ q e. never-refused (o .conflict) q e;
     conflict = λ ls e. holds ls (W .refutes ls (conflict-is (o .conflict) ls e));
     cause = λ ls e. why ls (W .refutes ls (conflict-is (o .conflict) ls e));
@@ -625,10 +649,22 @@ module _ (s : Session) (h : History) (l : ℕ) (I : Inv s h) (closed : T (s .clo
   }
     where
       said : SaidNow s (Assert l ∷ h) unnoted (SaidBy l atom-t)
-      said b k u (p, e, q) =
-          subst⁻¹ (λ (x : ℕ). HoldsNow (Assert l ∷ h) (Assert x) × IsAtom (Assert l ∷ h) x u × (Ids.is-positive x ≡ b)) e
-          (subst⁻¹ (λ (x : ℕ). HoldsNow (Assert l ∷ h) (Assert l) × IsAtom (Assert l ∷ h) l x × (Ids.is-positive l ≡ b)) q
-          ((level h, inl (refl, refl)), inr at, p))
+      said b k u (c, p, d, e, q) =
+          subst (λ (x : Assertion).
+          HoldsNow (Assert l ∷ h) (line-of x k) × IsAtom (Assert l ∷ h) k u × (Ids.is-positive k ≡ sign-of x)
+          × Shape (s .state .terms) u x) d (go c p)
+        where
+          holds-now : HoldsNow (Assert l ∷ h) (Assert k)
+          holds-now = subst⁻¹ (λ (x : ℕ). HoldsNow (Assert l ∷ h) (Assert x)) e (level h, inl (refl, refl))
+
+          of-atom : IsAtom (Assert l ∷ h) k u
+          of-atom = subst⁻¹ (λ (x : ℕ). IsAtom (Assert l ∷ h) x u) e (subst⁻¹ (IsAtom (Assert l ∷ h) l) q (inr at))
+
+          go : (z : Bool) → Ids.is-positive l ≡ z →
+              HoldsNow (Assert l ∷ h) (line-of (of-tester z) k) × IsAtom (Assert l ∷ h) k u × (Ids.is-positive k ≡ sign-of (of-tester z))
+              × Shape (s .state .terms) u (of-tester z)
+          go true w = (holds-now, of-atom, ap Ids.is-positive e ∙ w, tt)
+          go false w = (holds-now, of-atom, ap Ids.is-positive e ∙ w, tt)
 
       holds : (ls : List EqLeaf) → Refuted (s .state) (SaidBy l atom-t) ls →
           AllInForce (Assert l ∷ h) ls × Impossible (o .state .terms) (Assert l ∷ h) ls × (ls ≢ [])
@@ -695,3 +731,19 @@ module _ (s : Session) (h : History) (l : ℕ) (I : Inv s h) (closed : T (s .clo
       let t = subst⁻¹ (λ (z : ℕ). T (equal (s .state) (x .arg) z)) w (now s h I (x .arg) c .1 e) in
       sign-says a x false at′ q (T-no (Ids.is-positive l) p)
       (own-says x d i t (op-is (d .ctor) (x .ctor) (sym (ctor-in (s .state) d i .op) ∙ ap (λ (z : ℕ). term (s .state .terms) z .op) w ∙ o)))
+
+  -- ---- unequal terms
+
+  pub differ-good : Ids.is-positive l ≡ false → term (s .state .terms) (Atom.atom (s .state .atoms) (Ids.var l)) .op ≡ Eq →
+      Good s (Differ l) (perform s (Differ l)) h
+  unfolding perform done line-kind Records.differ with-disequalities with-dt atom-t
+  differ-good p o =
+      good-ok s (Differ l) (perform s (Differ l)) h refl (λ e. omega arith)
+      (noted-inv s h Unequal l (Records.differ (s .state) l) I
+      (record { terms = refl; eq = refl; atoms = refl; level = refl; marks = refl }) entries)
+    where
+      entries : Entries (record-by (Records.differ (s .state) l)) (s .state .terms) (s .state .level) (Differ l ∷ h)
+      entries Affirmed = old-entries Unequal Affirmed
+      entries Negated = old-entries Unequal Negated
+      entries Unequal =
+          entered-well Unequal p atom-t refl o (Records.has-literal (s .state .dt .disequalities) l)

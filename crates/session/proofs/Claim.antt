@@ -19,18 +19,19 @@ use Rattle.core.proofs.Readings.{has-reading}
 use Rattle.solver.specs.State.{State, equal}
 use Rattle.solver.specs.Rules.{Sat}
 use Rattle.solver.specs.Check.{before-ring}
-use Rattle.solver.proofs.Basics.{some-is, some-none, mem-in, in-mem}
+use Rattle.solver.proofs.Basics.{some-is, some-none, mem-in, in-mem, T-no}
+use Rattle.solver.proofs.Terms.{same-op-eq}
 use Rattle.solver.proofs.Clash.{Ready}
 use Rattle.session.specs.Line as Line
-use Rattle.session.specs.Line.{Command, DeclareSort, DeclareCtor, DeclareFun, Close, MkTerm, MkEq, Register, Equate, Cong, Iface, Assert, Push, Pop, read-line}
+use Rattle.session.specs.Line.{Command, DeclareSort, DeclareCtor, DeclareFun, Close, MkTerm, MkEq, Register, Equate, Cong, Iface, Assert, Differ, Push, Pop, read-line}
 use Rattle.session.specs.Answer.{Refusal, Unreadable, NoRoom, Answer, Ok, TermIs, Checked, Refused}
-use Rattle.session.specs.Session.{Session, empty-session, Performed, sort-exists, symbol-exists, term-exists, var-exists, atom-of, one-sort, argument-pairs, before-close, after-close, exist, agree, unregistered, equation, congruent, inhabited, questions, first-no, perform, fits, refused, if-fits, asked, answer-read, step}
+use Rattle.session.specs.Session.{Session, empty-session, Performed, sort-exists, symbol-exists, term-exists, var-exists, atom-of, one-sort, argument-pairs, before-close, after-close, exist, agree, unregistered, is-equation, equation, disequality, congruent, inhabited, questions, first-no, perform, fits, refused, if-fits, asked, answer-read, step}
 use Rattle.session.specs.History.{History, Makes, Accepted, EqualNow, extended, history-after, replay}
 use Rattle.session.specs.Claim.{Collected, Ring, Clash, Cause, After, SaysConflict, AtLine, Tied, ClaimFrom, Claim}
 use Rattle.session.specs.Memory.Sessions.{after, Reached}
 use Rattle.session.proofs.Invariant.{classes-agree, Inv}
 use Rattle.session.proofs.Steps.{empty-inv}
-use Rattle.session.proofs.Accepting.{answer-kind, Good, sort-good, ctor-good, fun-good, close-good, push-good, pop-good, register-good, term-good, eq-good, full-good, idle-good, assert-good, check-rule, check-state, no-refusal}
+use Rattle.session.proofs.Accepting.{answer-kind, Good, sort-good, ctor-good, fun-good, close-good, push-good, pop-good, register-good, term-good, eq-good, full-good, idle-good, assert-good, differ-good, check-rule, check-state, no-refusal}
 use Rattle.session.proofs.Tables.{perform-table, perform-marks, marks-back, closed-by}
 use Rattle.session.proofs.Complete.{Complete, empty-complete, perform-complete, clash-said, assert-said, sat-clear, leaf-atom}
 use Rattle.session.proofs.Joins.{equate-good, cong-good, iface-good}
@@ -39,7 +40,7 @@ use Rattle.session.proofs.Joins.{equate-good, cong-good, iface-good}
 
 -- an accepted line
 accept : (s : Session) (h : History) → Inv s h → (c : Command) → first-no (questions s c) ≡ none → Good s c (perform s c) h
-unfolding questions before-close after-close exist agree unregistered equation congruent inhabited
+unfolding questions before-close after-close exist agree unregistered equation disequality congruent inhabited atom-of
 accept s h I (DeclareSort n) e = sort-good s h n I (no-refusal (before-close s) [] e .0)
 accept s h I (DeclareCtor dt fs) e =
     let (a, e₁) = no-refusal (before-close s) (exist (sort-exists s dt && every (sort-exists s) fs) ∷ agree (is-datatype-sort (s .state .terms) dt) ∷ []) e in
@@ -66,8 +67,8 @@ accept s h I (Register v t) e =
 accept s h I (Equate l) e =
     let (a, e₁) = no-refusal (after-close s) (exist (var-exists s l) ∷ equation s l ∷ []) e in
     let (b, e₂) = no-refusal (exist (var-exists s l)) (equation s l ∷ []) e₁ in
-    let (x, y) = T-and (Ids.is-positive l) (same-op (term (s .state .terms) (atom-of s l) .op) Eq) (no-refusal (equation s l) [] e₂ .0) in
-    equate-good s h l I b x y
+    let (x, y) = T-and (Ids.is-positive l) (is-equation s l) (no-refusal (equation s l) [] e₂ .0) in
+    equate-good s h l I b x (unfold is-equation in y)
 accept s h I (Cong t u) e =
     let (a, e₁) = no-refusal (after-close s) (exist (term-exists s t && term-exists s u) ∷ congruent s t u ∷ []) e in
     let (b, e₂) = no-refusal (exist (term-exists s t && term-exists s u)) (congruent s t u ∷ []) e₁ in
@@ -78,6 +79,12 @@ accept s h I (Iface t u i g) e = iface-good s h t u i g I
 accept s h I (Assert l) e =
     let (a, e₁) = no-refusal (after-close s) (exist (var-exists s l) ∷ []) e in
     assert-good s h l I a (unfold var-exists in no-refusal (exist (var-exists s l)) [] e₁ .0)
+accept s h I (Differ l) e =
+    let (a, e₁) = no-refusal (after-close s) _ e in
+    let (b, e₂) = no-refusal (exist (var-exists s l)) _ e₁ in
+    let (x, y) = T-and (not (Ids.is-positive l)) (is-equation s l) (no-refusal (disequality s l) [] e₂ .0) in
+    differ-good s h l I a (unfold var-exists in b) (T-no (Ids.is-positive l) x)
+    (same-op-eq (term (s .state .terms) (atom-of s l) .op) Eq (unfold is-equation in y))
 accept s h I Push e = push-good s h I
 accept s h I (Pop k) e = pop-good s h k I
 accept s h I (Line.Check true) e = full-good s h I (no-refusal (after-close s) [] e .0)

@@ -1,5 +1,5 @@
--- Each kind of accepted line keeps two things: what is asserted stands in the record of its sign (Asserted), and marks and atoms handed
--- out are settled (Marking). So the definition's clashes are those of the claim.
+-- Each kind of accepted line keeps two things: asserted testers and unequal terms stand in their records (Asserted), and marks and atoms
+-- handed out are settled (Marking). So the definition's clashes are those of the claim.
 use Prim.Native.Nat.{ℕ, zero, suc, _≤_, _<_}
 use mathlib.Core.Path.{_≡_, refl, sym, subst, subst⁻¹, ap, _∙_}
 use mathlib.Core.Logic.{_⊎_, inl, inr}
@@ -19,7 +19,7 @@ use Rattle.core.proofs.Lists.{In, T-and}
 use Rattle.theory.specs.Types.{AssertedLeaf}
 use Rattle.theory.specs.Atom as Atom
 use Rattle.theory.specs.Atom.{Registered, var-of-atom}
-use Rattle.solver.specs.State.{State, with-terms, with-eq, with-atoms, with-level, with-level-record, with-negative-record, with-lasting, with-marks, with-dt}
+use Rattle.solver.specs.State.{State, with-terms, with-eq, with-atoms, with-level, with-level-record, with-negative-record, with-disequalities, with-lasting, with-marks, with-dt}
 use Rattle.solver.specs.Records as Records
 use Rattle.solver.specs.Records.{is-some, relevant}
 use Rattle.solver.specs.Rules.{TCheck, Sat, Conflict}
@@ -30,9 +30,9 @@ use Rattle.solver.proofs.Terms.{Formed, mk-app-makes}
 use Rattle.solver.proofs.Apps.{tester-app-is}
 use Rattle.solver.proofs.Collection.{Beneath, children-lower, Marks, new-var-marks}
 use Rattle.solver.proofs.Answers.{before-ring-well}
-use Rattle.solver.proofs.Clash.{signed-record}
+use Rattle.solver.proofs.Clash.{record-by, Affirmed, Unequal}
 use Rattle.session.specs.Line as Line
-use Rattle.session.specs.Line.{Command, DeclareSort, DeclareCtor, DeclareFun, Close, MkTerm, MkEq, Register, Equate, Cong, Iface, Assert, Push, Pop}
+use Rattle.session.specs.Line.{Command, DeclareSort, DeclareCtor, DeclareFun, Close, MkTerm, MkEq, Register, Equate, Cong, Iface, Assert, Differ, Push, Pop}
 use Rattle.session.specs.Session.{Session, empty-session, term-exists, var-exists, atom-of, before-close, after-close, exist, agree, unregistered, questions, first-no, perform, done, numbered, merged, merge-sides, popped, pop-to}
 use Rattle.session.specs.Answer.{Checked}
 use Rattle.session.specs.History.{History, LeafInForce, IsAtom}
@@ -44,10 +44,10 @@ use Rattle.session.proofs.Accepting.{no-refusal, check-rule, check-stat
 use Rattle.solver.proofs.Clear.{Clear, clash-found}
 use Rattle.solver.proofs.Moves.{tester-app-kept}
 use Rattle.solver.proofs.Marking.{CtorAt, Settled, SettledIn, settled-terms, before-ring-keeps, still-clear}
-use Rattle.session.proofs.Asserted.{Asserted, asserted-as, asserted-on, asserted-pop, asserted-register, asserted-more}
+use Rattle.session.proofs.Asserted.{Asserted, asserted-as, asserted-on, asserted-pop, asserted-register, asserted-more, differed}
 
 abbrev pub AssertedIn : State → History → Type 0
-AssertedIn st h = Asserted (st .terms) (st .atoms) (signed-record st) h
+AssertedIn st h = Asserted (st .terms) (st .atoms) (record-by st) h
 
 pub record Complete (s : Session) (h : History) : Type 0 where
   pub settled : SettledIn (s .state)
@@ -63,7 +63,7 @@ empty-complete = record {
     sides = λ t x c i. absurd i;
     named = λ t i. absurd i;
   };
-  asserted = record { known = λ v l i. absurd i; entry = λ v l a x i. absurd i };
+  asserted = record { known = λ b v l i. absurd i; entry = λ v l a x i. absurd i; unequal = λ v l a i. absurd i };
 }
 
 -- ---- first variables
@@ -157,13 +157,13 @@ module _ (s : Session) (h : History) (I : Inv s h) (C : Complete s h) where
   sides-complete l (x ∷ y ∷ z ∷ zs) = record { settled = C .settled; asserted = still (Equate l) (λ w. omega arith) (λ w. omega arith) }
 
   pop-complete : (k : ℕ) → Complete (perform s (Pop k) .session) (Pop k ∷ h)
-  unfolding perform done pop-to popped with-negative-record with-level-record with-eq with-level with-dt kind
+  unfolding perform done pop-to popped with-disequalities with-negative-record with-level-record with-eq with-level with-dt kind
   pop-complete k = go (ltb k (s .state .level))
     where
       go : (b : Bool) → Complete (record { state = cond b (popped (s .state) k) (s .state); closed = s .closed }) (Pop k ∷ h)
       go true = record {
         settled = C .settled;
-        asserted = asserted-pop k (signed-record (popped (s .state) k)) (popped-record (s .state) k) (C .asserted);
+        asserted = asserted-pop k (record-by (popped (s .state) k)) (popped-record (s .state) k) (C .asserted);
       }
       go false = record { settled = C .settled; asserted = still (Pop k) (λ w. omega arith) (λ w. omega arith) }
 
@@ -243,6 +243,11 @@ module _ (s : Session) (h : History) (I : Inv s h) (C : Complete s h) where
           go none e = unfold Records.assert-atom in C .settled
           go (some x) e = unfold Records.assert-atom in tester (Ids.is-positive l) x (tester-app-is (s .state .terms) t x e .app)
 
+  differ-complete : (l : ℕ) → T (Atom.is-registered (s .state .atoms) (Ids.var l)) →
+      Complete (perform s (Differ l) .session) (Differ l ∷ h)
+  unfolding perform done Records.differ with-disequalities with-dt
+  differ-complete l r = record { settled = C .settled; asserted = differed s h l I r (C .asserted) }
+
   -- ---- checks
 
   check-complete : Complete (perform s (Line.Check true) .session) (Line.Check true ∷ h)
@@ -251,8 +256,8 @@ module _ (s : Session) (h : History) (I : Inv s h) (C : Complete s h) where
     settled = subst⁻¹ SettledIn (check-state s) (before-ring-keeps (s .state) (I .ready) (C .settled) .settled);
     asserted = subst⁻¹ (λ (st : State). AssertedIn st (Line.Check true ∷ h)) (check-state s)
         (subst⁻¹ (λ (rs : List Registered). Asserted (before-ring (s .state) .state .terms) rs
-        (signed-record (before-ring (s .state) .state)) (Line.Check true ∷ h)) (F .atoms)
-        (asserted-as (signed-record (before-ring (s .state) .state)) (F .entries)
+        (record-by (before-ring (s .state) .state)) (Line.Check true ∷ h)) (F .atoms)
+        (asserted-as (record-by (before-ring (s .state) .state)) (F .entries)
         (asserted-on (before-ring (s .state) .state .terms) (Line.Check true) (λ w. omega arith) (λ w. omega arith)
         (λ a l. tester-app-kept (s .state .terms) (before-ring (s .state) .state .terms) a (F .extends) l) (I .named)
         (C .asserted))));
@@ -290,6 +295,9 @@ module _ (s : Session) (h : History) (I : Inv s h) (C : Complete s h) where
   perform-complete (Assert l) e =
       let (a, e₁) = no-refusal (after-close s) _ e in
       assert-complete l (unfold var-exists in no-refusal (exist (var-exists s l)) [] e₁ .0)
+  perform-complete (Differ l) e =
+      let (a, e₁) = no-refusal (after-close s) _ e in
+      differ-complete l (unfold var-exists in no-refusal (exist (var-exists s l)) _ e₁ .0)
   perform-complete Push e = record { settled = C .settled; asserted = still Push (λ w. omega arith) (λ w. omega arith) }
   perform-complete (Pop k) e = pop-complete k
   perform-complete (Line.Check true) e = check-complete
@@ -344,4 +352,5 @@ module _ (s : Session) (h : History) (I : Inv s h) (C : Complete s h) where
     where
       known : LeafInForce h (AssertedLeaf l) → T (Atom.is-registered (s .state .atoms) (Ids.var l))
       known (inl (v, i)) = I .merged .equated v l i
-      known (inr (v, i)) = C .asserted .known v l i
+      known (inr (inl (v, i))) = C .asserted .known Affirmed v l i
+      known (inr (inr (v, i))) = C .asserted .known Unequal v l i

@@ -3,10 +3,10 @@ use Prim.Native.Nat.{ℕ, _≤_}
 use mathlib.Core.Path.{_≡_, refl, subst, ap}
 use mathlib.Core.Logic.{_⊎_, inl, inr}
 use mathlib.Core.List.{_∷_}
-use Rattle.session.specs.Line.{Command, DeclareSort, DeclareCtor, DeclareFun, Close, MkTerm, MkEq, Register, Equate, Cong, Iface, Assert, Push, Pop, Check}
+use Rattle.session.specs.Line.{Command, DeclareSort, DeclareCtor, DeclareFun, Close, MkTerm, MkEq, Register, Equate, Cong, Iface, Assert, Differ, Push, Pop, Check}
 use Rattle.session.specs.History.{History, level, InForce, Accepted}
 
--- 0 a line that says nothing of terms being equal, true or named; the others one each
+-- 0 a line that says nothing of terms being equal, true or named; 5 one that asserts a literal; the others one each
 unfoldable pub kind : Command → ℕ
 kind (DeclareSort n) = 0
 kind (DeclareCtor dt fs) = 0
@@ -19,6 +19,7 @@ kind (Equate l) = 2
 kind (Cong t u) = 3
 kind (Iface t u h g) = 4
 kind (Assert l) = 5
+kind (Differ l) = 5
 kind Push = 0
 kind (Pop k) = 6
 kind (Check e) = 0

@@ -1,4 +1,4 @@
--- What ties a session to its accepted lines, part by part: names, merges, entries of the records of testers, marks.
+-- What ties a session to its accepted lines, part by part: names, merges, entries of the records, marks.
 use Prim.Native.Nat.{ℕ, zero, suc, _≤_, _<_}
 use mathlib.Core.Path.{_≡_, refl, sym, subst, subst⁻¹, ap, ap₂, _∙_}
 use mathlib.Core.Logic.{_⊎_, inl, inr, _↔_}
@@ -11,7 +11,7 @@ use borrow.Author.Tests.{leb-true, le-leb}
 use lib.ListN.{length}
 use Rattle.core.specs.Lists.{first, zip}
 use Rattle.core.specs.Ids as Ids
-use Rattle.core.specs.Term.{Term}
+use Rattle.core.specs.Term.{Term, Eq}
 use Rattle.core.specs.Context.{Context, term, children, all-grounded, empty-context, declare-sort, dt-add-constructor, declare-fun}
 use Rattle.core.proofs.Lists.{In, keep-in, any-in}
 use Rattle.theory.specs.Types.{EqJust, Asserted, Congruence, Interface}
@@ -20,13 +20,13 @@ use Rattle.theory.specs.Atom as Atom
 use Rattle.theory.specs.Atom.{Registered}
 use Rattle.theory.proofs.Members.{in-left, in-right, in-either, in-any}
 use Rattle.theory.proofs.Classes.{Suffix, suffix-self, in-suffix, equal-suffix, pop-suffix, pop-pop, pop-more, merge-equal, Linked, equal-linked, equal-refl, equal-sym, equal-trans}
-use Rattle.solver.specs.State.{State, AssertedTester, with-eq, with-level, with-level-record, with-negative-record, with-dt}
-use Rattle.solver.specs.Records.{relevant, pop-testers}
+use Rattle.solver.specs.State.{State, AssertedAtom, with-eq, with-level, with-level-record, with-negative-record, with-disequalities, with-dt}
+use Rattle.solver.specs.Records.{relevant, pop-entries}
 use Rattle.solver.proofs.Basics.{first-some, first-none, Ascending, false-T}
 use Rattle.solver.proofs.Terms.{Extends, extends-length, extends-term}
-use Rattle.solver.proofs.Clash.{Ready, signed-record}
+use Rattle.solver.proofs.Clash.{Ready, Assertion, Affirmed, Negated, Unequal, record-by}
 use Rattle.solver.proofs.Collection.{Beneath}
-use Rattle.session.specs.Line.{Command, DeclareSort, DeclareCtor, DeclareFun, Close, MkTerm, MkEq, Register, Equate, Cong, Iface, Assert, Push, Pop, Check}
+use Rattle.session.specs.Line.{Command, DeclareSort, DeclareCtor, DeclareFun, Close, MkTerm, MkEq, Register, Equate, Cong, Iface, Assert, Differ, Push, Pop, Check}
 use Rattle.session.specs.Session.{Session, popped}
 use Rattle.session.specs.History.{History, level, InForce, Accepted, IsAtom, IsEquation, Sides, Chain, EqualNow}
 use Rattle.session.proofs.Forces.{kind, force-on, force-pop, force-other, pop-back, accepted-other}
@@ -46,6 +46,7 @@ declared (Equate l) cx = cx
 declared (Cong t u) cx = cx
 declared (Iface t u h g) cx = cx
 declared (Assert l) cx = cx
+declared (Differ l) cx = cx
 declared Push cx = cx
 declared (Pop k) cx = cx
 declared (Check e) cx = cx
@@ -365,53 +366,94 @@ module _ (cx : Context) (atoms : List Registered) (eq : List Merge) (lvl : ℕ) 
   pub classes-agree : (x y : ℕ) → T (are-equal eq x y) ↔ EqualNow cx h x y
   classes-agree x y = (λ t. let (n, l) = equal-linked eq x y t in (n, linked-chain n x y l), λ c. chain-equal (c .0) x y (c .1))
 
--- ---- the records of testers
+-- ---- the records
 
--- an entry of the record of a sign
-pub record Entry (b : Bool) (lvl : ℕ) (h : History) (e : AssertedTester) : Type 0 where
-  pub force : InForce h (e .level) (Assert (e .lit))
+-- the line that says something of a literal's atom
+abbrev pub line-of : Assertion → ℕ → Command
+line-of Affirmed l = Assert l
+line-of Negated l = Assert l
+line-of Unequal l = Differ l
+
+-- all are of one kind
+pub of-kind : (b : Assertion) (l : ℕ) → kind (line-of b l) ≡ 5
+unfolding kind
+of-kind Affirmed l = refl
+of-kind Negated l = refl
+of-kind Unequal l = refl
+
+-- the sign of the literal
+abbrev pub sign-of : Assertion → Bool
+sign-of Affirmed = true
+sign-of Negated = false
+sign-of Unequal = false
+
+-- unequal terms are the sides of an equation
+abbrev pub Shape : Context → ℕ → Assertion → Type 0
+Shape cx t Affirmed = Unit {0}
+Shape cx t Negated = Unit {0}
+Shape cx t Unequal = term cx t .op ≡ Eq
+
+shape-on : (a b : Context) (t : ℕ) → term b t ≡ term a t → (x : Assertion) → Shape a t x → Shape b t x
+shape-on a b t e Affirmed z = tt
+shape-on a b t e Negated z = tt
+shape-on a b t e Unequal z = ap (λ (y : Term). y .op) e ∙ z
+
+-- an entry of a record
+pub record Entry (b : Assertion) (cx : Context) (lvl : ℕ) (h : History) (e : AssertedAtom) : Type 0 where
+  pub force : InForce h (e .level) (line-of b (e .lit))
   pub atom : IsAtom h (e .lit) (e .atom)
-  pub sign : Ids.is-positive (e .lit) ≡ b
+  pub sign : Ids.is-positive (e .lit) ≡ sign-of b
+  pub shape : Shape cx (e .atom) b
   pub low : e .level ≤ lvl
 
-abbrev pub Entries : (Bool → List AssertedTester) → ℕ → History → Type 0
-Entries es lvl h = (b : Bool) (e : AssertedTester) → In e (es b) → Entry b lvl h e
+abbrev pub Entries : (Assertion → List AssertedAtom) → Context → ℕ → History → Type 0
+Entries es cx lvl h = (b : Assertion) (e : AssertedAtom) → In e (es b) → Entry b cx lvl h e
 
-pub entries-on : (es : Bool → List AssertedTester) (lvl lvl′ : ℕ) (h : History) (d : Command) → (kind d ≡ 6 → ⊥) → lvl ≤ lvl′ →
-    Entries es lvl h → Entries es lvl′ (d ∷ h)
-entries-on es lvl lvl′ h d n l E b e i =
-    let x = E b e i in
+pub entries-on : (es : Assertion → List AssertedAtom) (a b : Context) (atoms : List Registered) (lvl lvl′ : ℕ) (h : History)
+    (d : Command) → Kept a b → Named a atoms h → (kind d ≡ 6 → ⊥) → lvl ≤ lvl′ → Entries es a lvl h → Entries es b lvl′ (d ∷ h)
+entries-on es a b atoms lvl lvl′ h d k N n l E x e i =
+    let y = E x e i in
     record {
-      force = force-on d h (e .level) (Assert (e .lit)) n (x .force);
-      atom = inr (x .atom);
-      sign = x .sign;
-      low = let q = x .low in omega arith;
+      force = force-on d h (e .level) (line-of x (e .lit)) n (y .force);
+      atom = inr (y .atom);
+      sign = y .sign;
+      shape = shape-on a b (e .atom) (k .same (e .atom) (atom-within a atoms h N (e .lit) (e .atom) (y .atom))) x (y .shape);
+      low = let q = y .low in omega arith;
     }
 
-pub entries-pop : (es : Bool → List AssertedTester) (lvl k : ℕ) (h : History) → Entries es lvl h →
-    Entries (λ b. pop-testers k (es b)) k (Pop k ∷ h)
-unfolding pop-testers
-entries-pop es lvl k h E b e i =
-    let (j, t) = keep-in (λ (x : AssertedTester). leb (x .level) k) (es b) e i in
+pub entries-pop : (es : Assertion → List AssertedAtom) (cx : Context) (lvl k : ℕ) (h : History) → Entries es cx lvl h →
+    Entries (λ b. pop-entries k (es b)) cx k (Pop k ∷ h)
+unfolding pop-entries
+entries-pop es cx lvl k h E b e i =
+    let (j, t) = keep-in (λ (x : AssertedAtom). leb (x .level) k) (es b) e i in
     let x = E b e j in
     let l = lib.Dec.leb→le (e .level) k t in
-    record { force = force-pop k h (e .level) (Assert (e .lit)) l (x .force); atom = inr (x .atom); sign = x .sign; low = l }
-
-pub entries-stay : (es : Bool → List AssertedTester) (lvl k : ℕ) (h : History) → lvl ≤ k → Entries es lvl h → Entries es lvl (Pop k ∷ h)
-entries-stay es lvl k h l E b e i =
-    let x = E b e i in
     record {
-      force = force-pop k h (e .level) (Assert (e .lit)) (let q = x .low in omega arith) (x .force);
+      force = force-pop k h (e .level) (line-of b (e .lit)) l (x .force);
       atom = inr (x .atom);
       sign = x .sign;
+      shape = x .shape;
+      low = l;
+    }
+
+pub entries-stay : (es : Assertion → List AssertedAtom) (cx : Context) (lvl k : ℕ) (h : History) → lvl ≤ k → Entries es cx lvl h →
+    Entries es cx lvl (Pop k ∷ h)
+entries-stay es cx lvl k h l E b e i =
+    let x = E b e i in
+    record {
+      force = force-pop k h (e .level) (line-of b (e .lit)) (let q = x .low in omega arith) (x .force);
+      atom = inr (x .atom);
+      sign = x .sign;
+      shape = x .shape;
       low = x .low;
     }
 
--- a pop to a lower level takes from the record of either sign
-pub popped-record : (st : State) (k : ℕ) (b : Bool) → signed-record (popped st k) b ≡ pop-testers k (signed-record st b)
-unfolding popped with-negative-record with-level-record with-eq with-level with-dt
-popped-record st k true = refl
-popped-record st k false = refl
+-- a pop to a lower level takes from each record
+pub popped-record : (st : State) (k : ℕ) (b : Assertion) → record-by (popped st k) b ≡ pop-entries k (record-by st b)
+unfolding popped with-disequalities with-negative-record with-level-record with-eq with-level with-dt
+popped-record st k Affirmed = refl
+popped-record st k Negated = refl
+popped-record st k Unequal = refl
 
 -- ---- marks
 
@@ -432,5 +474,5 @@ pub record Inv (s : Session) (h : History) : Type 0 where
   pub ascending : Ascending (s .state .dt .marks)
   pub named : Named (s .state .terms) (s .state .atoms) h
   pub merged : Merged (s .state .terms) (s .state .atoms) (s .state .eq) (s .state .level) h
-  pub entries : Entries (signed-record (s .state)) (s .state .level) h
+  pub entries : Entries (record-by (s .state)) (s .state .terms) (s .state .level) h
   pub marked : AllMarked (s .state .terms) (s .state .dt .marks) h

@@ -1,7 +1,7 @@
--- Laws of sessions. Forces: lines in force; Invariant: what ties a session to its accepted lines; Asserted: asserted testers and their
--- records; Truth: merges in a reading; Rings: the claim's ring is the walk's; Causes: why the solver answers so; Steps: the invariant
--- kept; Accepting and Joins: what each kind of accepted line owes the claim; Tables: what each line makes of the table of terms and of the
--- marks; Complete: the records of testers and the marks kept; Claim: demand 3; RunClaim: demand 3 about the run.
+-- Laws of sessions. Forces: lines in force; Invariant: what ties a session to its accepted lines; Asserted: asserted testers, unequal terms
+-- and their records; Truth: merges in a reading; Rings: the claim's ring is the walk's; Causes: why the solver answers so; Steps: the
+-- invariant kept; Accepting and Joins: what each kind of accepted line owes the claim; Tables: what each line makes of the table of terms
+-- and of the marks; Complete: the records and the marks kept; Claim: demand 3; RunClaim: demand 3 about the run.
 pub mod Forces
 pub mod Invariant
 pub mod Asserted

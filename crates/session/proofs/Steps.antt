@@ -22,13 +22,13 @@ use Rattle.theory.specs.Atom.{Registered}
 use Rattle.theory.proofs.Members.{in-left, in-any}
 use Rattle.theory.proofs.Explain.{TwoTerms, merge-justified, pop-justified}
 use Rattle.theory.proofs.Classes.{in-suffix, pop-suffix}
-use Rattle.solver.specs.State.{State, AssertedTester, empty-state, with-eq, with-atoms, with-level, with-level-record, with-negative-record, with-marks, with-dt}
+use Rattle.solver.specs.State.{State, AssertedAtom, empty-state, with-eq, with-atoms, with-level, with-level-record, with-negative-record, with-disequalities, with-marks, with-dt}
 use Rattle.solver.specs.Records as Records
 use Rattle.solver.specs.Records.{relevant}
 use Rattle.solver.proofs.Basics.{mem-in, Ascending}
 use Rattle.solver.proofs.Terms.{Formed}
 use Rattle.solver.proofs.Signature.{empty-signed}
-use Rattle.solver.proofs.Clash.{Ready, signed-record}
+use Rattle.solver.proofs.Clash.{Ready, Affirmed, Negated, Unequal, record-by}
 use Rattle.solver.proofs.Collection.{Beneath, children-lower, Marks, new-var-marks}
 use Rattle.session.specs.Line.{Command, Register, Equate, Pop}
 use Rattle.session.specs.Session.{Session, empty-session, popped, pop-to}
@@ -63,7 +63,7 @@ pub record Plain (s s′ : Session) (h : History) (d : Command) : Type 0 where
   pub atoms : s′ .state .atoms ≡ s .state .atoms
   pub level-up : s .state .level ≤ s′ .state .level
   pub level : s′ .state .level ≡ level (d ∷ h)
-  pub entries : Entries (signed-record (s′ .state)) (s′ .state .level) (d ∷ h)
+  pub entries : Entries (record-by (s′ .state)) (s′ .state .terms) (s′ .state .level) (d ∷ h)
   pub marks : (t : ℕ) → In t (s .state .dt .marks) → In t (s′ .state .dt .marks)
   pub ascending : Ascending (s′ .state .dt .marks)
   pub bool-there : 0 < length (s′ .state .terms .sorts)
@@ -114,8 +114,8 @@ register-kept s h v t I n l = record {
   ascending = M .ascending (I .ascending);
   named = named-new (s .state .terms) (s .state .atoms) h v t n l (I .named);
   merged = merged-on (s .state .terms) (s .state .terms) (s .state .atoms) (Atom.register (s .state .atoms) v t) (s .state .eq) (s .state .level) (s .state .level) h (Register v t) (kept-self (s .state .terms)) (I .named) (omega arith) (λ e. omega arith) (λ e. omega arith) (λ e. omega arith) (λ e. omega arith) more old (I .merged);
-  entries = entries-on (signed-record (s .state)) (s .state .level) (s .state .level) h (Register v t) (λ e. omega arith) (omega arith)
-      (I .entries);
+  entries = entries-on (record-by (s .state)) (s .state .terms) (s .state .terms) (s .state .atoms) (s .state .level) (s .state .level) h
+      (Register v t) (kept-self (s .state .terms)) (I .named) (λ e. omega arith) (omega arith) (I .entries);
   marked = marked;
 }
   where
@@ -164,7 +164,8 @@ merge-kept s h d x y j I n₁ n₆ sg lv J T₂ F S G = record {
   ascending = I .ascending;
   named = named-on (s .state .terms) (s .state .terms) (s .state .atoms) h d n₁ (kept-self (s .state .terms)) (I .named);
   merged = merged-more (s .state .terms) (s .state .atoms) (s .state .eq) (s .state .level) h d x y j n₆ (I .level) F S G (I .merged);
-  entries = entries-on (signed-record (s .state)) (s .state .level) (s .state .level) h d n₆ (omega arith) (I .entries);
+  entries = entries-on (record-by (s .state)) (s .state .terms) (s .state .terms) (s .state .atoms) (s .state .level) (s .state .level) h d
+      (kept-self (s .state .terms)) (I .named) n₆ (omega arith) (I .entries);
   marked = λ v a n t i b r. I .marked v a n t (accepted-other d h (Register v a) (λ e. n₁ e) i) b r;
 }
 
@@ -185,7 +186,7 @@ pop-kept s h k I = go (ltb k (s .state .level)) refl
 
     go : (b : Bool) → ltb k (s .state .level) ≡ b →
         Inv (record { state = cond b (popped (s .state) k) (s .state); closed = s .closed }) (Pop k ∷ h)
-    go true e = unfold with-negative-record with-level-record with-eq with-level with-dt in record {
+    go true e = unfold with-disequalities with-negative-record with-level-record with-eq with-level with-dt in record {
       ready = record {
         formed = I .ready .formed;
         signed = I .ready .signed;
@@ -201,8 +202,8 @@ pop-kept s h k I = go (ltb k (s .state .level)) refl
       ascending = I .ascending;
       named = named;
       merged = merged-pop (s .state .terms) (s .state .atoms) (s .state .eq) (s .state .level) k h (I .merged);
-      entries = λ b x i. entries-pop (signed-record (s .state)) (s .state .level) k h (I .entries) b x
-          (subst (λ (es : List AssertedTester). In x es) (popped-record (s .state) k b) i);
+      entries = λ b x i. entries-pop (record-by (s .state)) (s .state .terms) (s .state .level) k h (I .entries) b x
+          (subst (λ (es : List AssertedAtom). In x es) (popped-record (s .state) k b) i);
       marked = marked;
     }
     go false e = record {
@@ -216,7 +217,7 @@ pop-kept s h k I = go (ltb k (s .state .level)) refl
       ascending = I .ascending;
       named = named;
       merged = merged-stay (s .state .terms) (s .state .atoms) (s .state .eq) (s .state .level) k h (ltb-false k (s .state .level) e) (I .merged);
-      entries = entries-stay (signed-record (s .state)) (s .state .level) k h (ltb-false k (s .state .level) e) (I .entries);
+      entries = entries-stay (record-by (s .state)) (s .state .terms) (s .state .level) k h (ltb-false k (s .state .level) e) (I .entries);
       marked = marked;
     }
 
@@ -244,9 +245,10 @@ empty-inv = record {
   marked = λ v a n t i. absurd i;
 }
   where
-    none-recorded : Entries (signed-record empty-state) 0 []
-    none-recorded true e i = absurd i
-    none-recorded false e i = absurd i
+    none-recorded : Entries (record-by empty-state) empty-context 0 []
+    none-recorded Affirmed e i = absurd i
+    none-recorded Negated e i = absurd i
+    none-recorded Unequal e i = absurd i
 
     none : (v x y : ℕ) → LineSides empty-context [] v x y → T (are-equal (pop-merges v []) x y)
     none v x y (inl (l, t, i, w, e)) = absurd i

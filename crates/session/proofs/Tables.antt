@@ -12,14 +12,14 @@ use Rattle.core.specs.Ids as Ids
 use Rattle.core.specs.Context.{TesterApp, tester-app, children}
 use Rattle.core.proofs.Lists.{In}
 use Rattle.theory.specs.Atom as Atom
-use Rattle.solver.specs.State.{State, with-terms, with-eq, with-atoms, with-level, with-level-record, with-negative-record, with-lasting, with-marks, with-dt}
+use Rattle.solver.specs.State.{State, with-terms, with-eq, with-atoms, with-level, with-level-record, with-negative-record, with-disequalities, with-lasting, with-marks, with-dt}
 use Rattle.solver.specs.Records as Records
 use Rattle.solver.specs.Check as Check
 use Rattle.solver.proofs.Collection.{Beneath, new-var-marks}
 use Rattle.solver.proofs.Clash.{Ready}
 use Rattle.solver.proofs.Answers.{full-check-well}
 use Rattle.session.specs.Line as Line
-use Rattle.session.specs.Line.{Command, DeclareSort, DeclareCtor, DeclareFun, Close, MkTerm, MkEq, Register, Equate, Cong, Iface, Assert, Push, Pop}
+use Rattle.session.specs.Line.{Command, DeclareSort, DeclareCtor, DeclareFun, Close, MkTerm, MkEq, Register, Equate, Cong, Iface, Assert, Differ, Push, Pop}
 use Rattle.session.specs.Session.{Session, done, numbered, merged, merge-sides, popped, pop-to, perform, atom-of}
 use Rattle.session.specs.History.{History, Makes, Accepted}
 use Rattle.session.specs.Claim.{Collected, After}
@@ -39,7 +39,7 @@ sides-same s l (x ∷ y ∷ []) = record { terms = refl; marks = refl }
 sides-same s l (x ∷ y ∷ z ∷ zs) = record { terms = refl; marks = refl }
 
 pop-same : (st : State) (k : ℕ) → Same st (pop-to st k)
-unfolding pop-to popped with-negative-record with-level-record with-eq with-level with-dt
+unfolding pop-to popped with-disequalities with-negative-record with-level-record with-eq with-level with-dt
 pop-same st k = go (ltb k (st .level))
   where
     go : (b : Bool) → Same st (cond b (popped st k) st)
@@ -59,6 +59,10 @@ assert-same st l = go (tester-app (st .terms) (Atom.atom (st .atoms) (Ids.var l)
     go none = unfold Records.assert-atom in record { terms = refl; marks = refl }
     go (some x) = unfold Records.assert-atom in tester-same st l (Ids.is-positive l) x
 
+differ-same : (st : State) (l : ℕ) → Same st (Records.differ st l)
+unfolding Records.differ with-disequalities with-dt
+differ-same st l = record { terms = refl; marks = refl }
+
 -- ---- each line
 
 pub perform-table : (s : Session) (c : Command) → Ready (s .state) → Makes c (s .state .terms) (perform s c .session .state .terms)
@@ -74,6 +78,7 @@ perform-table s (Equate l) R = sides-same s l (children (s .state .terms) (atom-
 perform-table s (Cong t u) R = refl
 perform-table s (Iface t u h g) R = refl
 perform-table s (Assert l) R = assert-same (s .state) l .terms
+perform-table s (Differ l) R = differ-same (s .state) l .terms
 perform-table s Push R = refl
 perform-table s (Pop k) R = pop-same (s .state) k .terms
 perform-table s (Line.Check true) R = full-check-well (s .state) R .follows .extends
@@ -98,6 +103,7 @@ perform-marks s (Equate l) R t i = same-marks (s .state) (merge-sides s l (child
 perform-marks s (Cong u v) R t i = i
 perform-marks s (Iface u v h g) R t i = i
 perform-marks s (Assert l) R t i = same-marks (s .state) (Records.assert (s .state) l .state) (assert-same (s .state) l) t i
+perform-marks s (Differ l) R t i = same-marks (s .state) (Records.differ (s .state) l) (differ-same (s .state) l) t i
 perform-marks s Push R t i = i
 perform-marks s (Pop k) R t i = same-marks (s .state) (pop-to (s .state) k) (pop-same (s .state) k) t i
 perform-marks s (Line.Check true) R t i = full-check-well (s .state) R .follows .marks t i
@@ -124,6 +130,7 @@ marks-back s h (Equate l) t i = inl (same-marks-back (s .state) (merge-sides s l
 marks-back s h (Cong u v) t i = inl i
 marks-back s h (Iface u v j g) t i = inl i
 marks-back s h (Assert l) t i = inl (same-marks-back (s .state) (Records.assert (s .state) l .state) (assert-same (s .state) l) t i)
+marks-back s h (Differ l) t i = inl (same-marks-back (s .state) (Records.differ (s .state) l) (differ-same (s .state) l) t i)
 marks-back s h Push t i = inl i
 marks-back s h (Pop k) t i = inl (same-marks-back (s .state) (pop-to (s .state) k) (pop-same (s .state) k) t i)
 marks-back s h (Line.Check true) t i = inr (inr refl)
@@ -151,6 +158,7 @@ perform-closed s (Equate l) k = sides-closed s l (children (s .state .terms) (at
 perform-closed s (Cong t u) k = refl
 perform-closed s (Iface t u h g) k = refl
 perform-closed s (Assert l) k = refl
+perform-closed s (Differ l) k = refl
 perform-closed s Push k = refl
 perform-closed s (Pop k′) k = refl
 perform-closed s (Line.Check e) k = refl
@@ -172,6 +180,7 @@ shut s (Equate l) e = absurd (omega arith)
 shut s (Cong t u) e = absurd (omega arith)
 shut s (Iface t u h g) e = absurd (omega arith)
 shut s (Assert l) e = absurd (omega arith)
+shut s (Differ l) e = absurd (omega arith)
 shut s Push e = absurd (omega arith)
 shut s (Pop k) e = absurd (omega arith)
 shut s (Line.Check f) e = absurd (omega arith)

@@ -2,7 +2,7 @@
 use Prim.Native.Nat.{ℕ, _+_, _*_, _/_, _%_, _<_}
 use mathlib.Core.Path.{_≡_, refl, sym, subst, subst⁻¹, ap, ap₂, _∙_}
 use mathlib.Core.Logic.{_⊎_, inl, inr, _≢_}
-use mathlib.Core.Bool.{Bool, true, false, cond}
+use mathlib.Core.Bool.{Bool, true, false, cond, false≢true}
 use mathlib.Core.List.{List, [], _∷_}
 use mathlib.Core.Option.{Option, none, some}
 use native.Mathlib.Omega.{arith}
@@ -16,7 +16,7 @@ use Rattle.core.specs.Term.{Term, Op, Eq}
 use Rattle.core.specs.Context.{Context, term, children, sort-of}
 use Rattle.core.specs.Reading.{Reading, Values, truth, cons, same-value, value, app-value}
 use Rattle.core.proofs.Lists.{In, T-true, true-T}
-use Rattle.theory.specs.Types.{EqJust, Asserted, Congruence, Interface, EqLeaf}
+use Rattle.theory.specs.Types.{EqJust, Asserted, Congruence, Interface, EqLeaf, AssertedLeaf}
 use Rattle.theory.specs.EqEngine.{Merge, are-equal}
 use Rattle.theory.specs.Atom as Atom
 use Rattle.theory.specs.Atom.{Registered}
@@ -26,13 +26,14 @@ use Rattle.solver.proofs.Basics.{none-some, some-is, first-some, false-T}
 use Rattle.solver.proofs.Terms.{Agrees, Formed}
 use Rattle.solver.proofs.Values.{values-of, value-is, same-value-eq}
 use Rattle.solver.proofs.Apps.{equation-is, truth-is}
-use Rattle.solver.proofs.Clash.{Cited, Refuted}
+use Rattle.solver.proofs.Lemmas.{equation-true}
+use Rattle.solver.proofs.Clash.{Assertion, Affirmed, Negated, Unequal, Means, Cited, Refuted}
 use Rattle.solver.proofs.Moves.{SomeLit, SomeTrue, SplitHolds}
-use Rattle.session.specs.Line.{Register, Assert}
+use Rattle.session.specs.Line.{Register}
 use Rattle.session.specs.Session.{Session}
 use Rattle.session.specs.History.{History, HoldsNow, LeafInForce, Accepted, IsAtom, IsEquation, LitTrue, LeafTrue, AllTrue, SomeLitTrue, SomeAtomTrue, LemmaTrue}
 use Rattle.session.specs.Claim.{AllInForce, Impossible, Valid}
-use Rattle.session.proofs.Invariant.{atom-one, MergeFrom, Inv}
+use Rattle.session.proofs.Invariant.{atom-one, atom-within, MergeFrom, line-of, sign-of, Shape, Inv}
 
 -- ---- argument pairs
 
@@ -53,12 +54,12 @@ same-op-count cx F a b l m e =
     same-count cx (term cx b .op) (children cx a) (children cx b) (subst (λ (o : Op). Agrees cx o (children cx a)) e (F .agrees a l)) (F .agrees b m)
 
 -- pairs of one term each, or one of two
-differ : (xs ys : List ℕ) → length xs ≡ length ys → (xs ≡ ys) ⊎ ((p : ℕ × ℕ) × In p (zip xs ys) × (p .0 ≡ p .1 → ⊥))
+told-apart : (xs ys : List ℕ) → length xs ≡ length ys → (xs ≡ ys) ⊎ ((p : ℕ × ℕ) × In p (zip xs ys) × (p .0 ≡ p .1 → ⊥))
 unfolding zip
-differ [] [] e = inl refl
-differ [] (y ∷ ys) e = absurd (omega arith)
-differ (x ∷ xs) [] e = absurd (omega arith)
-differ (x ∷ xs) (y ∷ ys) e = go (eqb x y) refl (differ xs ys (omega arith))
+told-apart [] [] e = inl refl
+told-apart [] (y ∷ ys) e = absurd (omega arith)
+told-apart (x ∷ xs) [] e = absurd (omega arith)
+told-apart (x ∷ xs) (y ∷ ys) e = go (eqb x y) refl (told-apart xs ys (omega arith))
   where
     later : x ≡ y → (xs ≡ ys) ⊎ ((p : ℕ × ℕ) × In p (zip xs ys) × (p .0 ≡ p .1 → ⊥)) → (x ∷ xs ≡ y ∷ ys) ⊎ ((p : ℕ × ℕ) × In p ((x, y) ∷ zip xs ys) × (p .0 ≡ p .1 → ⊥))
     later q (inl w) = inl (ap₂ (λ (z : ℕ) (zs : List ℕ). z ∷ zs) q w)
@@ -71,7 +72,7 @@ differ (x ∷ xs) (y ∷ ys) e = go (eqb x y) refl (differ xs ys (omega arith))
 -- Two applications that are not equal now have a pair of two different terms.
 pub two-terms : (cx : Context) → Formed cx → (eq : List Merge) (a b : ℕ) → a < length (cx .terms) → b < length (cx .terms) → term cx a .op ≡ term cx b .op → are-equal eq a b ≡ false → TwoTerms (Congruence (zip (children cx a) (children cx b)))
 unfolding children
-two-terms cx F eq a b l m e n = go (differ (children cx a) (children cx b) (same-op-count cx F a b l m e))
+two-terms cx F eq a b l m e n = go (told-apart (children cx a) (children cx b) (same-op-count cx F a b l m e))
   where
     go : (children cx a ≡ children cx b) ⊎ ((p : ℕ × ℕ) × In p (zip (children cx a) (children cx b)) × (p .0 ≡ p .1 → ⊥)) → (p : ℕ × ℕ) × In p (zip (children cx a) (children cx b)) × (p .0 ≡ p .1 → ⊥)
     go (inl q) =
@@ -115,13 +116,30 @@ module _ (s : Session) (h : History) (I : Inv s h) where
   cited a b v (Congruence ps) l w e = absurd e
   cited a b v (Interface i g) l w e = subst⁻¹ (LeafInForce h) e (a, b, (v, w))
 
-  -- literals that were said, by their sign, of tester atoms by lines in force
-  abbrev pub SaidNow : (Bool → ℕ → ℕ → Type 0) → Type 0
-  SaidNow Said = (b : Bool) (k t : ℕ) → Said b k t → HoldsNow h (Assert k) × IsAtom h k t × (Ids.is-positive k ≡ b)
+  -- literals that said something of their atoms by lines in force
+  abbrev pub SaidNow : (Assertion → ℕ → ℕ → Type 0) → Type 0
+  SaidNow Said =
+      (b : Assertion) (k t : ℕ) → Said b k t →
+      HoldsNow h (line-of b k) × IsAtom h k t × (Ids.is-positive k ≡ sign-of b) × Shape (s .state .terms) t b
 
-  leaf-force : (Said : Bool → ℕ → ℕ → Type 0) → SaidNow Said → (l : EqLeaf) → Cited (s .state) Said l → LeafInForce h l
+  line-force : (b : Assertion) (k : ℕ) → HoldsNow h (line-of b k) → LeafInForce h (AssertedLeaf k)
+  line-force Affirmed k f = inr (inl f)
+  line-force Negated k f = inr (inl f)
+  line-force Unequal k f = inr (inr f)
+
+  leaf-force : (Said : Assertion → ℕ → ℕ → Type 0) → SaidNow Said → (l : EqLeaf) → Cited (s .state) Said l → LeafInForce h l
   leaf-force Said S l (inl (m, i, w)) = cited (m .a) (m .b) (m .level) (m .just) l (I .merged .from m i) w
-  leaf-force Said S l (inr (b, k, t, w, e)) = subst⁻¹ (LeafInForce h) e (inr (S b k t w .0))
+  leaf-force Said S l (inr (b, k, t, w, e)) = subst⁻¹ (LeafInForce h) e (line-force b k (S b k t w .0))
+
+  -- what a true literal says of its atom
+  meant : (r : Reading (s .state .terms)) (b : Assertion) (k t : ℕ) → IsAtom h k t → Ids.is-positive k ≡ sign-of b →
+      Shape (s .state .terms) t b → LitTrue r h k → Means r t b
+  meant r Affirmed k t at p z q = lit-true r k t true at p q
+  meant r Negated k t at p z q = lit-true r k t false at p q
+  meant r Unequal k t at p z q = λ x y c e.
+      false≢true (truth-is false true (sym (lit-true r k t false at p q)
+      ∙ equation-true r (I .ready .formed) t x y (atom-within (s .state .terms) (s .state .atoms) h (I .named) k t at)
+      (unfold children in λ i. record { op = z i; args = c i }) e))
 
   all-force : (ls : List EqLeaf) → ((l : EqLeaf) → In l ls → LeafInForce h l) → AllInForce h ls
   all-force [] f = tt
@@ -133,11 +151,11 @@ module _ (s : Session) (h : History) (I : Inv s h) where
   each-true r (k ∷ ls) (x, a) l (inr i) = each-true r ls a l i
 
   -- a refutation is a conflict
-  pub conflict-holds : (Said : Bool → ℕ → ℕ → Type 0) → SaidNow Said → (ls : List EqLeaf) → Refuted (s .state) Said ls →
+  pub conflict-holds : (Said : Assertion → ℕ → ℕ → Type 0) → SaidNow Said → (ls : List EqLeaf) → Refuted (s .state) Said ls →
       AllInForce h ls × Impossible (s .state .terms) h ls × (ls ≢ [])
   conflict-holds Said S ls R = (
     all-force ls (λ l i. leaf-force Said S l (R .cites l i)),
-    λ r a. R .impossible r (LeafTrue r h) (merges-sound r) (λ b k t w q. lit-true r k t b (S b k t w .1) (S b k t w .2) q)
+    λ r a. R .impossible r (LeafTrue r h) (merges-sound r) (λ b k t w q. let (f, at, p, z) = S b k t w in meant r b k t at p z q)
         (each-true r ls a),
     R .some-leaf,
   )

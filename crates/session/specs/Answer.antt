@@ -7,7 +7,7 @@ use Rattle.session.specs.Text.{bytes, comma, joined, decimal}
 
 -- a no to one of the questions of a line
 pub data Refusal : Type 0 where
-  Unreadable Misplaced Missing Disagreeing Registered NotEquation NotCongruent NotGrounded NoRoom : Refusal
+  Unreadable Misplaced Missing Disagreeing Registered NotEquation NotDisequality NotCongruent NotGrounded NoRoom : Refusal
 
 -- the number of the question
 unfoldable pub question : Refusal → ℕ
@@ -17,6 +17,7 @@ question Missing = 5
 question Disagreeing = 6
 question Registered = 7
 question NotEquation = 8
+question NotDisequality = 13
 question NotCongruent = 9
 question NotGrounded = 10
 question NoRoom = 11

@@ -25,7 +25,7 @@ use Rattle.session.specs.Line as Line
 use Rattle.session.specs.Line.{Command, read-line}
 use Rattle.session.specs.Answer.{Refusal, Unreadable, Answer, TermIs, Checked, Refused}
 use Rattle.session.specs.Session.{Session, empty-session, Performed, step}
-use Rattle.session.specs.History.{History, Makes, Accepted, HoldsNow, LeafInForce, IsAtom, EqualNow, AllTrue, LemmaTrue, history-after, replay}
+use Rattle.session.specs.History.{History, Makes, Accepted, HoldsNow, LeafInForce, IsAtom, IsEquation, EqualNow, AllTrue, LemmaTrue, history-after, replay}
 
 -- ---- conflicts and lemmas
 
@@ -104,8 +104,12 @@ module _ (cx : Context) (marks : List ℕ) (h : History) where
   abbrev pub NegativeClash : Type 0
   NegativeClash = (l : ℕ) × HoldsNow h (Line.Assert l) × Denied l
 
+  -- 02 (iii): an unequal pair: a `differ` line in force whose two sides are equal now
+  abbrev pub UnequalPair : Type 0
+  UnequalPair = (l a x y : ℕ) × HoldsNow h (Line.Differ l) × IsAtom h l a × IsEquation cx a x y × EqualNow cx h x y
+
   abbrev pub Clash : Type 0
-  Clash = ConstructorClash ⊎ (TesterClash ⊎ NegativeClash)
+  Clash = ConstructorClash ⊎ (TesterClash ⊎ (NegativeClash ⊎ UnequalPair))
 
   -- what a conflict comes from
   abbrev pub Cause : Type 0
@@ -138,7 +142,7 @@ pub record AtLine (s : Session) (h : History) (line : List ℕ) (p : Performed) 
   -- each cited leaf is in force, a conflict's leaves are true together in no reading, and a conflict is not empty
   pub conflict : (ls : List EqLeaf) → p .answer ≡ Checked (Conflict ls) →
       AllInForce h′ ls × Impossible (p .session .state .terms) h′ ls × (ls ≢ [])
-  -- a conflict has a cause: a constructor clash, a tester clash, a negative tester's clash or a ring
+  -- a conflict has a cause: a constructor clash, a tester clash, a negative tester's clash, an unequal pair or a ring
   pub cause : (ls : List EqLeaf) → p .answer ≡ Checked (Conflict ls) → After Cause p h′
   -- an accepted full check that finds a clash says conflict, and so does an `assert` of such a tester, positive or negative
   pub clash : read-line line ≡ some (Line.Check true) → NotRefused (p .answer) → Before Clash s h → SaysConflict (p .answer)

@@ -292,3 +292,150 @@ closings =
 pub closings-shown : T (every closing-holds closings)
 unfolding definitions closing-holds closings
 closings-shown = tt
+
+-- 02 (iii): a table of unequal terms, behind the same lines as that of negative testers
+pub unequals : List Row
+unequals =
+    -- the sides become equal by `equate` after the line: the literal, then the first side explained to the second
+    record { script = "differ=1\nequate=0\ncheck=1\n"; answers = "ok=1\nok=1\nconflict=a1,a0\n" }
+    -- they are equal before the line, which is accepted
+    ∷ record { script = "equate=0\ndiffer=1\ncheck=1\n"; answers = "ok=1\nok=1\nconflict=a1,a0\n" }
+    -- by `cong`
+    ∷ record {
+      script = "eq=3,4\nvar=8,12\ndiffer=17\nequate=10\ncong=3,4\ncheck=1\n";
+      answers = "term=12\nok=1\nok=1\nok=1\nok=1\nconflict=a17,a10\n";
+    }
+    -- by `iface`
+    ∷ record { script = "differ=1\niface=0,2,3,7\ncheck=1\n"; answers = "ok=1\nok=1\nconflict=a1,i3.7\n" }
+    -- through a third term
+    ∷ record {
+      script = "eq=0,1\nvar=8,12\nequate=16\nequate=0\ndiffer=11\ncheck=1\n";
+      answers = "term=12\nok=1\nok=1\nok=1\nok=1\nconflict=a11,a16,a0\n";
+    }
+    -- the same, joined in the other order
+    ∷ record {
+      script = "eq=0,1\nvar=8,12\nequate=0\nequate=16\ndiffer=11\ncheck=1\n";
+      answers = "term=12\nok=1\nok=1\nok=1\nok=1\nconflict=a11,a0,a16\n";
+    }
+    -- where both sides have a way up to the common ancestor: the first side's, then the second's
+    ∷ record {
+      script = "eq=0,1\nvar=8,12\nequate=0\nequate=10\ndiffer=17\ncheck=1\n";
+      answers = "term=12\nok=1\nok=1\nok=1\nok=1\nconflict=a17,a0,a10\n";
+    }
+    -- the sides are those of the equation as it was made, not by their numbers
+    ∷ record {
+      script = "eq=1,0\nvar=8,12\nequate=0\nequate=10\ndiffer=17\ncheck=1\n";
+      answers = "term=12\nok=1\nok=1\nok=1\nok=1\nconflict=a17,a10,a0\n";
+    }
+    -- by `cong` through a third term
+    ∷ record {
+      script = "eq=3,4\nvar=8,12\neq=0,1\nvar=9,13\nequate=18\nequate=0\ncong=3,4\ndiffer=17\ncheck=1\n";
+      answers = "term=12\nok=1\nterm=13\nok=1\nok=1\nok=1\nok=1\nok=1\nconflict=a17,a18,a0\n";
+    }
+    -- sides that are not equal are no conflict: the tester lemma answers
+    ∷ record { script = "differ=11\nequate=0\ncheck=1\n"; answers = "ok=1\nok=1\nsplit=12;;\n" }
+    -- not in a check that is not full
+    ∷ record { script = "differ=1\nequate=0\ncheck=0\n"; answers = "ok=1\nok=1\nsat=1\n" }
+    -- after constructor clash
+    ∷ record { script = "differ=1\nequate=0\nequate=2\ncheck=1\n"; answers = "ok=1\nok=1\nok=1\nconflict=a0,a2\n" }
+    -- after tester clash
+    ∷ record { script = "differ=1\nassert=6\nequate=0\ncheck=1\n"; answers = "ok=1\nok=1\nok=1\nconflict=a6,a0\n" }
+    -- after negative testers
+    ∷ record { script = "differ=1\nassert=5\nequate=0\ncheck=1\n"; answers = "ok=1\nok=1\nok=1\nconflict=a5,a0\n" }
+    -- before injectivity, which makes no selector then: term 12 is new
+    ∷ record { script = "differ=3\nequate=2\nequate=14\ncheck=1\nterm=4,4\n"; answers = "ok=1\nok=1\nok=1\nconflict=a3,a2\nterm=12\n" }
+    -- without it the selectors are made, and collapse answers
+    ∷ record { script = "equate=2\nequate=14\ncheck=1\nterm=4,4\n"; answers = "ok=1\nok=1\nsplit=14;;\nterm=13\n" }
+    -- before instantiation
+    ∷ record {
+      script = "eq=0,1\nvar=8,12\nassert=4\ndiffer=17\niface=0,1,1,1\ncheck=1\n";
+      answers = "term=12\nok=1\nok=1\nok=1\nok=1\nconflict=a17,i1.1\n";
+    }
+    -- which answers without it
+    ∷ record { script = "eq=0,1\nvar=8,12\nassert=4\niface=0,1,1,1\ncheck=1\n"; answers = "term=12\nok=1\nok=1\nok=1\nsplit=5;5;\n" }
+    -- before exhaustiveness
+    ∷ record {
+      script = "eq=0,1\nvar=8,12\ndiffer=17\niface=0,1,1,1\ncheck=1\n";
+      answers = "term=12\nok=1\nok=1\nok=1\nconflict=a17,i1.1\n";
+    }
+    -- which answers without it
+    ∷ record { script = "eq=0,1\nvar=8,12\niface=0,1,1,1\ncheck=1\n"; answers = "term=12\nok=1\nok=1\nsplit=8,9;;1,-\n" }
+    -- in order of the lines, not of the numbers
+    ∷ record { script = "differ=11\ndiffer=1\nequate=0\nequate=10\ncheck=1\n"; answers = "ok=1\nok=1\nok=1\nok=1\nconflict=a11,a10\n" }
+    -- the first entry whose sides are equal
+    ∷ record { script = "differ=11\ndiffer=1\nequate=0\ncheck=1\n"; answers = "ok=1\nok=1\nok=1\nconflict=a1,a0\n" }
+    -- taken back by `pop`: the tester lemma answers
+    ∷ record { script = "push=1\ndiffer=1\npop=0\nequate=0\ncheck=1\n"; answers = "ok=1\nok=1\nok=1\nok=1\nsplit=12;;\n" }
+    -- not taken back by a `pop` to its level
+    ∷ record { script = "differ=1\npush=1\npop=0\nequate=0\ncheck=1\n"; answers = "ok=1\nok=1\nok=1\nok=1\nconflict=a1,a0\n" }
+    -- the equality taken back
+    ∷ record { script = "differ=1\npush=1\nequate=0\npop=0\ncheck=1\n"; answers = "ok=1\nok=1\nok=1\nok=1\nsplit=8,9;;1,-\n" }
+    -- the same literal twice: not taken back with the second line
+    ∷ record {
+      script = "push=1\ndiffer=1\npush=1\ndiffer=1\npop=1\nequate=0\ncheck=1\n";
+      answers = "ok=1\nok=1\nok=1\nok=1\nok=1\nok=1\nconflict=a1,a0\n";
+    }
+    -- the same literal twice: it stands where it first stood
+    ∷ record {
+      script = "differ=1\ndiffer=11\ndiffer=1\nequate=0\nequate=10\ncheck=1\n";
+      answers = "ok=1\nok=1\nok=1\nok=1\nok=1\nconflict=a1,a0\n";
+    }
+    -- again after `pop`
+    ∷ record { script = "push=1\ndiffer=1\npop=0\ndiffer=1\nequate=0\ncheck=1\n"; answers = "ok=1\nok=1\nok=1\nok=1\nok=1\nconflict=a1,a0\n" }
+    -- again after `pop`: it stands at the end
+    ∷ record {
+      script = "push=1\ndiffer=1\npop=0\ndiffer=11\ndiffer=1\nequate=0\nequate=10\ncheck=1\n";
+      answers = "ok=1\nok=1\nok=1\nok=1\nok=1\nok=1\nok=1\nconflict=a11,a10\n";
+    }
+    -- two variables of one atom: the literal of the first line is cited
+    ∷ record { script = "var=8,5\ndiffer=17\ndiffer=1\nequate=0\ncheck=1\n"; answers = "ok=1\nok=1\nok=1\nok=1\nconflict=a17,a0\n" }
+    -- the second of them after a `pop` of the first
+    ∷ record {
+      script = "var=8,5\npush=1\ndiffer=17\npop=0\ndiffer=1\nequate=0\ncheck=1\n";
+      answers = "ok=1\nok=1\nok=1\nok=1\nok=1\nok=1\nconflict=a1,a0\n";
+    }
+    -- a negative literal of an equation by `assert` gives no entry, and does not keep `differ` from one
+    ∷ record { script = "assert=1\nequate=0\ncheck=1\ndiffer=1\ncheck=1\n"; answers = "ok=1\nok=1\nsplit=12;;\nok=1\nconflict=a1,a0\n" }
+    -- `equate` and `differ` of one atom
+    ∷ record {
+      script = "differ=1\nequate=1\nequate=0\ndiffer=0\ncheck=1\n";
+      answers = "ok=1\nrefused=8\nok=1\nrefused=13\nconflict=a1,a0\n";
+    }
+    -- 13: a positive literal, a tester's; 5 before it: no such variable; 3 before both
+    ∷ record {
+      script = "differ=0\ndiffer=5\ndiffer=16\ndiffer=17\ndiffer=16,1\ndiffer=0,0\ndiffer=\ndiffer=01\n";
+      answers = "refused=13\nrefused=13\nrefused=5\nrefused=5\nrefused=3\nrefused=3\nrefused=3\nrefused=3\n";
+    }
+    -- 8 is asked of `equate` alone
+    ∷ record { script = "equate=1\nequate=5\ndiffer=4\n"; answers = "refused=8\nrefused=8\nrefused=13\n" }
+    -- a refused line leaves no entry
+    ∷ record { script = "differ=0\nequate=0\ncheck=1\n"; answers = "refused=13\nok=1\nsplit=12;;\n" }
+    -- 11: where there is no room for a level there is for an entry; 13 refuses as elsewhere
+    ∷ record {
+      script = "push=1\npush=1\npush=1\npush=1\npush=1\npush=1\npush=1\npush=1\npush=1\npush=1\npush=1\npush=1\npush=1\npush=1\npush=1\npush=1\npush=1\npush=1\npush=1\npush=1\npush=1\npush=1\npush=1\npush=1\npush=1\npush=1\npush=1\npush=1\npush=1\npush=1\npush=1\npush=1\npush=1\npush=1\npush=1\npush=1\npush=1\npush=1\npush=1\npush=1\npush=1\npush=1\npush=1\npush=1\npush=1\npush=1\npush=1\npush=1\npush=1\npush=1\npush=1\npush=1\npush=1\npush=1\npush=1\npush=1\npush=1\npush=1\npush=1\npush=1\npush=1\npush=1\npush=1\npush=1\npush=1\ndiffer=0\ndiffer=1\nequate=0\ncheck=1\n";
+      answers = "ok=1\nok=1\nok=1\nok=1\nok=1\nok=1\nok=1\nok=1\nok=1\nok=1\nok=1\nok=1\nok=1\nok=1\nok=1\nok=1\nok=1\nok=1\nok=1\nok=1\nok=1\nok=1\nok=1\nok=1\nok=1\nok=1\nok=1\nok=1\nok=1\nok=1\nok=1\nok=1\nok=1\nok=1\nok=1\nok=1\nok=1\nok=1\nok=1\nok=1\nok=1\nok=1\nok=1\nok=1\nok=1\nok=1\nok=1\nok=1\nok=1\nok=1\nok=1\nok=1\nok=1\nok=1\nok=1\nok=1\nok=1\nok=1\nok=1\nok=1\nok=1\nok=1\nok=1\nok=1\nrefused=11\nrefused=13\nok=1\nok=1\nconflict=a1,a0\n";
+    }
+    -- keys of later requests, and one that is no key
+    ∷ record {
+      script = "model=1\nshrink=1\ncount=1,1\nwhy=0,1\nwho=1\nsweep=1\nsplits=1\ndiffers=1\n";
+      answers = "refused=3\nrefused=3\nrefused=3\nrefused=3\nrefused=3\nrefused=3\nrefused=3\nrefused=3\n";
+    }
+    ∷ []
+
+pub unequals-shown : T (every row-holds unequals)
+unfolding definitions setting setting-answers row-holds unequals
+unequals-shown = tt
+
+-- before `close` question 4 is asked first; terms of a sort that is no datatype are unequal too, where nothing is watched
+pub unequal-constants : Example
+unequal-constants = record {
+  script = "sort=u\nfun=1\nfun=1\ndiffer=1\nclose=1\nterm=0\nterm=1\neq=0,1\nvar=0,2\ndiffer=1\ncheck=1\niface=0,1,0,0\ncheck=1\n";
+  answers = "ok=1\nok=1\nok=1\nrefused=4\nok=1\nterm=0\nterm=1\nterm=2\nok=1\nok=1\nsat=1\nok=1\nconflict=a1,i0.0\n";
+  result = 0;
+  lines = 13;
+  bytes-written = 89;
+}
+
+pub unequal-constants-shown : T (holds unequal-constants)
+unfolding definitions gives holds unequal-constants
+unequal-constants-shown = tt

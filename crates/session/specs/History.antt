@@ -12,7 +12,7 @@ use Rattle.core.specs.Term.{Eq, Uninterpreted, Term}
 use Rattle.core.specs.Context.{Context, declare-sort, dt-add-constructor, declare-fun, mk-app, mk-eq, term, children}
 use Rattle.core.specs.Reading.{Reading, truth, value}
 use Rattle.theory.specs.Types.{EqLeaf, AssertedLeaf, InterfaceLeaf}
-use Rattle.session.specs.Line.{Command, DeclareSort, DeclareCtor, DeclareFun, Close, MkTerm, MkEq, Register, Equate, Cong, Iface, Assert, Push, Pop, Check, read-line}
+use Rattle.session.specs.Line.{Command, DeclareSort, DeclareCtor, DeclareFun, Close, MkTerm, MkEq, Register, Equate, Cong, Iface, Assert, Differ, Push, Pop, Check, read-line}
 use Rattle.session.specs.Answer.{Answer, Ok, TermIs, Checked, Refused}
 use Rattle.session.specs.Session.{Session, empty-session, perform}
 
@@ -35,6 +35,7 @@ Makes (Equate l) cx cx′ = cx′ ≡ cx
 Makes (Cong t u) cx cx′ = cx′ ≡ cx
 Makes (Iface t u h g) cx cx′ = cx′ ≡ cx
 Makes (Assert l) cx cx′ = cx′ ≡ cx
+Makes (Differ l) cx cx′ = cx′ ≡ cx
 Makes Push cx cx′ = cx′ ≡ cx
 Makes (Pop k) cx cx′ = cx′ ≡ cx
 Makes (Check true) cx cx′ = (new : List Term) × (cx′ ≡ record { sorts = cx .sorts; symbols = cx .symbols; terms = cx .terms ++ new })
@@ -55,6 +56,7 @@ level-after (Equate l) v = v
 level-after (Cong t u) v = v
 level-after (Iface t u h g) v = v
 level-after (Assert l) v = v
+level-after (Differ l) v = v
 level-after Push v = suc v
 level-after (Pop k) v = cond (ltb k v) k v
 level-after (Check e) v = v
@@ -71,9 +73,9 @@ InForce (d ∷ h) v c = ((d ≡ c) × (v ≡ level h)) ⊎ (((k : ℕ) → d ≡
 abbrev pub HoldsNow : History → Command → Type 0
 HoldsNow h c = (v : ℕ) × InForce h v c
 
--- 01: a leaf is in force while an `equate` or `assert` with that literal or an `iface` with that leaf is
+-- 01: a leaf is in force while an `equate` or `assert` with that literal or an `iface` with that leaf is; 02 (iii): or a `differ` with it
 abbrev pub LeafInForce : History → EqLeaf → Type 0
-LeafInForce h (AssertedLeaf l) = HoldsNow h (Equate l) ⊎ HoldsNow h (Assert l)
+LeafInForce h (AssertedLeaf l) = HoldsNow h (Equate l) ⊎ (HoldsNow h (Assert l) ⊎ HoldsNow h (Differ l))
 LeafInForce h (InterfaceLeaf i g) = (t u : ℕ) × HoldsNow h (Iface t u i g)
 
 -- ---- atoms

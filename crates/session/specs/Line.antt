@@ -10,9 +10,9 @@ use Rattle.core.specs.Lists.{first, same-list}
 use Rattle.core.specs.Sort.{SortNode, Datatype, Uninterpreted}
 use Rattle.session.specs.Text.{bytes, comma, equals, parts, number}
 
--- the fourteen kinds of line
+-- the fifteen kinds of line
 pub data Key : Type 0 where
-  SortKey CtorKey FunKey CloseKey TermKey EqKey VarKey EquateKey CongKey IfaceKey AssertKey PushKey PopKey CheckKey : Key
+  SortKey CtorKey FunKey CloseKey TermKey EqKey VarKey EquateKey CongKey IfaceKey AssertKey DifferKey PushKey PopKey CheckKey : Key
 
 unfoldable pub key-text : Key → List ℕ
 key-text SortKey = bytes "sort"
@@ -26,14 +26,15 @@ key-text EquateKey = bytes "equate"
 key-text CongKey = bytes "cong"
 key-text IfaceKey = bytes "iface"
 key-text AssertKey = bytes "assert"
+key-text DifferKey = bytes "differ"
 key-text PushKey = bytes "push"
 key-text PopKey = bytes "pop"
 key-text CheckKey = bytes "check"
 
 unfoldable pub keys : List Key
 keys =
-    SortKey ∷ CtorKey ∷ FunKey ∷ CloseKey ∷ TermKey ∷ EqKey ∷ VarKey ∷ EquateKey ∷ CongKey ∷ IfaceKey ∷ AssertKey ∷ PushKey
-    ∷ PopKey ∷ CheckKey ∷ []
+    SortKey ∷ CtorKey ∷ FunKey ∷ CloseKey ∷ TermKey ∷ EqKey ∷ VarKey ∷ EquateKey ∷ CongKey ∷ IfaceKey ∷ AssertKey ∷ DifferKey
+    ∷ PushKey ∷ PopKey ∷ CheckKey ∷ []
 
 -- a line that reads
 pub data Command : Type 0 where
@@ -48,6 +49,7 @@ pub data Command : Type 0 where
   Cong : (t u : ℕ) → Command
   Iface : (t u theory tag : ℕ) → Command
   Assert : (lit : ℕ) → Command
+  Differ : (lit : ℕ) → Command
   Push : Command
   Pop : (level : ℕ) → Command
   Check : (full : Bool) → Command
@@ -101,6 +103,7 @@ by-key EquateKey ns = just-one (λ l. some (Equate l)) ns
 by-key CongKey ns = just-two Cong ns
 by-key IfaceKey ns = just-four iface ns
 by-key AssertKey ns = just-one (λ l. some (Assert l)) ns
+by-key DifferKey ns = just-one (λ l. some (Differ l)) ns
 by-key PushKey ns = just-one (only-one Push) ns
 by-key PopKey ns = just-one (λ k. some (Pop k)) ns
 by-key CheckKey ns = just-one effort ns
@@ -137,6 +140,7 @@ by-value EquateKey v = at-most-17 EquateKey (numbers (parts comma v))
 by-value CongKey v = at-most-17 CongKey (numbers (parts comma v))
 by-value IfaceKey v = at-most-17 IfaceKey (numbers (parts comma v))
 by-value AssertKey v = at-most-17 AssertKey (numbers (parts comma v))
+by-value DifferKey v = at-most-17 DifferKey (numbers (parts comma v))
 by-value PushKey v = at-most-17 PushKey (numbers (parts comma v))
 by-value PopKey v = at-most-17 PopKey (numbers (parts comma v))
 by-value CheckKey v = at-most-17 CheckKey (numbers (parts comma v))

@@ -1,4 +1,4 @@
--- The session: the questions 4 to 11 in order, what an accepted line does, and one step.
+-- The session: the questions 4 to 11 and 13 in order, what an accepted line does, and one step.
 use Prim.Native.Nat.{ℕ, suc}
 use mathlib.Core.Bool.{Bool, true, false, cond, not, _&&_}
 use mathlib.Core.List.{List, [], _∷_}
@@ -14,13 +14,13 @@ use Rattle.core.specs.Context.{Made, declare-sort, dt-add-constructor, declare-
 use Rattle.theory.specs.Types.{EqLeaf, EqJust, Asserted, Congruence, Interface}
 use Rattle.theory.specs.EqEngine.{merge, pop-merges, pairs-in-force}
 use Rattle.theory.specs.Atom as Atom
-use Rattle.solver.specs.State.{State, empty-state, with-terms, with-eq, with-atoms, with-level, with-level-record, with-negative-record, equal}
+use Rattle.solver.specs.State.{State, empty-state, with-terms, with-eq, with-atoms, with-level, with-level-record, with-negative-record, with-disequalities, equal}
 use Rattle.solver.specs.Records as Records
 use Rattle.solver.specs.Rules.{Conflict}
 use Rattle.solver.specs.Check as Check
 use Rattle.session.specs.Line as Line
-use Rattle.session.specs.Line.{Command, DeclareSort, DeclareCtor, DeclareFun, Close, MkTerm, MkEq, Register, Equate, Cong, Iface, Assert, Push, Pop, read-line}
-use Rattle.session.specs.Answer.{Refusal, Unreadable, Misplaced, Missing, Disagreeing, Registered, NotEquation, NotCongruent, NotGrounded, NoRoom, Answer, Ok, TermIs, Checked, Refused}
+use Rattle.session.specs.Line.{Command, DeclareSort, DeclareCtor, DeclareFun, Close, MkTerm, MkEq, Register, Equate, Cong, Iface, Assert, Differ, Push, Pop, read-line}
+use Rattle.session.specs.Answer.{Refusal, Unreadable, Misplaced, Missing, Disagreeing, Registered, NotEquation, NotDisequality, NotCongruent, NotGrounded, NoRoom, Answer, Ok, TermIs, Checked, Refused}
 
 pub record Session : Type 0 where
   pub state : State
@@ -82,12 +82,16 @@ one-sort s t u = eqb (sort-of (s .state .terms) t) (sort-of (s .state .terms) u)
 unfoldable pub unregistered : Session → ℕ → Asked
 unregistered s v = record { yes = not (Atom.is-registered (s .state .atoms) v); refusal = Registered }
 
+unfoldable pub is-equation : Session → ℕ → Bool
+is-equation s l = same-op (term (s .state .terms) (atom-of s l) .op) Eq
+
 -- 8. For `equate`: is L positive and its atom an equation?
 unfoldable pub equation : Session → ℕ → Asked
-equation s l = record {
-  yes = Ids.is-positive l && same-op (term (s .state .terms) (atom-of s l) .op) Eq;
-  refusal = NotEquation;
-}
+equation s l = record { yes = Ids.is-positive l && is-equation s l; refusal = NotEquation }
+
+-- 02 (iii): 13, asked after 8. For `differ`: is L negative and its atom an equation?
+unfoldable pub disequality : Session → ℕ → Asked
+disequality s l = record { yes = not (Ids.is-positive l) && is-equation s l; refusal = NotDisequality }
 
 -- 9. For `cong`: same operation, and each argument pair equal now?
 unfoldable pub congruent : Session → ℕ → ℕ → Asked
@@ -102,7 +106,7 @@ congruent s t u = record {
 unfoldable pub inhabited : Session → Asked
 inhabited s = record { yes = all-grounded (s .state .terms); refusal = NotGrounded }
 
--- the questions 4 to 10 that concern a line, in order
+-- the questions 4 to 10 and 13 that concern a line, in order
 unfoldable pub questions : Session → Command → List Asked
 questions s (DeclareSort n) = before-close s ∷ []
 questions s (DeclareCtor dt fs) =
@@ -126,6 +130,7 @@ questions s (Equate l) = after-close s ∷ exist (var-exists s l) ∷ equation s
 questions s (Cong t u) = after-close s ∷ exist (term-exists s t && term-exists s u) ∷ congruent s t u ∷ []
 questions s (Iface t u h g) = after-close s ∷ exist (term-exists s t && term-exists s u) ∷ agree (one-sort s t u) ∷ []
 questions s (Assert l) = after-close s ∷ exist (var-exists s l) ∷ []
+questions s (Differ l) = after-close s ∷ exist (var-exists s l) ∷ disequality s l ∷ []
 questions s Push = after-close s ∷ []
 questions s (Pop k) = after-close s ∷ []
 questions s (Line.Check e) = after-close s ∷ []
@@ -163,10 +168,12 @@ conflict-or-ok (some ls) = Checked (Conflict ls)
 -- what is left of level K or lower
 unfoldable pub popped : State → ℕ → State
 popped st k =
-    let testers = Records.pop-testers k in
-    with-negative-record
-    (with-level-record (with-eq (with-level st k) (pop-merges k (st .eq))) (testers (st .dt .level-record)))
-    (testers (st .dt .negative-record))
+    let left = Records.pop-entries k in
+    with-disequalities
+    (with-negative-record
+    (with-level-record (with-eq (with-level st k) (pop-merges k (st .eq))) (left (st .dt .level-record)))
+    (left (st .dt .negative-record)))
+    (left (st .dt .disequalities))
 
 -- `pop` to K restores classes, forest and the records by levels; K at or above the level count changes nothing
 unfoldable pub pop-to : State → ℕ → State
@@ -184,6 +191,7 @@ perform s (Equate l) = merge-sides s l (children (s .state .terms) (atom-of s l)
 perform s (Cong t u) = merged s t u (Congruence (argument-pairs s t u))
 perform s (Iface t u h g) = merged s t u (Interface h g)
 perform s (Assert l) = let o = Records.assert (s .state) l in done s (conflict-or-ok (o .conflict)) (o .state)
+perform s (Differ l) = done s Ok (Records.differ (s .state) l)
 perform s Push = done s Ok (with-level (s .state) (suc (s .state .level)))
 perform s (Pop k) = done s Ok (pop-to (s .state) k)
 perform s (Line.Check e) = let c = Check.check e (s .state) in done s (Checked (c .answer)) (c .state)
@@ -215,5 +223,5 @@ unfoldable pub step : Session → List ℕ → Performed
 step s line = answer-read s (read-line line)
 
 unfoldable pub session-definitions : Unit {0}
-unfolding empty-session sort-exists symbol-exists term-exists var-exists atom-of argument-pairs before-close after-close exist agree one-sort unregistered equation congruent inhabited questions first-no done numbered merged merge-sides conflict-or-ok popped pop-to perform fits refused if-fits asked answer-read step
+unfolding empty-session sort-exists symbol-exists term-exists var-exists atom-of argument-pairs before-close after-close exist agree one-sort unregistered is-equation equation disequality congruent inhabited questions first-no done numbered merged merge-sides conflict-or-ok popped pop-to perform fits refused if-fits asked answer-read step
 session-definitions = tt

@@ -33,6 +33,7 @@ pub enum Command {
     Cong(TermId, TermId),
     Iface(TermId, TermId, TheoryJust),
     Assert(Lit),
+    Differ(Lit),
     Push,
     Pop(u32),
     Check(bool),
@@ -55,6 +56,7 @@ pub enum OneKey {
     Close,
     Equate,
     Assert,
+    Differ,
     Push,
     Pop,
     Check,
@@ -67,7 +69,7 @@ pub enum PairKey {
     Cong,
 }
 
-// The fourteen keys by how many numbers they take, and a key that is not known.
+// The fifteen keys by how many numbers they take, and a key that is not known.
 pub enum Key {
     Sort,
     List(ListKey),
@@ -110,7 +112,8 @@ fn read_key(k: &[u8]) -> Key
     let check = key_or(k, b"check", Key::One(OneKey::Check), Key::Unknown);
     let pop = key_or(k, b"pop", Key::One(OneKey::Pop), check);
     let push = key_or(k, b"push", Key::One(OneKey::Push), pop);
-    let assert = key_or(k, b"assert", Key::One(OneKey::Assert), push);
+    let differ = key_or(k, b"differ", Key::One(OneKey::Differ), push);
+    let assert = key_or(k, b"assert", Key::One(OneKey::Assert), differ);
     let iface = key_or(k, b"iface", Key::Iface, assert);
     let cong = key_or(k, b"cong", Key::Pair(PairKey::Cong), iface);
     let equate = key_or(k, b"equate", Key::One(OneKey::Equate), cong);
@@ -166,6 +169,7 @@ fn by_one(k: OneKey, x: u32) -> Command
         OneKey::Close => only_one(Command::Close, x),
         OneKey::Equate => Command::Equate(Lit(x)),
         OneKey::Assert => Command::Assert(Lit(x)),
+        OneKey::Differ => Command::Differ(Lit(x)),
         OneKey::Push => only_one(Command::Push, x),
         OneKey::Pop => Command::Pop(x),
         OneKey::Check => effort(x),

@@ -1,5 +1,5 @@
-// The questions 5, 6, 8 and 9 of a line (specs/Session.antt), and 11 of a congruence; 4, 7 and 10 are asked where they stand, 11 else by
-// what makes.
+// The questions 5, 6, 8, 13 and 9 of a line (specs/Session.antt), and 11 of a congruence; 4, 7 and 10 are asked where they stand, 11 else
+// by what makes.
 use core::context::arity;
 use core::context::children;
 use core::context::op;
@@ -28,7 +28,7 @@ ghost use Rattle.core.specs.Term.{same-op};
 ghost use Rattle.core.specs.Context.{term};
 ghost use Rattle.core.specs.Memory.Table.{context, ContextSound};
 ghost use Rattle.solver.specs.Memory.Table.{SolverSound};
-ghost use Rattle.session.specs.Memory.Questions.{all-below, sorts-exist, app-exists, two-exist, var-exists, sorts-agree, one-sort, may-equate, is-equation, equation, one-op, pairs-equal, congruent, pairs-fit, NamesApp, NamesTwo, NamesLit, NodePairs, PairsNamed};
+ghost use Rattle.session.specs.Memory.Questions.{all-below, sorts-exist, app-exists, two-exist, var-exists, sorts-agree, one-sort, may-equate, is-equation, equation, disequality, one-op, pairs-equal, congruent, pairs-fit, NamesApp, NamesTwo, NamesLit, NodePairs, PairsNamed};
 
 // ---- 5. Does each named sort, symbol, term and literal's variable exist?
 
@@ -147,6 +147,18 @@ pub fn equation(c: &[u32], s: &[u32], l: Lit) -> bool
     ensures { λ r. ⌜ r ≡ equation (now (c .entry)) (now (s .entry)) (l .0) ⌝ }
 {
     if !l.is_positive() {
+        return false;
+    }
+    is_equation(c, atom(s, l.var()))
+}
+
+// ---- 13. Is the literal negative and its atom an equation?
+
+pub fn disequality(c: &[u32], s: &[u32], l: Lit) -> bool
+    requires { ⌜ NamesLit (now c) (now s) (l .0) ⌝ }
+    ensures { λ r. ⌜ r ≡ disequality (now (c .entry)) (now (s .entry)) (l .0) ⌝ }
+{
+    if l.is_positive() {
         return false;
     }
     is_equation(c, atom(s, l.var()))

@@ -16,11 +16,12 @@ use crate::merging::equate_line;
 use crate::merging::iface_line;
 use crate::solving::assert_line;
 use crate::solving::check_line;
+use crate::solving::differ_line;
 use crate::solving::var_line;
 use core::limits::MAX_LEVELS;
 ghost use Rattle.session.specs.Memory.Sessions.{beside, Performable, Performs, Steppable, Steps};
 
-// A line that was read is answered: `counts` has the mark counts of the records of testers, `closed` whether a `close` was accepted.
+// A line that was read is answered: `counts` has the mark counts of the records, `closed` whether a `close` was accepted.
 fn perform(
     c: &mut [u32],
     e: &mut [u32],
@@ -51,6 +52,7 @@ fn perform(
         Command::Cong(t, u) => cong_line(c, e, late, t, u),
         Command::Iface(t, u, j) => iface_line(c, e, late, t, u, j),
         Command::Assert(l) => assert_line(c, e, s, late, l, out),
+        Command::Differ(l) => differ_line(c, s, late, l),
         Command::Push => push_line(e, s, counts, late),
         Command::Pop(to) => pop_line(e, s, counts, late, to),
         Command::Check(full) => check_line(c, e, s, late, full, out),

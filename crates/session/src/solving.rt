@@ -1,6 +1,7 @@
-// The lines of the solver: `var`, `assert`, `check`.
+// The lines of the solver: `var`, `assert`, `differ`, `check`.
 use crate::answer::Answer;
 use crate::answer::Refusal;
+use crate::questions::disequality;
 use crate::questions::term_exists;
 use crate::questions::var_exists;
 use core::context::sort_of;
@@ -11,6 +12,7 @@ use core::limits::MAX_VARS;
 use solver::answer::TCheck;
 use solver::asserting::assert;
 use solver::check::check;
+use solver::disequalities::differ;
 use solver::records::is_registered;
 use solver::records::new_var;
 use solver::records::register;
@@ -92,6 +94,25 @@ pub fn assert_line(
         return Answer::Refused(Refusal::Missing);
     }
     asserted(assert(c, e, s, l, out))
+}
+
+// ---- `differ`
+
+pub fn differ_line(c: &[u32], s: &mut [u32], closed: bool, l: Lit) -> Answer
+    requires { ⌜ FitsWith (now c) (now s) ⌝ }
+    ensures { λ r. ⌜ AnswersSolver closed (Line.Differ (l .0)) (now (c .entry)) (now (s .entry)) r (now (s .exit)) ⌝ }
+{
+    if !closed {
+        return Answer::Refused(Refusal::Misplaced);
+    }
+    if !var_exists(s, l) {
+        return Answer::Refused(Refusal::Missing);
+    }
+    if !disequality(c, s, l) {
+        return Answer::Refused(Refusal::NotDisequality);
+    }
+    differ(s, l);
+    Answer::Ok
 }
 
 // ---- `check`

@@ -5,18 +5,18 @@ use mathlib.Core.Bool.{Bool, true, false, cond}
 use mathlib.Core.List.{List}
 use mathlib.Core.Option.{Option, none, some}
 use Rattle.core.specs.Lists.{first, pairs}
-use Rattle.core.specs.Context.{CtorApp, TesterApp, tester-app}
+use Rattle.core.specs.Context.{CtorApp, TesterApp, tester-app, children}
 use Rattle.core.proofs.Lists.{In, true-T}
 use Rattle.theory.specs.Types.{EqLeaf}
 use Rattle.theory.specs.EqEngine.{explain, firsts}
-use Rattle.solver.specs.State.{State, AssertedTester, ctor-apps}
-use Rattle.solver.specs.Records.{tester-conflict, negative-conflict}
-use Rattle.solver.specs.Rules.{TCheck, Sat, Conflict, Unknown, Ruled, pass, answered, go-on, then, clash, clash-answer, constructor-clash, conflict-of, tester-clash-at, tester-clash, negative-clash-at, negative-clash, instantiate-injectivity-selectors, collapse-lemma, tester-lemma, instantiate-constructor, exhaustiveness-split, has-undetermined-class, unknown-fence}
+use Rattle.solver.specs.State.{State, AssertedAtom, ctor-apps}
+use Rattle.solver.specs.Records.{tester-conflict, negative-conflict, disequality-conflict}
+use Rattle.solver.specs.Rules.{TCheck, Sat, Conflict, Unknown, Ruled, pass, answered, go-on, then, clash, clash-answer, constructor-clash, conflict-of, tester-clash-at, tester-clash, negative-clash-at, negative-clash, disequality-clash, instantiate-injectivity-selectors, collapse-lemma, tester-lemma, instantiate-constructor, exhaustiveness-split, has-undetermined-class, unknown-fence}
 use Rattle.solver.specs.Ring.{Edge, constructor-graph-find-cycle, acyclicity-conflict}
 use Rattle.solver.specs.Check.{before-ring, ring-answer, Checked, or-ring, full-check}
 use Rattle.solver.proofs.Basics.{none-some, some-none, first-some, pairs-in}
 use Rattle.solver.proofs.Walk.{HasRing, WalkSays, walk-says, ringed-ring}
-use Rattle.solver.proofs.Clash.{Ready, Refuted, Recorded, clash-refuted, tester-refuted, negative-refuted, ring-refuted}
+use Rattle.solver.proofs.Clash.{Ready, Refuted, Affirmed, Negated, Unequal, Recorded, clash-refuted, tester-refuted, negative-refuted, disequality-refuted, ring-refuted}
 use Rattle.solver.proofs.Moves.{Follows, follows-self, follows-ready, AnswerHolds, RuledWell, pass-well, answered-well, base-well, then-well, try-well}
 use Rattle.solver.proofs.Lemmas.{collapse-well, tester-lemma-well, instantiate-constructor-well, injectivity-follows, exhaustiveness-well}
 
@@ -38,13 +38,13 @@ module _ (s : State) (R : Ready s) where
   conflict-well none h = pass-well s s (follows-self s (R .formed))
   conflict-well (some ls) h = answered-well s s (Conflict ls) (follows-self s (R .formed)) (h ls refl)
 
-  tester-at : (e : AssertedTester) → In e (s .dt .level-record) → (o : Option TesterApp) → tester-app (s .terms) (e .atom) ≡ o → RuledWell s (tester-clash-at (e .lit) o s)
+  tester-at : (e : AssertedAtom) → In e (s .dt .level-record) → (o : Option TesterApp) → tester-app (s .terms) (e .atom) ≡ o → RuledWell s (tester-clash-at (e .lit) o s)
   unfolding tester-clash-at
   tester-at e i none q = pass-well s s (follows-self s (R .formed))
   tester-at e i (some x) q =
       conflict-well (tester-conflict s (e .lit) x) (λ ls w. tester-refuted s R (Recorded s) (e .lit) (e .atom) x ls q (e, i, refl, refl) w)
 
-  negative-at : (e : AssertedTester) → In e (s .dt .negative-record) → (o : Option TesterApp) → tester-app (s .terms) (e .atom) ≡ o →
+  negative-at : (e : AssertedAtom) → In e (s .dt .negative-record) → (o : Option TesterApp) → tester-app (s .terms) (e .atom) ≡ o →
       RuledWell s (negative-clash-at (e .lit) o s)
   unfolding negative-clash-at
   negative-at e i none q = pass-well s s (follows-self s (R .formed))
@@ -63,19 +63,31 @@ module _ (s : State) (R : Ready s) where
 tester-clash-well : (s : State) → Ready s → RuledWell s (tester-clash s)
 unfolding tester-clash
 tester-clash-well s R =
-    try-well s (λ (e : AssertedTester) s′. tester-clash-at (e .lit) (tester-app (s′ .terms) (e .atom)) s′) (s .dt .level-record)
+    try-well s (λ (e : AssertedAtom) s′. tester-clash-at (e .lit) (tester-app (s′ .terms) (e .atom)) s′) (s .dt .level-record)
     (λ e i s′ f. base-well s s′ (tester-clash-at (e .lit) (tester-app (s′ .terms) (e .atom)) s′) f
-    (tester-at s′ (follows-ready s s′ f R) e (subst⁻¹ (λ (es : List AssertedTester). In e es) (f .entries true) i)
+    (tester-at s′ (follows-ready s s′ f R) e (subst⁻¹ (λ (es : List AssertedAtom). In e es) (f .entries Affirmed) i)
     (tester-app (s′ .terms) (e .atom)) refl))
     s (follows-self s (R .formed))
 
 negative-clash-well : (s : State) → Ready s → RuledWell s (negative-clash s)
 unfolding negative-clash
 negative-clash-well s R =
-    try-well s (λ (e : AssertedTester) s′. negative-clash-at (e .lit) (tester-app (s′ .terms) (e .atom)) s′) (s .dt .negative-record)
+    try-well s (λ (e : AssertedAtom) s′. negative-clash-at (e .lit) (tester-app (s′ .terms) (e .atom)) s′) (s .dt .negative-record)
     (λ e i s′ f. base-well s s′ (negative-clash-at (e .lit) (tester-app (s′ .terms) (e .atom)) s′) f
-    (negative-at s′ (follows-ready s s′ f R) e (subst⁻¹ (λ (es : List AssertedTester). In e es) (f .entries false) i)
+    (negative-at s′ (follows-ready s s′ f R) e (subst⁻¹ (λ (es : List AssertedAtom). In e es) (f .entries Negated) i)
     (tester-app (s′ .terms) (e .atom)) refl))
+    s (follows-self s (R .formed))
+
+disequality-clash-well : (s : State) → Ready s → RuledWell s (disequality-clash s)
+unfolding disequality-clash
+disequality-clash-well s R =
+    try-well s (λ (e : AssertedAtom) s′. conflict-of s′ (disequality-conflict s′ (e .lit) (children (s′ .terms) (e .atom))))
+    (s .dt .disequalities)
+    (λ e i s′ f.
+    base-well s s′ (conflict-of s′ (disequality-conflict s′ (e .lit) (children (s′ .terms) (e .atom)))) f
+    (conflict-well s′ (follows-ready s s′ f R) (disequality-conflict s′ (e .lit) (children (s′ .terms) (e .atom)))
+    (disequality-refuted s′ (follows-ready s s′ f R) (Recorded s′) (e .lit) (e .atom)
+    (e, subst⁻¹ (λ (es : List AssertedAtom). In e es) (f .entries Unequal) i, refl, refl) (children (s′ .terms) (e .atom)) refl)))
     s (follows-self s (R .formed))
 
 -- one rule after another
@@ -88,6 +100,7 @@ before-ring-well s R =
     and-then s (constructor-clash s) _ R (constructor-clash-well s R) λ s R.
     and-then s (tester-clash s) _ R (tester-clash-well s R) λ s R.
     and-then s (negative-clash s) _ R (negative-clash-well s R) λ s R.
+    and-then s (disequality-clash s) _ R (disequality-clash-well s R) λ s R.
     and-then s (pass (instantiate-injectivity-selectors s)) _ R (pass-well s (instantiate-injectivity-selectors s) (injectivity-follows s R)) λ s R.
     and-then s (collapse-lemma s) _ R (collapse-well s R) λ s R.
     and-then s (tester-lemma s) _ R (tester-lemma-well s R) λ s R.
@@ -123,6 +136,7 @@ before-ring-determined s =
     then-determined (constructor-clash s) _ λ s.
     then-determined (tester-clash s) _ λ s.
     then-determined (negative-clash s) _ λ s.
+    then-determined (disequality-clash s) _ λ s.
     then-determined (pass (instantiate-injectivity-selectors s)) _ λ s.
     then-determined (collapse-lemma s) _ λ s.
     then-determined (tester-lemma s) _ λ s.

@@ -1,6 +1,6 @@
--- Conflicts: the leaves of a constructor clash, a tester's clash of either sign and a ring are true together in no reading. Values of
--- two constructors differ, a tester is true of the values of its constructor and of no others, and a value is smaller than what is
--- built over it.
+-- Conflicts: the leaves of a constructor clash, a tester's clash of either sign, unequal terms that are equal and a ring are true together
+-- in no reading. Values of two constructors differ, a tester is true of the values of its constructor and of no others, and a value is
+-- smaller than what is built over it.
 use Prim.Native.Nat.{ℕ, suc, _+_, _≤_, _<_}
 use mathlib.Core.Path.{_≡_, refl, sym, subst, subst⁻¹, ap, _∙_}
 use mathlib.Core.Logic.{_⊎_, inl, inr, _≢_}
@@ -11,15 +11,15 @@ use native.Mathlib.Omega.{arith}
 use lib.Dec.{T, eqb, eqb→eq}
 use borrow.Author.Tests.{eq-eqb, eqb-true, eqb-false}
 use Rattle.core.specs.Lists.{keep}
-use Rattle.core.specs.Context.{Context, CtorApp, TesterApp, term, ctor-app, tester-app, is-datatype-sort, sort-of}
+use Rattle.core.specs.Context.{Context, CtorApp, TesterApp, term, ctor-app, tester-app, is-datatype-sort, sort-of, children}
 use Rattle.core.specs.Reading.{Value, Values, truth, element, tree, nil, cons, Reading, built-by, value}
 use Rattle.core.proofs.Lists.{In, true-T, T-and, T-both, keep-in}
 use Rattle.theory.specs.Types.{EqLeaf, AssertedLeaf}
 use Rattle.theory.specs.EqEngine.{Merge, explain, firsts}
 use Rattle.theory.proofs.Members.{in-left, in-right, in-either}
 use Rattle.theory.proofs.Explain.{Cites, Justified, Sound, TwoTerms, explain-cites, explain-forces, explain-nonempty, firsts-in, firsts-empty}
-use Rattle.solver.specs.State.{State, AssertedTester, ctor-apps, ctor-of-class, equal}
-use Rattle.solver.specs.Records.{tester-leaves, disagrees, tester-conflict, is-own, own-app, denies, negative-conflict}
+use Rattle.solver.specs.State.{State, AssertedAtom, ctor-apps, ctor-of-class, equal}
+use Rattle.solver.specs.Records.{tester-leaves, disagrees, tester-conflict, is-own, own-app, denies, negative-conflict, literal-leaves, disequality-conflict}
 use Rattle.solver.specs.Rules.{clash}
 use Rattle.solver.specs.Ring.{Edge, kids, edge-leaves, acyclicity-conflict}
 use Rattle.solver.proofs.Basics.{none-some, some-is, first-some, first-none, gather-in, reverse-in, by-test, T-no, false-T}
@@ -46,31 +46,58 @@ Denied s t =
     (x : TesterApp) × (c : CtorApp) × (tester-app (s .terms) t ≡ some x) × In c (ctor-apps s) × T (equal s (x .arg) (c .app))
     × (c .ctor ≡ x .ctor)
 
--- why there is a conflict: two marked applications, a tester that was said to be true, one that was said to be false, or a ring
-abbrev pub Caused : State → (Bool → ℕ → ℕ → Type 0) → Type 0
+-- the sides of the equation t are equal now
+abbrev pub Joined : State → ℕ → Type 0
+Joined s t = (x y : ℕ) × (children (s .terms) t ≡ (x ∷ y ∷ [])) × T (equal s x y)
+
+-- what a recorded literal says: of a tester that it is true, of a tester that it is false, of an equation that its sides are unequal
+pub data Assertion : Type 0 where
+  Affirmed Negated Unequal : Assertion
+
+-- of a tester, by the sign of the literal
+abbrev pub of-tester : Bool → Assertion
+of-tester true = Affirmed
+of-tester false = Negated
+
+-- what it means of its atom t in a reading
+abbrev pub Means : {cx : Context} → Reading cx → ℕ → Assertion → Type 0
+Means r t Affirmed = value r t ≡ truth true
+Means r t Negated = value r t ≡ truth false
+Means {cx} r t Unequal = (x y : ℕ) → children cx t ≡ (x ∷ y ∷ []) → value r x ≡ value r y → ⊥
+
+-- why there is a conflict: two marked applications, a tester that was said to be true, one that was said to be false, terms that were
+-- said to be unequal, or a ring
+abbrev pub Caused : State → (Assertion → ℕ → ℕ → Type 0) → Type 0
 Caused s Said =
     ((p q : CtorApp) × In p (ctor-apps s) × In q (ctor-apps s) × T (clash s (p, q)))
-    ⊎ (((k t : ℕ) × Said true k t × Against s t) ⊎ (((k t : ℕ) × Said false k t × Denied s t) ⊎ HasRing s))
+    ⊎ (((k t : ℕ) × Said Affirmed k t × Against s t)
+    ⊎ (((k t : ℕ) × Said Negated k t × Denied s t) ⊎ (((k t : ℕ) × Said Unequal k t × Joined s t) ⊎ HasRing s)))
 
--- a leaf is that of a merge, or a literal that was said, by its sign, of a tester atom
-abbrev pub Cited : State → (Bool → ℕ → ℕ → Type 0) → EqLeaf → Type 0
-Cited s Said l = Cites (s .eq) l ⊎ ((b : Bool) × (k t : ℕ) × Said b k t × (l ≡ AssertedLeaf k))
+-- a leaf is that of a merge, or a literal that said something of its atom
+abbrev pub Cited : State → (Assertion → ℕ → ℕ → Type 0) → EqLeaf → Type 0
+Cited s Said l = Cites (s .eq) l ⊎ ((b : Assertion) × (k t : ℕ) × Said b k t × (l ≡ AssertedLeaf k))
 
--- The leaves are those of merges, or literals that were said of tester atoms; whoever takes them for true is refuted; and there is one.
-pub record Refuted (s : State) (Said : Bool → ℕ → ℕ → Type 0) (ls : List EqLeaf) : Type 1 where
+-- The leaves are those of merges, or literals that said something; whoever takes them for true is refuted; and there is one.
+pub record Refuted (s : State) (Said : Assertion → ℕ → ℕ → Type 0) (ls : List EqLeaf) : Type 1 where
   pub cites : (l : EqLeaf) → In l ls → Cited s Said l
   pub impossible : (r : Reading (s .terms)) (True : EqLeaf → Type 0) → Sound (value r) True (s .eq) →
-      ((b : Bool) (k t : ℕ) → Said b k t → True (AssertedLeaf k) → value r t ≡ truth b) → ((l : EqLeaf) → In l ls → True l) → ⊥
+      ((b : Assertion) (k t : ℕ) → Said b k t → True (AssertedLeaf k) → Means r t b) → ((l : EqLeaf) → In l ls → True l) → ⊥
   pub some-leaf : ls ≢ []
   pub cause : Caused s Said
 
--- the record of the testers of a sign: the level record has those that were said to be true
-abbrev pub signed-record : State → Bool → List AssertedTester
-signed-record s b = cond b (s .dt .level-record) (s .dt .negative-record)
+-- one of three, by what is said
+abbrev pub by-assertion : {A : Type 0} → Assertion → A → A → A → A
+by-assertion Affirmed x y z = x
+by-assertion Negated x y z = y
+by-assertion Unequal x y z = z
+
+-- the record of what was said: the level record has the testers that were said to be true
+abbrev pub record-by : State → Assertion → List AssertedAtom
+record-by s b = by-assertion b (s .dt .level-record) (s .dt .negative-record) (s .dt .disequalities)
 
 -- an entry of it
-abbrev pub Recorded : State → Bool → ℕ → ℕ → Type 0
-Recorded s b k t = (e : AssertedTester) × In e (signed-record s b) × (e .lit ≡ k) × (e .atom ≡ t)
+abbrev pub Recorded : State → Assertion → ℕ → ℕ → Type 0
+Recorded s b k t = (e : AssertedAtom) × In e (record-by s b) × (e .lit ≡ k) × (e .atom ≡ t)
 
 pub ctor-in : (s : State) (c : CtorApp) → In c (ctor-apps s) → IsCtor (s .terms) (c .app) c
 unfolding ctor-apps
@@ -98,7 +125,7 @@ own-there s x c i k e n =
 
 module _ (s : State) (R : Ready s) where
   -- leaves of an explanation
-  explained-cites : (Said : Bool → ℕ → ℕ → Type 0) (x y : ℕ) (l : EqLeaf) → In l (firsts (explain (s .eq) x y)) → Cited s Said l
+  explained-cites : (Said : Assertion → ℕ → ℕ → Type 0) (x y : ℕ) (l : EqLeaf) → In l (firsts (explain (s .eq) x y)) → Cited s Said l
   explained-cites Said x y l i = inl (explain-cites (s .eq) x y l (firsts-in (explain (s .eq) x y) l .0 i))
 
   forced : (r : Reading (s .terms)) (True : EqLeaf → Type 0) (x y : ℕ) → Sound (value r) True (s .eq) → T (equal s x y) → ((l : EqLeaf) → In l (explain (s .eq) x y) → True l) → value r x ≡ value r y
@@ -114,7 +141,7 @@ module _ (s : State) (R : Ready s) where
   same-op : (p q : CtorApp) → IsCtor (s .terms) (p .app) p → IsCtor (s .terms) (q .app) q → p .app ≡ q .app → p .ctor ≡ q .ctor
   same-op p q P Q e = op-is (p .ctor) (q .ctor) (sym (P .op) ∙ ap (λ (t : ℕ). term (s .terms) t .op) e ∙ Q .op)
 
-  pub clash-refuted : (Said : Bool → ℕ → ℕ → Type 0) (p q : CtorApp) → In p (ctor-apps s) → In q (ctor-apps s) → T (clash s (p, q)) →
+  pub clash-refuted : (Said : Assertion → ℕ → ℕ → Type 0) (p q : CtorApp) → In p (ctor-apps s) → In q (ctor-apps s) → T (clash s (p, q)) →
       Refuted s Said (firsts (explain (s .eq) (p .app) (q .app)))
   unfolding clash
   clash-refuted Said p q i j t = go (T-and (not (eqb (p .ctor) (q .ctor))) (equal s (p .app) (q .app)) t) (ctor-in s p i) (ctor-in s q j)
@@ -141,18 +168,18 @@ module _ (s : State) (R : Ready s) where
   built-is v c d vs b e h = sym (ap (built-by c) e) ∙ truth-is (built-by c v) b h
 
   -- the tester application t, which the literal l says something of
-  module _ (Said : Bool → ℕ → ℕ → Type 0) (l t : ℕ) (x : TesterApp) (ls : List EqLeaf) (y : tester-app (s .terms) t ≡ some x) where
+  module _ (Said : Assertion → ℕ → ℕ → Type 0) (l t : ℕ) (x : TesterApp) (ls : List EqLeaf) (y : tester-app (s .terms) t ≡ some x) where
     -- an application of its term's class that does not go with the literal's sign
-    sign-refuted : (b : Bool) (c : CtorApp) → Said b l t → IsCtor (s .terms) (c .app) c → T (equal s (x .arg) (c .app)) →
+    sign-refuted : (b : Bool) (c : CtorApp) → Said (of-tester b) l t → IsCtor (s .terms) (c .app) c → T (equal s (x .arg) (c .app)) →
         (eqb (x .ctor) (c .ctor) ≡ b → ⊥) → Caused s Said → Refuted s Said (tester-leaves s l (x .arg) c)
-    unfolding tester-leaves
+    unfolding tester-leaves literal-leaves
     sign-refuted b c w C q n z = record {
       cites = λ k i. cited k (firsts-in leaves k .0 i);
       impossible = λ r True S H h. n (built-is (value r (x .arg)) (x .ctor) (c .ctor) (values-of r (c .fields)) b
           (forced r True (x .arg) (c .app) S q (λ k i. h k (firsts-in leaves k .1 (inr i)))
           ∙ ctor-value r (R .formed) (c .app) (c .ctor) (c .fields) (C .op) (C .args) (C .role))
           (sym (test-value r (R .formed) t (x .tester) (x .ctor) (x .arg) (X .rest) (X .op) (X .args) (X .role))
-          ∙ H b l t w (h (AssertedLeaf l) (firsts-in leaves (AssertedLeaf l) .1 (inl refl)))));
+          ∙ meant r b (H (of-tester b) l t w (h (AssertedLeaf l) (firsts-in leaves (AssertedLeaf l) .1 (inl refl))))));
       some-leaf = λ e. cons≢nil (firsts-empty leaves e);
       cause = z;
     }
@@ -163,11 +190,15 @@ module _ (s : State) (R : Ready s) where
         X : IsTester (s .terms) t x
         X = tester-app-is (s .terms) t x y
 
+        meant : (r : Reading (s .terms)) (b : Bool) → Means r t (of-tester b) → value r t ≡ truth b
+        meant r true m = m
+        meant r false m = m
+
         cited : (k : EqLeaf) → In k leaves → Cited s Said k
-        cited k (inl e) = inr (b, l, t, w, e)
+        cited k (inl e) = inr (of-tester b, l, t, w, e)
         cited k (inr i) = inl (explain-cites (s .eq) (x .arg) (c .app) k i)
 
-    disagreement : (o : Option CtorApp) → ctor-of-class s (x .arg) ≡ o → Said true l t → disagrees s l x o ≡ some ls → Refuted s Said ls
+    disagreement : (o : Option CtorApp) → ctor-of-class s (x .arg) ≡ o → Said Affirmed l t → disagrees s l x o ≡ some ls → Refuted s Said ls
     unfolding disagrees
     disagreement none q w e = absurd (none-some ls e)
     disagreement (some c) q w e = go (eqb (c .ctor) (x .ctor)) refl e
@@ -182,11 +213,11 @@ module _ (s : State) (R : Ready s) where
         go true n z = absurd (none-some ls z)
         go false n z = subst (Refuted s Said) (some-is (tester-leaves s l (x .arg) c) ls z) (refuted (eqb-false (c .ctor) (x .ctor) n))
 
-    pub tester-refuted : Said true l t → tester-conflict s l x ≡ some ls → Refuted s Said ls
+    pub tester-refuted : Said Affirmed l t → tester-conflict s l x ≡ some ls → Refuted s Said ls
     unfolding tester-conflict
     tester-refuted w e = disagreement (ctor-of-class s (x .arg)) refl w e
 
-    denial : (o : Option CtorApp) → own-app s x ≡ o → Said false l t → denies s l x o ≡ some ls → Refuted s Said ls
+    denial : (o : Option CtorApp) → own-app s x ≡ o → Said Negated l t → denies s l x o ≡ some ls → Refuted s Said ls
     unfolding denies
     denial none q w e = absurd (none-some ls e)
     denial (some c) q w e =
@@ -195,9 +226,44 @@ module _ (s : State) (R : Ready s) where
         (sign-refuted false c w (ctor-in s c i) k (λ n. eqb-false (x .ctor) (c .ctor) n (sym z))
         (inr (inr (inl (l, t, w, (x, c, y, i, k, z))))))
 
-    pub negative-refuted : Said false l t → negative-conflict s l x ≡ some ls → Refuted s Said ls
+    pub negative-refuted : Said Negated l t → negative-conflict s l x ≡ some ls → Refuted s Said ls
     unfolding negative-conflict
     negative-refuted w e = denial (own-app s x) refl w e
+
+  -- ---- unequal terms
+
+  -- the literal l says of the equation t that its sides are unequal
+  module _ (Said : Assertion → ℕ → ℕ → Type 0) (l t : ℕ) (w : Said Unequal l t) where
+    sides-refuted : (x y : ℕ) → children (s .terms) t ≡ (x ∷ y ∷ []) → T (equal s x y) → Refuted s Said (literal-leaves s l x y)
+    unfolding literal-leaves
+    sides-refuted x y k q = record {
+      cites = λ m i. cited m (firsts-in leaves m .0 i);
+      impossible = λ r True S H h.
+          H Unequal l t w (h (AssertedLeaf l) (firsts-in leaves (AssertedLeaf l) .1 (inl refl))) x y k
+          (forced r True x y S q (λ m i. h m (firsts-in leaves m .1 (inr i))));
+      some-leaf = λ e. cons≢nil (firsts-empty leaves e);
+      cause = inr (inr (inr (inl (l, t, w, (x, y, k, q)))));
+    }
+      where
+        leaves : List EqLeaf
+        leaves = AssertedLeaf l ∷ explain (s .eq) x y
+
+        cited : (m : EqLeaf) → In m leaves → Cited s Said m
+        cited m (inl e) = inr (Unequal, l, t, w, e)
+        cited m (inr i) = inl (explain-cites (s .eq) x y m i)
+
+    pub disequality-refuted : (xs : List ℕ) → children (s .terms) t ≡ xs → (ls : List EqLeaf) → disequality-conflict s l xs ≡ some ls →
+        Refuted s Said ls
+    unfolding disequality-conflict
+    disequality-refuted [] k ls e = absurd (none-some ls e)
+    disequality-refuted (x ∷ []) k ls e = absurd (none-some ls e)
+    disequality-refuted (x ∷ y ∷ []) k ls e = go (equal s x y) refl e
+      where
+        go : (b : Bool) → equal s x y ≡ b → cond b (some (literal-leaves s l x y)) none ≡ some ls → Refuted s Said ls
+        go true q z =
+            subst (Refuted s Said) (some-is (literal-leaves s l x y) ls z) (sides-refuted x y k (true-T (equal s x y) q))
+        go false q z = absurd (none-some ls z)
+    disequality-refuted (x ∷ y ∷ z ∷ zs) k ls e = absurd (none-some ls e)
 
 -- ---- sizes of values
 
@@ -295,14 +361,14 @@ module _ (s : State) (R : Ready s) where
       let C = ctor-app-is (s .terms) a c p in
       R .formed .lower a (app-within (s .terms) a (c .ctor) (C .op)) f (subst⁻¹ (λ (zs : List ℕ). In f zs) (C .args) (kid-field (s .terms) c f i .0))
 
-  pub ring-refuted : (Said : Bool → ℕ → ℕ → Type 0) (es : List Edge) → Ringed s es → Refuted s Said (acyclicity-conflict s es)
+  pub ring-refuted : (Said : Assertion → ℕ → ℕ → Type 0) (es : List Edge) → Ringed s es → Refuted s Said (acyclicity-conflict s es)
   unfolding acyclicity-conflict
   ring-refuted Said es G = record {
     cites = λ l i. inl (edges-cite (s .eq) es l (firsts-in (edge-leaves (s .eq) es) l .0 i));
     impossible = λ r True S H h. ring-falls (λ t. size (value r t)) (kid-size r) es G
         (λ e i. ap (λ (v : Value (r .Element)). size v) (forced s R r True (e .field) (e .app) S (edge-equal e (ringed-edge es G e i)) (λ l j. h l (firsts-in (edge-leaves (s .eq) es) l .1 (edge-in (s .eq) es e l i j)))));
     some-leaf = λ z. ring-falls (λ t. t) kid-lower es G (λ e i. alone e i (firsts-empty (edge-leaves (s .eq) es) z));
-    cause = inr (inr (inr (ringed-ring s es G)));
+    cause = inr (inr (inr (inr (ringed-ring s es G))));
   }
     where
       alone : (e : Edge) → In e es → edge-leaves (s .eq) es ≡ [] → e .field ≡ e .app

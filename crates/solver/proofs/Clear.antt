@@ -1,5 +1,6 @@
 -- The clashes are tried first. Each leaves the state as it is and answers conflict or nothing, so a check that finds a clash says so;
--- where none answers, the marked applications of a class have one constructor, and recorded testers of either sign agree with it.
+-- where none answers, the marked applications of a class have one constructor, recorded testers of either sign agree with it, and recorded
+-- unequal terms are not equal.
 use Prim.Native.Nat.{ℕ}
 use mathlib.Core.Path.{_≡_, refl, sym, subst, subst⁻¹, ap, _∙_}
 use mathlib.Core.Logic.{_⊎_, inl, inr}
@@ -9,17 +10,17 @@ use mathlib.Core.Option.{Option, none, some}
 use lib.Dec.{T, eqb}
 use borrow.Author.Tests.{eqb-true, eq-eqb, ne-eqb}
 use Rattle.core.specs.Lists.{first, pairs}
-use Rattle.core.specs.Context.{CtorApp, TesterApp, tester-app}
-use Rattle.core.proofs.Lists.{In, T-both}
+use Rattle.core.specs.Context.{CtorApp, TesterApp, tester-app, children}
+use Rattle.core.proofs.Lists.{In, T-true, T-both}
 use Rattle.theory.specs.Types.{EqLeaf}
 use Rattle.theory.specs.EqEngine.{are-equal, explain, firsts}
 use Rattle.theory.proofs.Classes.{equal-sym, equal-trans}
-use Rattle.solver.specs.State.{State, AssertedTester, ctor-apps, equal, ctor-of-class}
-use Rattle.solver.specs.Records.{tester-leaves, disagrees, tester-conflict, own-app, denies, negative-conflict}
-use Rattle.solver.specs.Rules.{TCheck, Conflict, Ruled, pass, answered, go-on, then, try-each, clash, clash-answer, constructor-clash, conflict-of, tester-clash-at, tester-clash, negative-clash-at, negative-clash}
+use Rattle.solver.specs.State.{State, AssertedAtom, ctor-apps, equal, ctor-of-class}
+use Rattle.solver.specs.Records.{tester-leaves, disagrees, tester-conflict, own-app, denies, negative-conflict, literal-leaves, disequality-conflict}
+use Rattle.solver.specs.Rules.{TCheck, Conflict, Ruled, pass, answered, go-on, then, try-each, clash, clash-answer, constructor-clash, conflict-of, tester-clash-at, tester-clash, negative-clash-at, negative-clash, disequality-clash}
 use Rattle.solver.specs.Check.{before-ring}
 use Rattle.solver.proofs.Basics.{in-pairs, none-some, some-none, some-is, first-some, first-none, false-T, by-test}
-use Rattle.solver.proofs.Clash.{signed-record, own-there}
+use Rattle.solver.proofs.Clash.{of-tester, record-by, own-there}
 
 -- ---- rules that answer conflict or nothing
 
@@ -107,7 +108,7 @@ module _ (s : State) where
 
   pub tester-tells : Tells s (tester-clash s)
   unfolding tester-clash
-  tester-tells = try-tells s (λ (e : AssertedTester) s′. tester-clash-at (e .lit) (tester-app (s′ .terms) (e .atom)) s′)
+  tester-tells = try-tells s (λ (e : AssertedAtom) s′. tester-clash-at (e .lit) (tester-app (s′ .terms) (e .atom)) s′)
       (s .dt .level-record) (λ e. tester-at-tells (e .lit) (tester-app (s .terms) (e .atom)))
 
   negative-at-tells : (l : ℕ) (o : Option TesterApp) → Tells s (negative-clash-at l o s)
@@ -117,8 +118,14 @@ module _ (s : State) where
 
   pub negative-tells : Tells s (negative-clash s)
   unfolding negative-clash
-  negative-tells = try-tells s (λ (e : AssertedTester) s′. negative-clash-at (e .lit) (tester-app (s′ .terms) (e .atom)) s′)
+  negative-tells = try-tells s (λ (e : AssertedAtom) s′. negative-clash-at (e .lit) (tester-app (s′ .terms) (e .atom)) s′)
       (s .dt .negative-record) (λ e. negative-at-tells (e .lit) (tester-app (s .terms) (e .atom)))
+
+  pub disequality-tells : Tells s (disequality-clash s)
+  unfolding disequality-clash
+  disequality-tells =
+      try-tells s (λ (e : AssertedAtom) s′. conflict-of s′ (disequality-conflict s′ (e .lit) (children (s′ .terms) (e .atom))))
+      (s .dt .disequalities) (λ e. conflict-tells (disequality-conflict s (e .lit) (children (s .terms) (e .atom))))
 
 -- ---- a rule that tells, and the next one
 
@@ -146,11 +153,14 @@ module _ (s : State) (r : Ruled) (next : State → Ruled) (t : Tells s r) where
 
 -- ---- no clash
 
--- Applications of one class have one constructor; whether it is that of a recorded tester on a term of the class, the tester's sign says.
+-- Applications of one class have one constructor; whether it is that of a recorded tester on a term of the class, the tester's sign says;
+-- and recorded unequal terms are not equal.
 pub record Clear (s : State) : Type 0 where
   pub constructors : (p q : CtorApp) → In p (ctor-apps s) → In q (ctor-apps s) → T (equal s (p .app) (q .app)) → p .ctor ≡ q .ctor
-  pub testers : (b : Bool) (e : AssertedTester) (x : TesterApp) (c : CtorApp) → In e (signed-record s b) → tester-app (s .terms) (e .atom) ≡
-      some x → In c (ctor-apps s) → T (equal s (x .arg) (c .app)) → eqb (c .ctor) (x .ctor) ≡ b
+  pub testers : (b : Bool) (e : AssertedAtom) (x : TesterApp) (c : CtorApp) → In e (record-by s (of-tester b)) →
+      tester-app (s .terms) (e .atom) ≡ some x → In c (ctor-apps s) → T (equal s (x .arg) (c .app)) → eqb (c .ctor) (x .ctor) ≡ b
+  pub unequal : (e : AssertedAtom) (x y : ℕ) → In e (s .dt .disequalities) → children (s .terms) (e .atom) ≡ (x ∷ y ∷ []) →
+      T (equal s x y) → ⊥
 
 module _ (s : State) (a : constructor-clash s .answer ≡ none) where
   none-first : first (clash s) (pairs (ctor-apps s)) ≡ none
@@ -178,7 +188,7 @@ module _ (s : State) (a : constructor-clash s .answer ≡ none) where
       go (inr (inr k)) = sym (same-by-test q p k (equal-sym (s .eq) (p .app) (q .app) t))
 
 module _ (s : State) (a : constructor-clash s .answer ≡ none) (b : tester-clash s .answer ≡ none)
-    (n : negative-clash s .answer ≡ none) where
+    (n : negative-clash s .answer ≡ none) (u : disequality-clash s .answer ≡ none) where
   agrees : (l : ℕ) (x : TesterApp) (o : Option CtorApp) → conflict-of s (disagrees s l x o) .answer ≡ none → (c : CtorApp) →
       o ≡ some c → c .ctor ≡ x .ctor
   agrees l x none e c q = absurd (none-some c q)
@@ -189,13 +199,13 @@ module _ (s : State) (a : constructor-clash s .answer ≡ none) (b : tester-clas
       go true w z = ap (λ (y : CtorApp). y .ctor) (sym (some-is d c q)) ∙ eqb-true (d .ctor) (x .ctor) w
       go false w z = absurd (some-none (Conflict (tester-leaves s l (x .arg) d)) (unfold conflict-of answered in z))
 
-  tester-constructor : (e : AssertedTester) (x : TesterApp) (c : CtorApp) → In e (s .dt .level-record) → tester-app (s .terms)
+  tester-constructor : (e : AssertedAtom) (x : TesterApp) (c : CtorApp) → In e (s .dt .level-record) → tester-app (s .terms)
       (e .atom) ≡ some x → In c (ctor-apps s) → T (equal s (x .arg) (c .app)) → c .ctor ≡ x .ctor
   unfolding tester-clash equal ctor-of-class
   tester-constructor e x c i q j t = go (ctor-of-class s (x .arg)) refl
     where
       here : tester-clash-at (e .lit) (tester-app (s .terms) (e .atom)) s .answer ≡ none
-      here = try-none s (λ (y : AssertedTester) s′. tester-clash-at (y .lit) (tester-app (s′ .terms) (y .atom)) s′)
+      here = try-none s (λ (y : AssertedAtom) s′. tester-clash-at (y .lit) (tester-app (s′ .terms) (y .atom)) s′)
           (s .dt .level-record) (λ y. tester-at-tells s (y .lit) (tester-app (s .terms) (y .atom))) b e i
 
       said : conflict-of s (disagrees s (e .lit) x (ctor-of-class s (x .arg))) .answer ≡ none
@@ -215,27 +225,42 @@ module _ (s : State) (a : constructor-clash s .answer ≡ none) (b : tester-clas
   no-denial l x none e = refl
   no-denial l x (some d) e = absurd (some-none (Conflict (tester-leaves s l (x .arg) d)) (unfold denies conflict-of answered in e))
 
-  negative-constructor : (e : AssertedTester) (x : TesterApp) (c : CtorApp) → In e (s .dt .negative-record) → tester-app (s .terms)
+  negative-constructor : (e : AssertedAtom) (x : TesterApp) (c : CtorApp) → In e (s .dt .negative-record) → tester-app (s .terms)
       (e .atom) ≡ some x → In c (ctor-apps s) → T (equal s (x .arg) (c .app)) → eqb (c .ctor) (x .ctor) ≡ false
   unfolding negative-clash
   negative-constructor e x c i q j t =
       ne-eqb (c .ctor) (x .ctor) (λ w. own-there s x c j t w (no-denial (e .lit) x (own-app s x) said))
     where
       here : negative-clash-at (e .lit) (tester-app (s .terms) (e .atom)) s .answer ≡ none
-      here = try-none s (λ (y : AssertedTester) s′. negative-clash-at (y .lit) (tester-app (s′ .terms) (y .atom)) s′)
+      here = try-none s (λ (y : AssertedAtom) s′. negative-clash-at (y .lit) (tester-app (s′ .terms) (y .atom)) s′)
           (s .dt .negative-record) (λ y. negative-at-tells s (y .lit) (tester-app (s .terms) (y .atom))) n e i
 
       said : conflict-of s (denies s (e .lit) x (own-app s x)) .answer ≡ none
       said = unfold negative-conflict negative-clash-at in subst (λ (o : Option TesterApp). negative-clash-at (e .lit) o s .answer ≡ none)
           q here
 
-  signed : (k : Bool) (e : AssertedTester) (x : TesterApp) (c : CtorApp) → In e (signed-record s k) → tester-app (s .terms) (e .atom) ≡
-      some x → In c (ctor-apps s) → T (equal s (x .arg) (c .app)) → eqb (c .ctor) (x .ctor) ≡ k
+  signed : (k : Bool) (e : AssertedAtom) (x : TesterApp) (c : CtorApp) → In e (record-by s (of-tester k)) →
+      tester-app (s .terms) (e .atom) ≡ some x → In c (ctor-apps s) → T (equal s (x .arg) (c .app)) → eqb (c .ctor) (x .ctor) ≡ k
   signed true e x c i q j t = eq-eqb (c .ctor) (x .ctor) (tester-constructor e x c i q j t)
   signed false e x c i q j t = negative-constructor e x c i q j t
 
+  sides-apart : (e : AssertedAtom) (x y : ℕ) → In e (s .dt .disequalities) → children (s .terms) (e .atom) ≡ (x ∷ y ∷ []) →
+      T (equal s x y) → ⊥
+  unfolding disequality-clash disequality-conflict
+  sides-apart e x y i k t = some-none (Conflict (literal-leaves s (e .lit) x y)) (unfold conflict-of answered in said)
+    where
+      here : conflict-of s (disequality-conflict s (e .lit) (children (s .terms) (e .atom))) .answer ≡ none
+      here =
+          try-none s (λ (z : AssertedAtom) s′. conflict-of s′ (disequality-conflict s′ (z .lit) (children (s′ .terms) (z .atom))))
+          (s .dt .disequalities) (λ z. conflict-tells s (disequality-conflict s (z .lit) (children (s .terms) (z .atom)))) u e i
+
+      said : conflict-of s (some (literal-leaves s (e .lit) x y)) .answer ≡ none
+      said =
+          subst (λ (d : Bool). conflict-of s (cond d (some (literal-leaves s (e .lit) x y)) none) .answer ≡ none) (T-true (equal s x y) t)
+          (subst (λ (zs : List ℕ). conflict-of s (disequality-conflict s (e .lit) zs) .answer ≡ none) k here)
+
   clear-by : Clear s
-  clear-by = record { constructors = one-constructor s a; testers = signed }
+  clear-by = record { constructors = one-constructor s a; testers = signed; unequal = sides-apart }
 
 -- ---- a check
 
@@ -246,7 +271,8 @@ clash-found s k =
     one-says s (constructor-clash s) _ (constructor-tells s) λ a.
     one-says s (tester-clash s) _ (tester-tells s) λ b.
     one-says s (negative-clash s) _ (negative-tells s) λ n.
-    absurd (k (clear-by s a b n))
+    one-says s (disequality-clash s) _ (disequality-tells s) λ u.
+    absurd (k (clear-by s a b n u))
 
 -- and where no rule answers there is none
 pub clear-at-first : (s : State) → before-ring s .answer ≡ none → Clear s
@@ -254,4 +280,5 @@ unfolding before-ring
 clear-at-first s e =
     let (a, e₁) = both-none s (constructor-clash s) _ (constructor-tells s) e in
     let (b, e₂) = both-none s (tester-clash s) _ (tester-tells s) e₁ in
-    clear-by s a b (both-none s (negative-clash s) _ (negative-tells s) e₂ .0)
+    let (n, e₃) = both-none s (negative-clash s) _ (negative-tells s) e₂ in
+    clear-by s a b n (both-none s (disequality-clash s) _ (disequality-tells s) e₃ .0)

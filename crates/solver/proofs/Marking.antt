@@ -20,20 +20,20 @@ use Rattle.theory.specs.Types.{EqLeaf}
 use Rattle.theory.specs.EqEngine.{Merge, are-equal}
 use Rattle.theory.specs.Atom.{Registered, var-of-atom}
 use Rattle.theory.proofs.Members.{in-either}
-use Rattle.solver.specs.State.{State, AssertedTester, MadeIn, with-terms, with-dt, with-marks, with-emitted, with-split-done, ctor-apps, sel-apps, testers, watched-dt-terms, equal, ctor-of-class, mark, made-in, make-app, marked-in, mint}
+use Rattle.solver.specs.State.{State, AssertedAtom, MadeIn, with-terms, with-dt, with-marks, with-emitted, with-split-done, ctor-apps, sel-apps, testers, watched-dt-terms, equal, ctor-of-class, mark, made-in, make-app, marked-in, mint}
 use Rattle.solver.specs.Records.{is-some}
-use Rattle.solver.specs.Rules.{Phase, TCheck, Sat, Conflict, Split, Unknown, Ruled, pass, answered, go-on, then, try-each, constructor-clash, tester-clash, negative-clash, mint-on-both, same-constructor, mint-selectors, instantiate-injectivity-selectors, hand-out, hand-out-made, make-eq, equate-field, collapse-field, collapse-at, collapse-lemma, tester-lemma-at, tester-lemma, Fields, mint-field, mint-fields, guard, equate-with, instantiate, instantiate-at, instantiate-constructor, Testers, make-tester, phase, split-on, to-split, split-answer, exhaustiveness-split, has-undetermined-class, unknown-fence}
+use Rattle.solver.specs.Rules.{Phase, TCheck, Sat, Conflict, Split, Unknown, Ruled, pass, answered, go-on, then, try-each, constructor-clash, tester-clash, negative-clash, disequality-clash, mint-on-both, same-constructor, mint-selectors, instantiate-injectivity-selectors, hand-out, hand-out-made, make-eq, equate-field, collapse-field, collapse-at, collapse-lemma, tester-lemma-at, tester-lemma, Fields, mint-field, mint-fields, guard, equate-with, instantiate, instantiate-at, instantiate-constructor, Testers, make-tester, phase, split-on, to-split, split-answer, exhaustiveness-split, has-undetermined-class, unknown-fence}
 use Rattle.solver.specs.Check.{before-ring}
 use Rattle.solver.proofs.Basics.{none-some, some-none, some-is, mem-in, insert-in, in-insert-new, in-insert-old, pairs-in, gather-in, in-gather, fold-keeps}
 use Rattle.solver.proofs.Terms.{Extends, extends-self, extends-then, extends-length, extends-symbol, extends-term, mk-app-makes, app}
 use Rattle.solver.proofs.Signature.{Signed, extends-signed}
 use Rattle.solver.proofs.Apps.{op-apart, ctor-app-is, tester-app-is}
-use Rattle.solver.proofs.Clash.{Ready, signed-record, ctor-in}
+use Rattle.solver.proofs.Clash.{Ready, Assertion, Unequal, of-tester, record-by, ctor-in}
 use Rattle.solver.proofs.Collection.{children-lower}
 use Rattle.solver.proofs.Answers.{before-ring-well}
 use Rattle.solver.proofs.Moves.{made-args, ctor-app-kept, tester-app-kept, Follows, follows-ready}
 use Rattle.solver.proofs.Lemmas.{element-at, collapse-well, tester-lemma-well, instantiate-constructor-well, injectivity-follows, exhaustiveness-well}
-use Rattle.solver.proofs.Clear.{Tells, constructor-tells, tester-tells, negative-tells, Clear, clear-at-first}
+use Rattle.solver.proofs.Clear.{Tells, constructor-tells, tester-tells, negative-tells, disequality-tells, Clear, clear-at-first}
 
 -- ---- applications in a longer table
 
@@ -627,6 +627,8 @@ before-ring-keeps s R S =
     and-then s (tester-clash s) _ (subst⁻¹ Ready (tester-tells s .state) R) (tells-keeps s (tester-clash s) S (tester-tells s)) λ s R S.
     and-then s (negative-clash s) _ (subst⁻¹ Ready (negative-tells s .state) R) (tells-keeps s (negative-clash s) S
     (negative-tells s)) λ s R S.
+    and-then s (disequality-clash s) _ (subst⁻¹ Ready (disequality-tells s .state) R) (tells-keeps s (disequality-clash s) S
+    (disequality-tells s)) λ s R S.
     and-then s (pass (instantiate-injectivity-selectors s)) _ (follows-ready s (instantiate-injectivity-selectors s)
     (injectivity-follows s R) R) (pass-keeps s (instantiate-injectivity-selectors s) (injectivity-quiet s R S)) λ s R S.
     and-then s (collapse-lemma s) _ (follows-ready s (collapse-lemma s .state) (collapse-well s R .follows) R)
@@ -643,13 +645,18 @@ before-ring-keeps s R S =
 
 -- where no rule answers there is no clash after the rules have marked what they mark
 pub still-clear : (s : State) → Ready s → SettledIn s → before-ring s .answer ≡ none →
-    ((b : Bool) (e : AssertedTester) → In e (signed-record s b) → e .atom < length (s .terms .terms)) → Clear (before-ring s .state)
+    ((b : Assertion) (e : AssertedAtom) → In e (record-by s b) → e .atom < length (s .terms .terms)) → Clear (before-ring s .state)
 still-clear s R S e w = record {
   constructors = λ p q i j t. C .constructors p q (old p i) (old q j) (same (p .app) (q .app) t);
   testers = λ b x y c i q j t.
-      let i′ = subst (λ (es : List AssertedTester). In x es) (F .entries b) i in
-      C .testers b x y c i′ (sym (tester-app-kept (s .terms) (before-ring s .state .terms) (x .atom) (Q .extends) (w b x i′)) ∙ q)
-      (old c j) (same (y .arg) (c .app) t);
+      let i′ = subst (λ (es : List AssertedAtom). In x es) (F .entries (of-tester b)) i in
+      C .testers b x y c i′
+      (sym (tester-app-kept (s .terms) (before-ring s .state .terms) (x .atom) (Q .extends) (w (of-tester b) x i′)) ∙ q) (old c j)
+      (same (y .arg) (c .app) t);
+  unequal = λ e x y i k t.
+      let i′ = subst (λ (es : List AssertedAtom). In e es) (F .entries Unequal) i in
+      C .unequal e x y i′ (sym (children-kept (s .terms) (before-ring s .state .terms) (e .atom) (Q .extends) (w Unequal e i′)) ∙ k)
+      (same x y t);
 }
   where
     C : Clear s

@@ -1,5 +1,5 @@
 -- Lemmas about the lent tables. TableStores, WorkStores, SplitStores, RingStores: the laws of stores at each table; Flags: sets of terms
--- as flags; Signs: the two records of testers in one list; Frames: what stores in some regions leave; Announcing: a mark and its block;
+-- as flags; Signs: the three records in one list; Frames: what stores in some regions leave; Announcing: a mark and its block;
 -- Roles: the kind of a term's mark, and the applications of the definition.
 pub mod TableStores
 pub mod WorkStores
@@ -31,12 +31,14 @@ pub mod Unfitting
 pub mod Minting
 pub mod Splits
 pub mod Trying
--- The rules. ConstructorClash, Clashing, Owning: the three clashes; Asserting: assert; Selected, Injecting: injectivity; Chains,
--- Collapsing, TesterLemmas, Once, TestsOnce: collapse and the tester lemma; Instantiating: guarded instantiation; Splitting:
--- exhaustiveness and unknown.
+-- The rules. Asking: the loop over the list of entries; ConstructorClash, Clashing, Owning: the three clashes; Disequalities: unequal
+-- terms; Asserting: assert; Selected, Injecting: injectivity; Chains, Collapsing, TesterLemmas, Once, TestsOnce: collapse and the tester
+-- lemma; Instantiating: guarded instantiation; Splitting: exhaustiveness and unknown.
+pub mod Asking
 pub mod ConstructorClash
 pub mod Clashing
 pub mod Owning
+pub mod Disequalities
 pub mod Asserting
 pub mod Selected
 pub mod Injecting

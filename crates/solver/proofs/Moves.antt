@@ -24,7 +24,7 @@ use Rattle.solver.proofs.Terms.{Extends, extends-self, extends-then, ex
 use Rattle.solver.proofs.Signature.{extends-signed}
 use Rattle.solver.proofs.Apps.{IsCtor, IsTester, IsSel, app-within}
 use Rattle.solver.proofs.Walk.{HasRing}
-use Rattle.solver.proofs.Clash.{Ready, Refuted, signed-record, Recorded}
+use Rattle.solver.proofs.Clash.{Ready, Refuted, Assertion, record-by, Recorded}
 
 -- ---- a state after another
 
@@ -34,7 +34,7 @@ pub record Follows (s s′ : State) : Type 0 where
   pub eq : s′ .eq ≡ s .eq
   pub atoms : s′ .atoms ≡ s .atoms
   pub level : s′ .level ≡ s .level
-  pub entries : (b : Bool) → signed-record s′ b ≡ signed-record s b
+  pub entries : (b : Assertion) → record-by s′ b ≡ record-by s b
   pub marks : (t : ℕ) → In t (s .dt .marks) → In t (s′ .dt .marks)
   pub ascending : Ascending (s .dt .marks) → Ascending (s′ .dt .marks)
 

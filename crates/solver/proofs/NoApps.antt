@@ -1,14 +1,15 @@
--- Where no constructor application is marked, no class has a constructor: the clashes, injectivity, collapse and the tester lemma pass,
--- and the ring's walk enters nothing. Where no tester was asserted, instantiation passes too. Only the watched terms are left to ask.
+-- Where no constructor application is marked, no class has a constructor: the clashes of constructors and testers, injectivity, collapse
+-- and the tester lemma pass, and the ring's walk enters nothing. Where no tester was asserted, instantiation passes too. Only the unequal
+-- terms and the watched terms are left to ask.
 use Rattle.core.proofs.Kit.{ℕ, suc, _≡_, refl, ap, _∙_, List, [], _∷_, foldl, Option, none, some, length}
 use Rattle.core.specs.Lists.{first, pairs}
 use Rattle.core.specs.Context.{CtorApp, SelApp, TesterApp, tester-app}
-use Rattle.solver.specs.State.{State, AssertedTester, ctor-apps, sel-apps, testers, ctor-of-class, equal, watched-dt-terms}
+use Rattle.solver.specs.State.{State, AssertedAtom, ctor-apps, sel-apps, testers, ctor-of-class, equal, watched-dt-terms}
 use Rattle.solver.specs.Records.{disagrees, tester-conflict, is-own, own-app, denies, negative-conflict}
-use Rattle.solver.specs.Rules.{Ruled, pass, go-on, then, try-each, clash, clash-answer, constructor-clash, conflict-of, tester-clash-at, tester-clash, negative-clash-at, negative-clash, mint-selectors, instantiate-injectivity-selectors, collapse-at, collapse-lemma, tester-lemma-at, tester-lemma, instantiate-at, instantiate-constructor}
+use Rattle.solver.specs.Rules.{Ruled, pass, go-on, then, try-each, clash, clash-answer, constructor-clash, conflict-of, tester-clash-at, tester-clash, negative-clash-at, negative-clash, disequality-clash, mint-selectors, instantiate-injectivity-selectors, collapse-at, collapse-lemma, tester-lemma-at, tester-lemma, instantiate-at, instantiate-constructor}
 use Rattle.solver.specs.Ring.{Finished, enter, after, walk-from, walk-watched, ring-of, constructor-graph-find-cycle}
 use Rattle.solver.specs.Check.{before-ring}
-use Rattle.solver.specs.Memory.Checks.{from-split, from-instantiation, from-tester-lemma, from-collapse, from-injectivity}
+use Rattle.solver.specs.Memory.Checks.{from-split, from-instantiation, from-tester-lemma, from-collapse, from-injectivity, from-disequality-clash}
 
 -- a rule that passes for each of a list passes
 try-pass : {A : Type 0} (rule : A → State → Ruled) (xs : List A) (s : State) → ((x : A) → rule x s ≡ pass s) → try-each rule xs s ≡ pass s
@@ -32,7 +33,7 @@ module _ (s : State) (n : ctor-apps s ≡ []) where
   no-tester-clash : tester-clash s ≡ pass s
   unfolding tester-clash tester-clash-at conflict-of tester-conflict disagrees
   no-tester-clash =
-      try-pass (λ (e : AssertedTester) u. tester-clash-at (e .lit) (tester-app (u .terms) (e .atom)) u) (s .dt .level-record) s
+      try-pass (λ (e : AssertedAtom) u. tester-clash-at (e .lit) (tester-app (u .terms) (e .atom)) u) (s .dt .level-record) s
       (λ e. entry (e .lit) (tester-app (s .terms) (e .atom)))
     where
       entry : (l : ℕ) (o : Option TesterApp) → tester-clash-at l o s ≡ pass s
@@ -46,7 +47,7 @@ module _ (s : State) (n : ctor-apps s ≡ []) where
   no-negative-clash : negative-clash s ≡ pass s
   unfolding negative-clash negative-clash-at conflict-of negative-conflict denies
   no-negative-clash =
-      try-pass (λ (e : AssertedTester) u. negative-clash-at (e .lit) (tester-app (u .terms) (e .atom)) u) (s .dt .negative-record) s
+      try-pass (λ (e : AssertedAtom) u. negative-clash-at (e .lit) (tester-app (u .terms) (e .atom)) u) (s .dt .negative-record) s
       (λ e. entry (e .lit) (tester-app (s .terms) (e .atom)))
     where
       entry : (l : ℕ) (o : Option TesterApp) → negative-clash-at l o s ≡ pass s
@@ -82,12 +83,19 @@ module _ (s : State) (n : ctor-apps s ≡ []) where
   unfolding constructor-graph-find-cycle ring-of
   no-ring = ap ring-of (enters-none (watched-dt-terms s) [])
 
-  pub only-watched : s .dt .lasting ≡ [] → before-ring s ≡ from-split s
-  unfolding before-ring then go-on pass instantiate-constructor try-each
-  only-watched l =
-      then-pass (constructor-clash s) s (λ u. then (tester-clash u) (λ v. then (negative-clash v) from-injectivity)) no-clash
-      ∙ then-pass (tester-clash s) s (λ u. then (negative-clash u) from-injectivity) no-tester-clash
-      ∙ then-pass (negative-clash s) s from-injectivity no-negative-clash
+  -- the clashes of constructors and testers pass
+  pub unequal-first : before-ring s ≡ from-disequality-clash s
+  unfolding before-ring
+  unequal-first =
+      then-pass (constructor-clash s) s (λ u. then (tester-clash u) (λ v. then (negative-clash v) from-disequality-clash)) no-clash
+      ∙ then-pass (tester-clash s) s (λ u. then (negative-clash u) from-disequality-clash) no-tester-clash
+      ∙ then-pass (negative-clash s) s from-disequality-clash no-negative-clash
+
+  pub only-watched : s .dt .lasting ≡ [] → disequality-clash s ≡ pass s → before-ring s ≡ from-split s
+  unfolding then go-on pass instantiate-constructor try-each
+  only-watched l e =
+      unequal-first
+      ∙ then-pass (disequality-clash s) s from-injectivity e
       ∙ ap from-collapse no-injectivity
       ∙ then-pass (collapse-lemma s) s from-tester-lemma no-collapse
       ∙ then-pass (tester-lemma s) s from-instantiation no-tester-lemma

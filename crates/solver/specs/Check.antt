@@ -3,7 +3,7 @@ use mathlib.Core.Bool.{Bool, true, false}
 use mathlib.Core.List.{List}
 use mathlib.Core.Option.{Option, none, some}
 use Rattle.solver.specs.State.{State}
-use Rattle.solver.specs.Rules.{TCheck, Sat, Conflict, Ruled, pass, then, constructor-clash, tester-clash, negative-clash, instantiate-injectivity-selectors, collapse-lemma, tester-lemma, instantiate-constructor, exhaustiveness-split, unknown-fence}
+use Rattle.solver.specs.Rules.{TCheck, Sat, Conflict, Ruled, pass, then, constructor-clash, tester-clash, negative-clash, disequality-clash, instantiate-injectivity-selectors, collapse-lemma, tester-lemma, instantiate-constructor, exhaustiveness-split, unknown-fence}
 use Rattle.solver.specs.Ring.{Edge, constructor-graph-find-cycle, acyclicity-conflict}
 
 -- the rules before the ring
@@ -12,6 +12,7 @@ before-ring s =
     then (constructor-clash s) λ s.
     then (tester-clash s) λ s.
     then (negative-clash s) λ s.
+    then (disequality-clash s) λ s.
     then (pass (instantiate-injectivity-selectors s)) λ s.
     then (collapse-lemma s) λ s.
     then (tester-lemma s) λ s.

@@ -100,6 +100,7 @@ start e = record {
     marks = e .marks;
     level-record = cons-option (Option·map (λ (x : ℕ × ℕ). record { atom = x .0; lit = x .1; level = 0 }) (e .tester)) [];
     negative-record = [];
+    disequalities = [];
     lasting = cons-option (Option·map (λ (x : ℕ × ℕ). x .0) (e .tester)) [];
     emitted = [];
     split-done = e .split;

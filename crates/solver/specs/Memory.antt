@@ -6,11 +6,13 @@ pub mod Work
 pub mod Answer
 pub mod Making
 pub mod Checks
--- What the functions promise one another: Recording: an empty table, the registry, collection; Levels: the records of testers by levels;
--- Testing, Asserting: testers and `assert`; ConstructorClash, Injecting, Collapse, Instantiation, Splitting, Walking: the rules.
+-- What the functions promise one another: Recording: an empty table, the registry, collection; Levels: the records by levels;
+-- Testing, Asserting: testers and `assert`; Disequalities: unequal terms; ConstructorClash, Injecting, Collapse, Instantiation,
+-- Splitting, Walking: the rules.
 pub mod Recording
 pub mod Levels
 pub mod Testing
+pub mod Disequalities
 pub mod Asserting
 pub mod ConstructorClash
 pub mod Injecting

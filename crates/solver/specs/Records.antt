@@ -1,4 +1,4 @@
--- Collection, the records of testers, and `assert` (collect, new_var, assert, push, pop).
+-- Collection, the records by level, `assert` and `differ` (collect, new_var, assert, push, pop).
 use Prim.Native.Nat.{ℕ, zero, suc}
 use mathlib.Core.Bool.{Bool, true, false, cond, _||_, _&&_}
 use mathlib.Core.List.{List, [], _∷_, _++_, foldl}
@@ -10,7 +10,7 @@ use Rattle.core.specs.Context.{Context, CtorApp, TesterApp, ctor-app, sel-app, 
 use Rattle.theory.specs.Types.{EqLeaf, AssertedLeaf}
 use Rattle.theory.specs.EqEngine.{explain, firsts}
 use Rattle.theory.specs.Atom as Atom
-use Rattle.solver.specs.State.{State, AssertedTester, with-marks, with-level-record, with-negative-record, with-lasting, ctor-apps, equal, ctor-of-class}
+use Rattle.solver.specs.State.{State, AssertedAtom, with-marks, with-level-record, with-negative-record, with-disequalities, with-lasting, ctor-apps, equal, ctor-of-class}
 
 -- ---- collection
 
@@ -38,11 +38,11 @@ new-var s t =
 -- ---- records
 
 -- has an atom an entry?
-unfoldable pub recorded : List AssertedTester → ℕ → Bool
-recorded es t = any (λ (e : AssertedTester). eqb (e .atom) t) es
+unfoldable pub recorded : List AssertedAtom → ℕ → Bool
+recorded es t = any (λ (e : AssertedAtom). eqb (e .atom) t) es
 
 -- the entries of a record and, unless the atom has one, an entry for it at a level: once per atom, with the literal that first asserted it
-unfoldable pub entered : ℕ → ℕ → ℕ → List AssertedTester → List AssertedTester
+unfoldable pub entered : ℕ → ℕ → ℕ → List AssertedAtom → List AssertedAtom
 entered v t l es = cond (recorded es t) es (es ++ (record { atom = t; lit = l; level = v } ∷ []))
 
 -- A positive tester goes into the lasting record and into the level record.
@@ -54,15 +54,30 @@ record-tester s t l =
 unfoldable pub record-negative : State → ℕ → ℕ → State
 record-negative s t l = with-negative-record s (entered (s .level) t l (s .dt .negative-record))
 
+-- 02 (iii): has a literal an entry?
+unfoldable pub has-literal : List AssertedAtom → ℕ → Bool
+has-literal es l = any (λ (e : AssertedAtom). eqb (e .lit) l) es
+
+-- 02 (iii): a negative equation literal goes into a record of its own, once per literal while it stands there
+unfoldable pub differ : State → ℕ → State
+differ s l =
+    let es = s .dt .disequalities in
+    let e : AssertedAtom = record { atom = Atom.atom (s .atoms) (Ids.var l); lit = l; level = s .level } in
+    with-disequalities s (cond (has-literal es l) es (es ++ (e ∷ [])))
+
 -- the entries of level k or lower: pop to k
-unfoldable pub pop-testers : ℕ → List AssertedTester → List AssertedTester
-pop-testers k es = keep (λ (e : AssertedTester). leb (e .level) k) es
+unfoldable pub pop-entries : ℕ → List AssertedAtom → List AssertedAtom
+pop-entries k es = keep (λ (e : AssertedAtom). leb (e .level) k) es
 
 -- ---- a tester against the constructor of its class
 
+-- a literal, then one term explained to another
+unfoldable pub literal-leaves : State → ℕ → ℕ → ℕ → List EqLeaf
+literal-leaves s l x y = firsts (AssertedLeaf l ∷ explain (s .eq) x y)
+
 -- the literal, then the term explained to the application
 unfoldable pub tester-leaves : State → ℕ → ℕ → CtorApp → List EqLeaf
-tester-leaves s l t c = firsts (AssertedLeaf l ∷ explain (s .eq) t (c .app))
+tester-leaves s l t c = literal-leaves s l t (c .app)
 
 unfoldable pub disagrees : State → ℕ → TesterApp → Option CtorApp → Option (List EqLeaf)
 disagrees s l x none = none
@@ -91,6 +106,16 @@ denies s l x (some c) = some (tester-leaves s l (x .arg) c)
 unfoldable pub negative-conflict : State → ℕ → TesterApp → Option (List EqLeaf)
 negative-conflict s l x = denies s l x (own-app s x)
 
+-- ---- 02 (iii): unequal terms that are equal now
+
+-- the conflict of a negative equation literal, by the sides of its equation: the literal, then the first side explained to the second. By
+-- question 13 the atom is an equation, which has two sides.
+unfoldable pub disequality-conflict : State → ℕ → List ℕ → Option (List EqLeaf)
+disequality-conflict s l [] = none
+disequality-conflict s l (x ∷ []) = none
+disequality-conflict s l (x ∷ y ∷ []) = cond (equal s x y) (some (literal-leaves s l x y)) none
+disequality-conflict s l (x ∷ y ∷ z ∷ zs) = none
+
 -- ---- assert
 
 pub record Outcome : Type 0 where
@@ -112,5 +137,5 @@ unfoldable pub assert : State → ℕ → Outcome
 assert s l = assert-atom s l (tester-app (s .terms) (Atom.atom (s .atoms) (Ids.var l)))
 
 unfoldable pub records-definitions : Unit {0}
-unfolding is-some relevant collect new-var recorded entered record-tester record-negative pop-testers tester-leaves disagrees tester-conflict is-own own-app denies negative-conflict assert-tester assert-atom assert
+unfolding is-some relevant collect new-var recorded entered record-tester record-negative has-literal differ pop-entries literal-leaves tester-leaves disagrees tester-conflict is-own own-app denies negative-conflict disequality-conflict assert-tester assert-atom assert
 records-definitions = tt

@@ -7,12 +7,12 @@ use lib.Dec.{eqb}
 use lib.ListN.{length, getElem?}
 use Rattle.core.specs.Lists.{any, first, pairs, mem, insert}
 use Rattle.core.specs.Ids.{lit, negate}
-use Rattle.core.specs.Context.{Context, CtorApp, SelApp, TesterApp, tester-app, mk-eq, symbol, sort-of, dt-constructors, dt-tester, dt-selectors}
+use Rattle.core.specs.Context.{Context, CtorApp, SelApp, TesterApp, tester-app, mk-eq, symbol, sort-of, children, dt-constructors, dt-tester, dt-selectors}
 use Rattle.theory.specs.Types.{EqLeaf}
 use Rattle.theory.specs.EqEngine.{explain, firsts}
 use Rattle.theory.specs.Atom.{var-of-atom}
-use Rattle.solver.specs.State.{State, AssertedTester, MadeIn, with-emitted, with-split-done, ctor-apps, sel-apps, testers, watched-dt-terms, equal, ctor-of-class, made-in, make-app, mint}
-use Rattle.solver.specs.Records.{is-some, tester-conflict, negative-conflict}
+use Rattle.solver.specs.State.{State, AssertedAtom, MadeIn, with-emitted, with-split-done, ctor-apps, sel-apps, testers, watched-dt-terms, equal, ctor-of-class, made-in, make-app, mint}
+use Rattle.solver.specs.Records.{is-some, tester-conflict, negative-conflict, disequality-conflict}
 
 -- the preferred phase of a split atom: 01 writes 1 or -
 pub data Phase : Type 0 where
@@ -74,7 +74,7 @@ tester-clash-at l (some x) s = conflict-of s (tester-conflict s l x)
 -- the first entry of the level record whose term's class has a lowest marked application of another constructor
 unfoldable pub tester-clash : State → Ruled
 tester-clash s =
-    try-each (λ (e : AssertedTester) s′. tester-clash-at (e .lit) (tester-app (s′ .terms) (e .atom)) s′) (s .dt .level-record) s
+    try-each (λ (e : AssertedAtom) s′. tester-clash-at (e .lit) (tester-app (s′ .terms) (e .atom)) s′) (s .dt .level-record) s
 
 -- ---- 02 (i): negative testers
 
@@ -86,7 +86,15 @@ negative-clash-at l (some x) s = conflict-of s (negative-conflict s l x)
 -- the first entry of the record of negative testers whose term's class has a marked application of that very constructor
 unfoldable pub negative-clash : State → Ruled
 negative-clash s =
-    try-each (λ (e : AssertedTester) s′. negative-clash-at (e .lit) (tester-app (s′ .terms) (e .atom)) s′) (s .dt .negative-record) s
+    try-each (λ (e : AssertedAtom) s′. negative-clash-at (e .lit) (tester-app (s′ .terms) (e .atom)) s′) (s .dt .negative-record) s
+
+-- ---- 02 (iii): unequal terms
+
+-- the first entry of the record of unequal terms whose two sides are equal now
+unfoldable pub disequality-clash : State → Ruled
+disequality-clash s =
+    try-each (λ (e : AssertedAtom) s′. conflict-of s′ (disequality-conflict s′ (e .lit) (children (s′ .terms) (e .atom))))
+    (s .dt .disequalities) s
 
 -- ---- injectivity
 
@@ -230,5 +238,5 @@ unfoldable pub unknown-fence : State → Ruled
 unknown-fence s = cond (has-undetermined-class s) (answered s Unknown) (pass s)
 
 unfoldable pub rules-definitions : Unit {0}
-unfolding pass answered go-on then try-each clash clash-answer constructor-clash conflict-of tester-clash-at tester-clash negative-clash-at negative-clash mint-on-both same-constructor mint-selectors instantiate-injectivity-selectors hand-out hand-out-made make-eq equate-field collapse-field collapse-at collapse-lemma tester-lemma-at tester-lemma mint-field mint-fields guard equate-with instantiate instantiate-at instantiate-constructor make-tester phase split-on to-split split-answer exhaustiveness-split has-undetermined-class unknown-fence
+unfolding pass answered go-on then try-each clash clash-answer constructor-clash conflict-of tester-clash-at tester-clash negative-clash-at negative-clash disequality-clash mint-on-both same-constructor mint-selectors instantiate-injectivity-selectors hand-out hand-out-made make-eq equate-field collapse-field collapse-at collapse-lemma tester-lemma-at tester-lemma mint-field mint-fields guard equate-with instantiate instantiate-at instantiate-constructor make-tester phase split-on to-split split-answer exhaustiveness-split has-undetermined-class unknown-fence
 rules-definitions = tt

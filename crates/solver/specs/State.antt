@@ -9,8 +9,8 @@ use Rattle.core.specs.Term.{Uninterpreted}
 use Rattle.theory.specs.EqEngine.{Merge, are-equal}
 use Rattle.theory.specs.Atom.{Registered}
 
--- an entry of a record of testers: a tester atom, the literal that first asserted it, the level it came at
-pub record AssertedTester : Type 0 where
+-- an entry of a record: an atom, the literal of it that a line put in force, the level it came at
+pub record AssertedAtom : Type 0 where
   pub atom : ℕ
   pub lit : ℕ
   pub level : ℕ
@@ -20,9 +20,11 @@ pub record DtSolver : Type 0 where
   -- 01: marked
   pub marks : List ℕ
   -- 01: the level record, in order of assertion
-  pub level-record : List AssertedTester
+  pub level-record : List AssertedAtom
   -- 02 (i): the record of negative testers, in order of assertion
-  pub negative-record : List AssertedTester
+  pub negative-record : List AssertedAtom
+  -- 02 (iii): the record of unequal terms, in order of the lines
+  pub disequalities : List AssertedAtom
   -- 01: the lasting record
   pub lasting : List ℕ
   -- 01: atoms handed out by collapse, tester lemma and instantiation
@@ -43,7 +45,7 @@ empty-state = record {
   eq = [];
   atoms = [];
   level = 0;
-  dt = record { marks = []; level-record = []; negative-record = []; lasting = []; emitted = []; split-done = [] };
+  dt = record { marks = []; level-record = []; negative-record = []; disequalities = []; lasting = []; emitted = []; split-done = [] };
 }
 
 -- ---- a state with one part changed
@@ -68,26 +70,40 @@ with-marks s ts = with-dt s (record {
   marks = ts;
   level-record = s .dt .level-record;
   negative-record = s .dt .negative-record;
+  disequalities = s .dt .disequalities;
   lasting = s .dt .lasting;
   emitted = s .dt .emitted;
   split-done = s .dt .split-done;
 })
 
-unfoldable pub with-level-record : State → List AssertedTester → State
+unfoldable pub with-level-record : State → List AssertedAtom → State
 with-level-record s es = with-dt s (record {
   marks = s .dt .marks;
   level-record = es;
   negative-record = s .dt .negative-record;
+  disequalities = s .dt .disequalities;
   lasting = s .dt .lasting;
   emitted = s .dt .emitted;
   split-done = s .dt .split-done;
 })
 
-unfoldable pub with-negative-record : State → List AssertedTester → State
+unfoldable pub with-negative-record : State → List AssertedAtom → State
 with-negative-record s es = with-dt s (record {
   marks = s .dt .marks;
   level-record = s .dt .level-record;
   negative-record = es;
+  disequalities = s .dt .disequalities;
+  lasting = s .dt .lasting;
+  emitted = s .dt .emitted;
+  split-done = s .dt .split-done;
+})
+
+unfoldable pub with-disequalities : State → List AssertedAtom → State
+with-disequalities s es = with-dt s (record {
+  marks = s .dt .marks;
+  level-record = s .dt .level-record;
+  negative-record = s .dt .negative-record;
+  disequalities = es;
   lasting = s .dt .lasting;
   emitted = s .dt .emitted;
   split-done = s .dt .split-done;
@@ -98,6 +114,7 @@ with-lasting s ts = with-dt s (record {
   marks = s .dt .marks;
   level-record = s .dt .level-record;
   negative-record = s .dt .negative-record;
+  disequalities = s .dt .disequalities;
   lasting = ts;
   emitted = s .dt .emitted;
   split-done = s .dt .split-done;
@@ -108,6 +125,7 @@ with-emitted s ts = with-dt s (record {
   marks = s .dt .marks;
   level-record = s .dt .level-record;
   negative-record = s .dt .negative-record;
+  disequalities = s .dt .disequalities;
   lasting = s .dt .lasting;
   emitted = ts;
   split-done = s .dt .split-done;
@@ -118,6 +136,7 @@ with-split-done s ts = with-dt s (record {
   marks = s .dt .marks;
   level-record = s .dt .level-record;
   negative-record = s .dt .negative-record;
+  disequalities = s .dt .disequalities;
   lasting = s .dt .lasting;
   emitted = s .dt .emitted;
   split-done = ts;
@@ -169,5 +188,5 @@ unfoldable pub mint : State → ℕ → List ℕ → MadeIn
 mint s f args = marked-in (make-app s f args)
 
 unfoldable pub state-definitions : Unit {0}
-unfolding empty-state with-terms with-eq with-atoms with-level with-dt with-marks with-level-record with-negative-record with-lasting with-emitted with-split-done ctor-apps sel-apps testers watched-dt-terms equal ctor-of-class mark made-in make-app marked-in mint
+unfolding empty-state with-terms with-eq with-atoms with-level with-dt with-marks with-level-record with-negative-record with-disequalities with-lasting with-emitted with-split-done ctor-apps sel-apps testers watched-dt-terms equal ctor-of-class mark made-in make-app marked-in mint
 state-definitions = tt

@@ -43,7 +43,7 @@ fn assert_tester(
     x: TermId,
     out: &mut [u32],
 ) -> TCheck
-    requires { ⌜ TesterAssertable (now t) (now e) (now s) (x .0) (now out) ⌝ }
+    requires { ⌜ TesterAssertable (now t) (now e) (now s) (l .0) (x .0) (now out) ⌝ }
     ensures { λ r. ⌜ AssertsTester positive (now (t .entry)) (now (e .entry)) (now (s .entry)) (l .0) (x .0) r (now (s .exit))
         (now (out .exit)) ⌝ }
 {

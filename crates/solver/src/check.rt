@@ -5,6 +5,7 @@ use crate::clashes::tester_clash;
 use crate::collapse::collapse_lemma;
 use crate::collapse::tester_lemma;
 use crate::constructor_clash::constructor_clash;
+use crate::disequalities::disequality_clash;
 use crate::exhaustiveness::exhaustiveness_split;
 use crate::exhaustiveness::split_watched;
 use crate::injectivity::instantiate_injectivity_selectors;
@@ -30,7 +31,7 @@ ghost use Rattle.solver.specs.Memory.Table.{StateSound};
 ghost use Rattle.solver.specs.Memory.Work.{CheckSound};
 ghost use Rattle.solver.specs.Memory.Answer.{Tried};
 ghost use Rattle.solver.specs.Memory.Testing.{Lone};
-ghost use Rattle.solver.specs.Memory.Checks.{passes, has-room, from-instantiation, from-tester-lemma, from-collapse, from-injectivity, from-negative-clash, from-tester-clash, Underway, Beginnable, ChecksFully, MarksFit, KeepsMarks, ChecksKept, Checks};
+ghost use Rattle.solver.specs.Memory.Checks.{passes, has-room, from-instantiation, from-tester-lemma, from-collapse, from-injectivity, from-disequality-clash, from-negative-clash, from-tester-clash, Underway, UnmarkedAsked, Beginnable, ChecksFully, MarksFit, KeepsMarks, ChecksKept, Checks};
 
 // Does a rule pass on to the next?
 fn passes(r: TCheck) -> bool
@@ -130,6 +131,25 @@ fn from_injectivity(
     from_collapse(t, e, s, w, out)
 }
 
+// Unequal terms, and what follows them.
+fn from_disequality_clash(
+    t: &mut [u32],
+    e: &[u32],
+    s: &mut [u32],
+    w: &mut [u32],
+    out: &mut [u32],
+) -> TCheck
+    requires { ⌜ Underway (now t) (now e) (now s) (now w) (now out) ⌝ }
+    ensures { λ r. ⌜ Tried from-disequality-clash (now (t .entry)) (now (e .entry)) (now (s .entry)) (now (w .entry)) r (now (t .exit))
+        (now (s .exit)) (now (w .exit)) (now (out .exit)) ⌝ }
+{
+    let r = disequality_clash(t, e, s, out);
+    if !passes(r) {
+        return r;
+    }
+    from_injectivity(t, e, s, w, out)
+}
+
 // Negative testers, and what follows them.
 fn from_negative_clash(
     t: &mut [u32],
@@ -146,7 +166,7 @@ fn from_negative_clash(
     if !passes(r) {
         return r;
     }
-    from_injectivity(t, e, s, w, out)
+    from_disequality_clash(t, e, s, w, out)
 }
 
 // Tester clash, and what follows it.
@@ -226,14 +246,26 @@ fn check_classes(t: &mut [u32], e: &[u32], s: &mut [u32], out: &mut [u32]) -> TC
     r
 }
 
-// A full check. Where no constructor application is marked and no tester was ever asserted positively, only the watched terms matter: a
-// negative tester has nothing to conflict with.
+// A full check where no constructor application is marked and no tester was ever asserted positively: only unequal terms and the watched
+// terms matter, for a negative tester has nothing to conflict with.
+fn check_watched(t: &mut [u32], e: &[u32], s: &mut [u32], out: &mut [u32]) -> TCheck
+    requires { ⌜ UnmarkedAsked (now t) (now e) (now s) (now out) ⌝ }
+    ensures { λ r. ⌜ ChecksKept (now (t .entry)) (now (e .entry)) (now (s .entry)) r (now (t .exit)) (now (s .exit)) (now (out .exit)) ⌝ }
+{
+    let r = disequality_clash(t, e, s, out);
+    if !passes(r) {
+        return r;
+    }
+    split_watched(t, s, out)
+}
+
+// A full check.
 fn check_fully(t: &mut [u32], e: &[u32], s: &mut [u32], out: &mut [u32]) -> TCheck
     requires { ⌜ StateSound (now t) (now e) (now s) × (answer-size ≤ length (now out)) ⌝ }
     ensures { λ r. ⌜ ChecksKept (now (t .entry)) (now (e .entry)) (now (s .entry)) r (now (t .exit)) (now (s .exit)) (now (out .exit)) ⌝ }
 {
     if !has_app(s) && !has_lasting(t, s) {
-        return split_watched(t, s, out);
+        return check_watched(t, e, s, out);
     }
     check_classes(t, e, s, out)
 }

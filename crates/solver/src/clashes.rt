@@ -3,9 +3,10 @@ use crate::answer::TCheck;
 use crate::constructor_clash::symbol_of;
 use crate::layout::COUNTS;
 use crate::layout::CTOR_APP;
-use crate::layout::REC_KEY;
-use crate::layout::REC_LIT;
+use crate::layout::ENTRY;
+use crate::layout::MAX_LITS;
 use crate::layout::RECORDS;
+use crate::layout::UNEQUAL;
 use crate::work::CtorOf;
 use crate::work::W_MARK;
 use crate::work::ctor_of_class;
@@ -189,10 +190,10 @@ fn of_sign(key: usize, positive: bool) -> bool
     if positive {
         return key < MAX_TERMS;
     }
-    !(key < MAX_TERMS)
+    MAX_TERMS <= key && key < UNEQUAL
 }
 
-// The atom that a key stands for.
+// The atom of a tester's key.
 fn key_atom(key: usize) -> usize
     ensures { λ r. ⌜ r ≡ key-atom key ⌝ }
 {
@@ -215,11 +216,12 @@ fn entry_conflict(
     requires { ⌜ EntryAsked positive (now t) (now e) (now s) (now w) i (now out) ⌝ }
     ensures { λ r. ⌜ EntryConflict positive (now (t .entry)) (now (e .entry)) (now (s .entry)) (now (w .entry)) i r (now (out .exit)) ⌝ }
 {
-    let key = get_at(s, REC_KEY, i);
+    let word = get_at(s, ENTRY, i);
+    let key = word / MAX_LITS;
     if !of_sign(key, positive) {
         return TCheck::Sat;
     }
-    let l = Lit(get_at(s, REC_LIT, i) as u32);
+    let l = Lit((word % MAX_LITS) as u32);
     let x = TermId(key_atom(key) as u32);
     tester_conflict(t, e, w, l, positive, x, out)
 }

@@ -210,7 +210,8 @@ pub fn exhaustiveness_split(
     answer_found(t, s, found, out)
 }
 
-// The whole check where no constructor application is marked and no tester was asserted: nothing else applies.
+// The rest of a check where no constructor application is marked, no tester was asserted and no unequal terms are equal: nothing else
+// applies.
 pub fn split_watched(t: &mut [u32], s: &mut [u32], out: &mut [u32]) -> TCheck
     requires { ⌜ WatchedAsked (now t) (now s) (now out) ⌝ }
     ensures { λ r. ⌜ ChecksWatched (now (t .entry)) (now (s .entry)) r (now (t .exit)) (now (s .exit)) (now (out .exit)) ⌝ }

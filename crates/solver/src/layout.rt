@@ -3,7 +3,7 @@
 // The registry of variables, a table of its own, has the first words.
 pub const REGISTRY_SIZE: usize = 3073;
 
-// How many entries the two records of testers have.
+// How many entries the records have.
 pub const COUNTS: usize = 3136;
 
 pub const RECORDS: usize = 0;
@@ -30,14 +30,18 @@ pub const EMITTED: usize = 6272;
 
 pub const SPLIT: usize = 7296;
 
-// The level record and the record of negative testers are one list. The key of an entry is its atom, and 1,024 more if the tester is
-// negative. For each key: whether it has an entry.
+// The level record, the record of negative testers and that of unequal terms are one list. The key of an entry is its atom, and 1,024
+// more if the tester is negative; for unequal terms the variable of their literal, and 2,048 more. For each key: whether it has an entry.
 pub const RECORDED: usize = 8320;
 
-// For each entry: its key and its literal.
-pub const REC_KEY: usize = 10368;
+// For each entry: its key, times 2,048, and its literal; for unequal terms, whose key tells the literal, their equation.
+pub const ENTRY: usize = 11392;
 
-pub const REC_LIT: usize = 12416;
+// The keys from here on are those of unequal terms.
+pub const UNEQUAL: usize = 2048;
+
+// A variable has two literals.
+pub const MAX_LITS: usize = 2048;
 
 // What a mark says of its term: an application of a constructor, of a selector, of a selector with a datatype field, of a tester, of a
 // function with a datatype result.

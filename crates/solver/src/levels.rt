@@ -1,8 +1,8 @@
-// The records of testers by levels: push and pop on the caller's mark counts, and record_tester.
+// The records by levels: push and pop on the caller's mark counts, entries, and record_tester.
 use crate::layout::COUNTS;
+use crate::layout::ENTRY;
 use crate::layout::LASTING;
-use crate::layout::REC_KEY;
-use crate::layout::REC_LIT;
+use crate::layout::MAX_LITS;
 use crate::layout::RECORDED;
 use crate::layout::RECORDS;
 use core::ids::Lit;
@@ -54,7 +54,7 @@ fn drop_records(s: &mut [u32], n: usize)
     let mut i = get_at(s, COUNTS, RECORDS);
     while n < i {
         i -= 1;
-        let key = get_at(s, REC_KEY, i);
+        let key = get_at(s, ENTRY, i) / MAX_LITS;
         put_at(s, RECORDED, key, 0);
     }
     put_at(s, COUNTS, RECORDS, n);
@@ -83,33 +83,34 @@ pub fn pop(s: &mut [u32], m: &mut TesterMarks, to: usize)
     *m = closed(s, *m, to);
 }
 
-// ---- record_tester
+// ---- an entry
 
-// One entry more, for a key that has none.
-fn append_record(s: &mut [u32], key: usize, l: usize)
-    requires { ⌜ NewEntry (now s) key × (l < 4294967296) ⌝ }
-    ensures { λ _. ⌜ Entered (now (s .entry)) key l (now (s .exit)) ⌝ }
+// One entry more, for a key that has none, with r beside it.
+fn append_record(s: &mut [u32], key: usize, r: usize)
+    requires { ⌜ NewEntry (now s) key r ⌝ }
+    ensures { λ _. ⌜ Entered (now (s .entry)) key r (now (s .exit)) ⌝ }
 {
     let n = get_at(s, COUNTS, RECORDS);
     put_at(s, RECORDED, key, 1);
-    put_at(s, REC_KEY, n, key);
-    put_at(s, REC_LIT, n, l);
+    put_at(s, ENTRY, n, key * MAX_LITS + r);
     put_at(s, COUNTS, RECORDS, n + 1);
 }
 
 // The same, unless the key has an entry.
-fn enter(s: &mut [u32], key: usize, l: usize)
-    requires { ⌜ Recordable (now s) key × (l < 4294967296) ⌝ }
-    ensures { λ _. ⌜ Enters (now (s .entry)) key l (now (s .exit)) ⌝ }
+pub fn enter(s: &mut [u32], key: usize, r: usize)
+    requires { ⌜ Recordable (now s) key r ⌝ }
+    ensures { λ _. ⌜ Enters (now (s .entry)) key r (now (s .exit)) ⌝ }
 {
     if get_at(s, RECORDED, key) == 0 {
-        append_record(s, key, l);
+        append_record(s, key, r);
     }
 }
 
+// ---- record_tester
+
 // A positive tester goes into the lasting record and the level record, a negative one into its own.
 pub fn record_tester(s: &mut [u32], x: TermId, l: Lit, positive: bool)
-    requires { ⌜ TesterRecordable (now s) (x .0) ⌝ }
+    requires { ⌜ TesterRecordable (now s) (x .0) (l .0) ⌝ }
     ensures { λ _. ⌜ Recorded positive (now (s .entry)) (x .0) (l .0) (now (s .exit)) ⌝ }
 {
     let i = x.0 as usize;

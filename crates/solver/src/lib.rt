@@ -6,6 +6,7 @@ pub mod check;
 pub mod clashes;
 pub mod collapse;
 pub mod constructor_clash;
+pub mod disequalities;
 pub mod exhaustiveness;
 pub mod injectivity;
 pub mod instantiation;

@@ -28,7 +28,7 @@ ghost use Rattle.solver.specs.Memory.Table.{registry, SolverSound};
 ghost use Rattle.solver.specs.Memory.Recording.{with-mark, NoneAnnounced, NoneLasting, Wiped, SolverCleared, MayRegister, Registers, Collecting, Collects, CollectsChildren, CollectsVar};
 
 // The count of the records, the marks, the words of the blocks and the flags of all terms and keys stand side by side, from COUNTS on.
-const FLAG_WORDS: usize = 7232;
+const FLAG_WORDS: usize = 8256;
 
 // ---- an empty table
 

@@ -43,6 +43,7 @@ unfolding by-key one-key
 by-not-one GivenOne.the-variants.Close xs h = not-one _ xs h
 by-not-one GivenOne.the-variants.Equate xs h = not-one _ xs h
 by-not-one GivenOne.the-variants.Assert xs h = not-one _ xs h
+by-not-one GivenOne.the-variants.Differ xs h = not-one _ xs h
 by-not-one GivenOne.the-variants.Push xs h = not-one _ xs h
 by-not-one GivenOne.the-variants.Pop xs h = not-one _ xs h
 by-not-one GivenOne.the-variants.Check xs h = not-one _ xs h
@@ -129,6 +130,7 @@ takes-numbers (GivenKey.the-variants.List GivenList.the-variants.Term) v h = ref
 takes-numbers (GivenKey.the-variants.One GivenOne.the-variants.Close) v h = refl
 takes-numbers (GivenKey.the-variants.One GivenOne.the-variants.Equate) v h = refl
 takes-numbers (GivenKey.the-variants.One GivenOne.the-variants.Assert) v h = refl
+takes-numbers (GivenKey.the-variants.One GivenOne.the-variants.Differ) v h = refl
 takes-numbers (GivenKey.the-variants.One GivenOne.the-variants.Push) v h = refl
 takes-numbers (GivenKey.the-variants.One GivenOne.the-variants.Pop) v h = refl
 takes-numbers (GivenKey.the-variants.One GivenOne.the-variants.Check) v h = refl

@@ -210,14 +210,14 @@ module _ {c e s : List ℕ} {closed : Bool} {l : ℕ} where
   module _ {r b : Bool} (w : not closed ≡ false) (p : r ≡ var-exists s l) (n : not r ≡ false)
       (d : b ≡ equation c s l) where
     pub equate-other : not b ≡ true → AnswersEquate closed (Equate l) c e s (Refused GivenRefusal.the-variants.NotEquation) e
-    unfolding questions after-close exist Session.equation Session.var-exists atom-of session state-with refusal-meaning
+    unfolding questions after-close exist Session.equation Session.is-equation Session.var-exists atom-of session state-with refusal-meaning
     equate-other k o m z q =
         refuses o z GivenRefusal.the-variants.NotEquation
         (yes-here _ _ (q ∙ not-false closed w) ∙ yes-here _ _ (sym p ∙ not-false r n) ∙ no-here _ _ (sym d ∙ not-true b k))
 
     pub equate-merged : {e′ : List ℕ} → not b ≡ false → MergesSides c e s l e′ →
         AnswersEquate closed (Equate l) c e s Given.the-variants.Ok e′
-    unfolding questions after-close exist Session.equation Session.var-exists atom-of session state-with perform merge-sides
+    unfolding questions after-close exist Session.equation Session.is-equation Session.var-exists atom-of session state-with perform merge-sides
     equate-merged k M o m z q =
         merge-answers (Equate l) (M .left) (M .right) (Asserted l) o z (q ∙ not-false closed w)
         (yes-here _ _ (q ∙ not-false closed w) ∙ yes-here _ _ (sym p ∙ not-false r n) ∙ yes-last _ (sym d ∙ not-false b k))

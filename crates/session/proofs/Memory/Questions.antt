@@ -270,6 +270,17 @@ equation-is c s l v x p r e n f a h =
     both-yes p r (Ids.is-positive l) _ e n
     (h ∙ ap (λ (y : ℕ). same-op (term (context c) y .op) Eq) (a ∙ ap (atom (atoms (registry s))) f))
 
+-- 13
+
+pub differ-positive : (l : ℕ) (p b : Bool) → p ≡ Ids.is-positive l → p ≡ true → false ≡ not (Ids.is-positive l) && b
+differ-positive l p b e h = rw (sym e ∙ h)
+
+pub disequality-is : (c s : List ℕ) (l v x : ℕ) (p r : Bool) → p ≡ Ids.is-positive l → p ≡ false → v ≡ Ids.var l →
+    x ≡ atom (atoms (registry s)) v → r ≡ same-op (term (context c) x .op) Eq →
+    r ≡ not (Ids.is-positive l) && same-op (term (context c) (atom (atoms (registry s)) (Ids.var l)) .op) Eq
+disequality-is c s l v x p r e n f a h =
+    rw (sym e ∙ n) (h ∙ ap (λ (y : ℕ). same-op (term (context c) y .op) Eq) (a ∙ ap (atom (atoms (registry s))) f))
+
 -- ---- 11: the pairs of a congruence
 
 pub fit-joined : (ms : List Merge) (lv t u n : ℕ) (xs ys : List ℕ) (b : Bool) → n ≡ pairs-in-force ms → n ≤ max-pairs →

@@ -1,34 +1,39 @@
--- The lines of the solver. The mark counts stay sound since the records of testers lose no entry.
-use Rattle.core.proofs.Kit.{ℕ, zero, suc, _+_, _≤_, _<_, _≡_, refl, sym, ap, ap₂, _∙_, suc-add, add-suc, subst⁻¹, Bool, true, false, cond, not, _&&_, true≢false, List, Option, none, some, arith, length, eq-eqb, ne-eqb, ltb, ltb-true, not-false}
+-- The lines of the solver. The mark counts stay sound since the records lose no entry.
+use Rattle.core.proofs.Kit.{ℕ, zero, suc, _+_, _≤_, _<_, _≡_, refl, sym, ap, _∙_, subst⁻¹, Bool, true, false, cond, not, _&&_, true≢false, List, Option, none, some, arith, length, eq-eqb, ne-eqb, ltb, ltb-true, not-false}
 use borrow.Author.Tests.{not-true, lt-ltb, le-ltb}
 use Rattle.core.specs.Limits.{max-terms, max-vars}
 use Rattle.core.specs.Lists.{gather, cons-option, range}
-use Rattle.core.specs.Memory.Words.{at}
+use Rattle.core.specs.Ids as Ids
+use Rattle.core.specs.Term.{Eq}
 use Rattle.core.specs.Context.{sort-of, terms-fit}
 use Rattle.core.specs.Memory.Table.{context}
+use Rattle.core.proofs.Lists.{true-T}
 use Rattle.theory.specs.Types.{EqLeaf}
 use Rattle.theory.specs.Atom.{is-registered, register}
 use Rattle.theory.specs.Memory.Answer.{answer-size}
 use Rattle.theory.specs.Memory.Registry.{atoms}
-use Rattle.solver.specs.State.{State, AssertedTester, with-atoms, with-marks, with-dt}
+use Rattle.solver.specs.State.{State, AssertedAtom, with-atoms, with-marks, with-dt}
 use Rattle.solver.specs.Records as Records
 use Rattle.solver.specs.Rules as Rules
 use Rattle.solver.specs.Check as Check
 use Rattle.solver.specs.declared.answer.TCheck as TCheck
-use Rattle.solver.specs.Memory.Table.{REC-KEY, records#, registry, of-sign, asserted-at, entry-of, record-of, dt-with, state-with, state, StateSound}
+use Rattle.solver.specs.Memory.Table.{UNEQUAL, records#, registry, of-sign, of-unequal, entry-key, entry-rest, asserted, entry-of, record-of, dt-with, state-with, state, StateSound}
 use Rattle.solver.specs.Memory.Answer as SolverAnswer
 use Rattle.solver.specs.Memory.Answer.{Readable}
 use Rattle.solver.specs.Memory.Levels.{entry-level, MarksSound}
 use Rattle.solver.specs.Memory.Testing.{ConflictIs}
 use Rattle.solver.specs.Memory.Recording.{MayRegister, Registers, Collecting, CollectsVar}
 use Rattle.solver.specs.Memory.Asserting.{Assertable, Asserts}
+use Rattle.solver.specs.Memory.Disequalities.{Differable, Differs}
 use Rattle.solver.specs.Memory.Checks.{Checks}
 use Rattle.solver.proofs.Basics.{by-test, some-is, some-none, none-some}
-use Rattle.solver.proofs.Clash.{Ready, signed-record}
+use Rattle.solver.proofs.Terms.{same-op-eq}
+use Rattle.solver.proofs.Clash.{Ready, Assertion, Affirmed, Negated, Unequal, record-by}
 use Rattle.solver.proofs.Answers.{full-check-well}
 use Rattle.solver.proofs.Memory.Levels.{newest-level, marks-more}
 use Rattle.solver.proofs.Memory.Collecting.{collecting}
-use Rattle.session.specs.Line.{Register, Assert}
+use Rattle.solver.proofs.Memory.Entries.{records-sound}
+use Rattle.session.specs.Line.{Register, Assert, Differ}
 use Rattle.session.specs.Line as Line
 use Rattle.session.specs.Answer as Answer
 use Rattle.session.specs.Session as Session
@@ -36,43 +41,57 @@ use Rattle.session.specs.Session.{after-close, exist, agree, unregistere
 use Rattle.session.specs.declared.answer.Refusal as GivenRefusal
 use Rattle.session.specs.declared.answer.Answer as Given
 use Rattle.session.specs.Memory.Answers.{refusal-meaning, answer-meaning, Printable}
-use Rattle.session.specs.Memory.Questions.{var-named, var-exists}
+use Rattle.session.specs.Memory.Questions.{var-named, var-exists, disequality, NamesLit}
 use Rattle.session.specs.Memory.Sessions.{Beside, session, SessionSound, Reached, Answers, AnswersWith, AnswersSolver, AnswersCheck, FitsWith, asserted-answer, checked-answer}
 use Rattle.session.proofs.Memory.Questions.{and-left, and-right}
 use Rattle.session.proofs.Memory.Answering.{Refused, no-here, yes-here, yes-last, unfit-terms, refuses, no-room, accepts}
+use Rattle.session.proofs.Memory.Merging.{lit-named}
 use Rattle.session.proofs.Claim.{reached-ready}
 
 -- ---- mark counts
 
--- each entry of a table stands in one of the two records
+-- each entry of a table stands in one of the three records
 each-counted : (s : List ℕ) (lv : ℕ → ℕ) (a n : ℕ) →
-    length (gather (entry-of true s lv) (range a n)) + length (gather (entry-of false s lv) (range a n)) ≡ n
-unfolding gather range cons-option entry-of of-sign
+    length (gather (entry-of (of-sign true) s lv) (range a n))
+    + (length (gather (entry-of (of-sign false) s lv) (range a n)) + length (gather (entry-of of-unequal s lv) (range a n)))
+    ≡ n
+unfolding gather range cons-option entry-of of-sign of-unequal
 each-counted s lv a zero = refl
-each-counted s lv a (suc n) = go (ltb (at s REC-KEY a) max-terms) (each-counted s lv (suc a) n)
+each-counted s lv a (suc n) = go (ltb (entry-key s a) max-terms) (ltb (entry-key s a) UNEQUAL) below (each-counted s lv (suc a) n)
   where
-    entry : Option AssertedTester
-    entry = some (asserted-at s lv a)
+    entry : Option AssertedAtom
+    entry = some (asserted (entry-key s a) (entry-rest s a) (lv a))
 
-    of : Bool → List AssertedTester
-    of b = gather (entry-of b s lv) (range (suc a) n)
+    of : (ℕ → Bool) → List AssertedAtom
+    of p = gather (entry-of p s lv) (range (suc a) n)
 
-    go : (b : Bool) → length (of true) + length (of false) ≡ n →
-        length (cons-option (cond b entry none) (of true)) + length (cons-option (cond (not b) entry none) (of false)) ≡ suc n
-    go true h = suc-add (length (of true)) (length (of false)) ∙ ap suc h
-    go false h = add-suc (length (of true)) (length (of false)) ∙ ap suc h
+    below : ltb (entry-key s a) max-terms ≡ true → ltb (entry-key s a) UNEQUAL ≡ true
+    below e = let l = ltb-true (entry-key s a) max-terms e in lt-ltb (entry-key s a) UNEQUAL (omega arith)
 
--- the two records of a state are as they were
+    go : (b d : Bool) → (b ≡ true → d ≡ true) → length (of (of-sign true)) + (length (of (of-sign false)) + length (of of-unequal)) ≡ n →
+        length (cons-option (cond b entry none) (of (of-sign true)))
+        + (length (cons-option (cond (not b && d) entry none) (of (of-sign false)))
+        + length (cons-option (cond (not d) entry none) (of of-unequal)))
+        ≡ suc n
+    go true true f h = omega arith
+    go true false f h = absurd (true≢false (sym (f refl)))
+    go false true f h = omega arith
+    go false false f h = omega arith
+
+-- the records of a state are as they were
 abbrev SameRecords : State → State → Type 0
-SameRecords st st′ = (b : Bool) → signed-record st′ b ≡ signed-record st b
+SameRecords st st′ = (b : Assertion) → record-by st′ b ≡ record-by st b
 
 -- then the table has as many entries as before
 same-count : (c e s c′ e′ u : List ℕ) (lv : ℕ → ℕ) → SameRecords (state c e s lv) (state c′ e′ u lv) → records# u ≡ records# s
 unfolding state-with dt-with record-of
 same-count c e s c′ e′ u lv h =
-    sym (each-counted u lv 0 (records# u))
-    ∙ ap₂ (λ (xs ys : List AssertedTester). length xs + length ys) (h true) (h false)
-    ∙ each-counted s lv 0 (records# s)
+    let p = ap length (h Affirmed) in
+    let q = ap length (h Negated) in
+    let r = ap length (h Unequal) in
+    let a = each-counted u lv 0 (records# u) in
+    let b = each-counted s lv 0 (records# s) in
+    omega arith
 
 -- and the same mark counts
 marks-stay : (c e s c′ e′ u : List ℕ) (m : Beside) → MarksSound s (m .marks) →
@@ -144,7 +163,7 @@ module _ {c s : List ℕ} {closed : Bool} {v x : ℕ} where
           in
           let z′ : SessionSound c e s′ m = record {
             state = S;
-            marks = marks-stay c e s c e s′ m (z .marks) (λ b. ap (λ (st : State). signed-record st b) is);
+            marks = marks-stay c e s c e s′ m (z .marks) (λ b. ap (λ (st : State). record-by st b) is);
             levels = z .levels;
             unclosed = λ h. absurd (true≢false (sym (q ∙ not-false closed w) ∙ h));
           } in
@@ -206,6 +225,55 @@ module _ {c e s : List ℕ} {closed : Bool} {l : ℕ} where
       (accepts o z (assert-printable k o (A .readable)) (yes-here _ _ (q ∙ not-false closed w) ∙ yes-last _ (sym p ∙ not-false r n)) z′
       (λ j. record { answer = sym (assert-says k _ o (A .conflict lv)) j; session = record { state = is j; closed = m .closed } }))
 
+-- ---- `differ`
+
+-- the literal's variable is registered, and it is the negation of an equation
+module _ (c s : List ℕ) (l : ℕ) (r : Bool) (F : FitsWith c s) (p : r ≡ var-exists s l) (n : not r ≡ false) where
+  pub differ-named : NamesLit c s l
+  differ-named = lit-named c (F .0) s l r (F .1) p n
+
+  pub differ-may : (b : Bool) → b ≡ disequality c s l → not b ≡ false → Differable s l
+  differ-may b d k = record {
+    sound = records-sound (F .1);
+    registered = sym p ∙ not-false r n;
+    negative = not-true (Ids.is-positive l) (and-left _ _ (sym d ∙ not-false b k));
+  }
+
+module _ {c s : List ℕ} {closed : Bool} {l : ℕ} where
+  pub differ-early : not closed ≡ true → AnswersSolver closed (Differ l) c s (Refused GivenRefusal.the-variants.Misplaced) s
+  unfolding questions after-close session refusal-meaning
+  differ-early w e o m z q = refuses o z GivenRefusal.the-variants.Misplaced (no-here _ _ (q ∙ not-true closed w))
+
+  pub differ-missing : {r : Bool} → not closed ≡ false → r ≡ var-exists s l → not r ≡ true →
+      AnswersSolver closed (Differ l) c s (Refused GivenRefusal.the-variants.Missing) s
+  unfolding questions after-close exist Session.var-exists session state-with refusal-meaning
+  differ-missing {r} w p n e o m z q =
+      refuses o z GivenRefusal.the-variants.Missing (yes-here _ _ (q ∙ not-false closed w) ∙ no-here _ _ (sym p ∙ not-true r n))
+
+  module _ {r b : Bool} (w : not closed ≡ false) (p : r ≡ var-exists s l) (n : not r ≡ false) (d : b ≡ disequality c s l) where
+    pub differ-other : not b ≡ true → AnswersSolver closed (Differ l) c s (Refused GivenRefusal.the-variants.NotDisequality) s
+    unfolding questions after-close exist Session.disequality Session.is-equation Session.var-exists Session.atom-of session state-with refusal-meaning
+    differ-other k e o m z q =
+        refuses o z GivenRefusal.the-variants.NotDisequality
+        (yes-here _ _ (q ∙ not-false closed w) ∙ yes-here _ _ (sym p ∙ not-false r n) ∙ no-here _ _ (sym d ∙ not-true b k))
+
+    pub differ-done : {s′ : List ℕ} → not b ≡ false → Differs s l s′ → AnswersSolver closed (Differ l) c s Given.the-variants.Ok s′
+    unfolding questions after-close exist Session.disequality Session.is-equation Session.var-exists Session.atom-of session state-with perform done answer-meaning
+    differ-done {s′} k D e o m z q =
+        let lv = entry-level (m .marks) in
+        let is = D .state c e lv (newest-level (z .marks) ∙ z .levels) in
+        let z′ : SessionSound c e s′ m = record {
+          state =
+              D .state-sound c e (z .state)
+              (same-op-eq _ Eq (true-T _ (and-right (not (Ids.is-positive l)) _ (sym d ∙ not-false b k))));
+          marks = D .marks (m .marks) (z .marks);
+          levels = z .levels;
+          unclosed = λ h. absurd (true≢false (sym (q ∙ not-false closed w) ∙ h));
+        } in
+        accepts o z tt
+        (yes-here _ _ (q ∙ not-false closed w) ∙ yes-here _ _ (sym p ∙ not-false r n) ∙ yes-last _ (sym d ∙ not-false b k)) z′
+        (λ i. record { answer = Answer.Ok; session = record { state = sym is i; closed = m .closed } })
+
 -- ---- `check`
 
 check-says : (r : TCheck.TCheck) (k : Rules.TCheck) (o : List ℕ) → SolverAnswer.answer-meaning r o ≡ some k →
@@ -234,7 +302,7 @@ check-printable TCheck.the-variants.Split o h = h
 check-printable TCheck.the-variants.Unknown o h = tt
 check-printable TCheck.the-variants.NoRoom o h = tt
 
--- a check leaves the two records
+-- a check leaves the records
 check-entries : (full : Bool) (st : State) → Ready st → SameRecords st (Check.check full st .state)
 unfolding Check.check
 check-entries false st R = λ b. refl
@@ -262,7 +330,7 @@ module _ {c e s : List ℕ} {closed full : Bool} where
     check-sound = record {
       state = K .sound;
       marks = marks-stay c e s c′ e s′ m (z .marks)
-          (λ b. ap (λ (st : State). signed-record st b) (K .view lv)
+          (λ b. ap (λ (st : State). record-by st b) (K .view lv)
           ∙ cond-entries (terms-fit (after-check .state .terms)) (after-check .state) (state c e s lv)
           (check-entries full (state c e s lv) (reached-ready (session c e s m) R)) b);
       levels = z .levels;

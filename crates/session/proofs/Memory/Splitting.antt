@@ -5,7 +5,7 @@ use Rattle.core.proofs.Memory.Searching.{Searched}
 use Rattle.core.specs.Lists.{first, same-list}
 use Rattle.core.proofs.Lists.{same-list-not}
 use Rattle.session.specs.Text.{LF, equals, bytes, cons-first, parts, lines}
-use Rattle.session.specs.Line.{Key, SortKey, CtorKey, FunKey, CloseKey, TermKey, EqKey, VarKey, EquateKey, CongKey, IfaceKey, AssertKey, PushKey, PopKey, CheckKey, key-text, keys, after-byte, key-and-value, known, read-parts, read-line}
+use Rattle.session.specs.Line.{Key, SortKey, CtorKey, FunKey, CloseKey, TermKey, EqKey, VarKey, EquateKey, CongKey, IfaceKey, AssertKey, DifferKey, PushKey, PopKey, CheckKey, key-text, keys, after-byte, key-and-value, known, read-parts, read-line}
 use Rattle.session.specs.Memory.Lines.{FirstByte, LineEnd, KeyRoom}
 
 -- ---- the search
@@ -186,6 +186,7 @@ key-short EquateKey = omega arith
 key-short CongKey = omega arith
 key-short IfaceKey = omega arith
 key-short AssertKey = omega arith
+key-short DifferKey = omega arith
 key-short PushKey = omega arith
 key-short PopKey = omega arith
 key-short CheckKey = omega arith

@@ -20,6 +20,7 @@ refusal-meaning GivenRefusal.the-variants.Missing = Answer.Missing
 refusal-meaning GivenRefusal.the-variants.Disagreeing = Answer.Disagreeing
 refusal-meaning GivenRefusal.the-variants.Registered = Answer.Registered
 refusal-meaning GivenRefusal.the-variants.NotEquation = Answer.NotEquation
+refusal-meaning GivenRefusal.the-variants.NotDisequality = Answer.NotDisequality
 refusal-meaning GivenRefusal.the-variants.NotCongruent = Answer.NotCongruent
 refusal-meaning GivenRefusal.the-variants.NotGrounded = Answer.NotGrounded
 refusal-meaning GivenRefusal.the-variants.NoRoom = Answer.NoRoom

@@ -6,8 +6,8 @@ use mathlib.Core.Option.{Option, none, some}
 use lib.ListN.{length, take, drop}
 use Rattle.core.specs.Memory.Codes.{declared-node}
 use Rattle.session.specs.Text.{comma, parts}
-use Rattle.session.specs.Line.{Key, SortKey, CtorKey, FunKey, CloseKey, TermKey, EqKey, VarKey, EquateKey, CongKey, IfaceKey, AssertKey, PushKey, PopKey, CheckKey, by-key, numbers, at-most-17}
-use Rattle.session.specs.Line.{Command, DeclareSort, DeclareCtor, DeclareFun, Close, MkTerm, MkEq, Register, Equate, Cong, Iface, Assert, Push, Pop, Check, read-line}
+use Rattle.session.specs.Line.{Key, SortKey, CtorKey, FunKey, CloseKey, TermKey, EqKey, VarKey, EquateKey, CongKey, IfaceKey, AssertKey, DifferKey, PushKey, PopKey, CheckKey, by-key, numbers, at-most-17}
+use Rattle.session.specs.Line.{Command, DeclareSort, DeclareCtor, DeclareFun, Close, MkTerm, MkEq, Register, Equate, Cong, Iface, Assert, Differ, Push, Pop, Check, read-line}
 use Rattle.session.specs.declared.line.Command as Given
 use Rattle.session.specs.declared.line.ListKey as GivenList
 use Rattle.session.specs.declared.line.OneKey as GivenOne
@@ -35,6 +35,7 @@ command-meaning (Given.the-variants.Equate l) ns = some (Equate (l .0))
 command-meaning (Given.the-variants.Cong t u) ns = some (Cong (t .0) (u .0))
 command-meaning (Given.the-variants.Iface t u j) ns = some (Iface (t .0) (u .0) (j .theory) (j .tag))
 command-meaning (Given.the-variants.Assert l) ns = some (Assert (l .0))
+command-meaning (Given.the-variants.Differ l) ns = some (Differ (l .0))
 command-meaning Given.the-variants.Push ns = some Push
 command-meaning (Given.the-variants.Pop k) ns = some (Pop k)
 command-meaning (Given.the-variants.Check full) ns = some (Check full)
@@ -53,6 +54,7 @@ ListFits (Given.the-variants.Equate l) k = Unit {0}
 ListFits (Given.the-variants.Cong t u) k = Unit {0}
 ListFits (Given.the-variants.Iface t u j) k = Unit {0}
 ListFits (Given.the-variants.Assert l) k = Unit {0}
+ListFits (Given.the-variants.Differ l) k = Unit {0}
 ListFits Given.the-variants.Push k = Unit {0}
 ListFits (Given.the-variants.Pop p) k = Unit {0}
 ListFits (Given.the-variants.Check full) k = Unit {0}
@@ -77,6 +79,7 @@ unfoldable pub one-key : GivenOne.OneKey → Key
 one-key GivenOne.the-variants.Close = CloseKey
 one-key GivenOne.the-variants.Equate = EquateKey
 one-key GivenOne.the-variants.Assert = AssertKey
+one-key GivenOne.the-variants.Differ = DifferKey
 one-key GivenOne.the-variants.Push = PushKey
 one-key GivenOne.the-variants.Pop = PopKey
 one-key GivenOne.the-variants.Check = CheckKey

@@ -61,6 +61,11 @@ is-equation c x = same-op (term (context c) x .op) Eq
 abbrev pub equation : List ℕ → List ℕ → ℕ → Bool
 equation c s l = Ids.is-positive l && is-equation c (atom (atoms (registry s)) (Ids.var l))
 
+-- ---- 13
+
+abbrev pub disequality : List ℕ → List ℕ → ℕ → Bool
+disequality c s l = not (Ids.is-positive l) && is-equation c (atom (atoms (registry s)) (Ids.var l))
+
 -- ---- 9
 
 abbrev pub one-op : List ℕ → ℕ → ℕ → Bool

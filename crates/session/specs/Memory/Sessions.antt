@@ -30,8 +30,7 @@ use Rattle.session.specs.declared.line.Command as GivenCommand
 use Rattle.session.specs.declared.answer.Refusal as GivenRefusal
 use Rattle.session.specs.declared.answer.Answer as Given
 
--- What a session keeps beside the three tables: the mark counts of the records of testers, and whether a `close` was
--- accepted.
+-- What a session keeps beside the three tables: the mark counts of the records, and whether a `close` was accepted.
 pub record Beside : Type 0 where
   pub marks : TesterMarks
   pub closed : Bool
@@ -72,7 +71,7 @@ pub record SessionSound (c e s : List ℕ) (m : Beside) : Type 0 where
 
 -- ---- answering a line
 
--- a line that reads was answered: the questions 4 to 11, and what an accepted line does
+-- a line that reads was answered: the questions 4 to 11 and 13, and what an accepted line does
 pub record Answers (k : Command) (c e s : List ℕ) (m : Beside) (a : Given.Answer) (c′ e′ s′ : List ℕ) (m′ : Beside) (o : List ℕ) :
     Type 0 where
   pub sound : SessionSound c′ e′ s′ m′
@@ -108,7 +107,7 @@ abbrev pub AnswersLevels : Command → List ℕ → List ℕ → List ℕ → Bo
 AnswersLevels k e s n closed a e′ s′ n′ =
     (c o : List ℕ) → SessionSound c e s (beside e n closed) → Answers k c e s (beside e n closed) a c e′ s′ (beside e′ n′ closed) o
 
--- a check; that it keeps the records of testers is known of sessions that lines lead to
+-- a check; that it keeps the records is known of sessions that lines lead to
 abbrev pub AnswersCheck : Bool → Bool → List ℕ → List ℕ → List ℕ → Given.Answer → List ℕ → List ℕ → List ℕ → Type 0
 AnswersCheck closed full c e s a c′ s′ o =
     (m : Beside) → SessionSound c e s m → Reached (session c e s m) → m .closed ≡ closed → Answers (Check full) c e s m a c′ e s′ m o

@@ -7,6 +7,7 @@ use Rattle.core.specs.Context.{tester-app}
 use Rattle.core.specs.Memory.Table.{context}
 use Rattle.theory.specs.Atom.{Registered, is-registered, atom, atom-of}
 use Rattle.theory.specs.Memory.Registry.{atoms}
+use Rattle.theory.proofs.Memory.RegistryWords.{registered-word}
 use Rattle.solver.specs.State.{State}
 use Rattle.solver.specs.Records.{Outcome, record-tester, record-negative, assert-tester, assert-atom, assert}
 use Rattle.solver.specs.declared.answer.TCheck as TCheck
@@ -31,10 +32,10 @@ tester-term {c} z x k =
     let h = z .core .terms-fit in
     omega arith
 
-pub recordable : {c e s o : List ℕ} {x : ℕ} → TesterAssertable c e s x o → TesterRecordable s x
-recordable {x = x} z = record { sound = records-sound (z .sound); atom = tester-term (z .sound) x (z .tester) }
+pub recordable : {c e s o : List ℕ} {l x : ℕ} → TesterAssertable c e s l x o → TesterRecordable s x l
+recordable {x = x} z = record { sound = records-sound (z .sound); atom = tester-term (z .sound) x (z .tester); lit = z .lit }
 
-pub assert-asked : {c e s o : List ℕ} {x : ℕ} → TesterAssertable c e s x o → TesterAsked c e (marks-of s) x o
+pub assert-asked : {c e s o : List ℕ} {l x : ℕ} → TesterAssertable c e s l x o → TesterAsked c e (marks-of s) x o
 assert-asked z = record {
   term = record { core = z .sound .core; formed = z .sound .formed; signed = z .sound .signed; tester = z .tester };
   engine = z .sound .engine;
@@ -51,7 +52,7 @@ pub by-sign : {b : Bool} {c e w o : List ℕ} {l x : ℕ} {r : TCheck.TCheck} (d
     TesterConflict b c e w l x r o
 by-sign {c = c} {e = e} {w = w} {o = o} {l = l} {x = x} {r = r} d q t = subst (λ (v : Bool). TesterConflict v c e w l x r o) (sym q) t
 
-pub asserted : (b : Bool) {c e s s′ o o′ : List ℕ} {l x : ℕ} {r : TCheck.TCheck} → TesterAssertable c e s x o →
+pub asserted : (b : Bool) {c e s s′ o o′ : List ℕ} {l x : ℕ} {r : TCheck.TCheck} → TesterAssertable c e s l x o →
     TesterConflict b c e (marks-of s) l x r o′ → Recorded b s x l s′ → AssertsTester b c e s l x r s′ o′
 asserted b {c} {e} {s} {s′} {o} {o′} {l} {x} {r} z t m = record {
   sound = m .state-sound c e (z .sound) (z .tester);
@@ -78,6 +79,13 @@ atom-within (r ∷ rs) v n h e = go (eqb (r .var) v) (atom-within rs v n (λ q i
         atom-of (cond b (some r) (first test rs)) < n
     go true f d = h r (inl refl)
     go false f d = f d
+
+-- a registered variable's literals are below 2,048
+pub tester-assertable : {c e s o : List ℕ} {l x kind : ℕ} → Assertable c e s l o → kind ≡ term-kind (context c) x → kind ≡ 4 →
+    TesterAssertable c e s l x o
+tester-assertable {s = s} {l = l} z k q =
+    let (h, p, r) = registered-word (registry s) (Ids.var l) (z .sound .solver .atoms) (z .registered) in
+    record { sound = z .sound; lit = omega arith; tester = sym k ∙ q; long = z .long }
 
 pub asserted-term : {c e s o : List ℕ} {l v x : ℕ} → Assertable c e s l o → v ≡ Ids.var l → x ≡ atom (atoms (registry s)) v →
     x < length (context c .terms)

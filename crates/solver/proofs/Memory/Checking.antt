@@ -1,6 +1,6 @@
 -- A check from its rules: a rule that passes is followed by the next, one that answers ends it, and a term that does not fit ends it as
 -- well, since terms are never taken back within a check.
-use Rattle.core.proofs.Kit.{ℕ, _+_, _≤_, _<_, _≡_, refl, sym, ap, _∙_, subst, Bool, true, false, true≢false, false≢true, List, [], _∷_, Option, none, some, arith, length, _⊎_, ⊎-elim, not, not-false, below-more, le-leb, decLt}
+use Rattle.core.proofs.Kit.{ℕ, _+_, _≤_, _<_, _≡_, refl, sym, ap, _∙_, subst, subst⁻¹, Bool, true, false, true≢false, false≢true, List, [], _∷_, Option, none, some, arith, length, _⊎_, ⊎-elim, not, not-false, below-more, le-leb, decLt}
 use borrow.Author.Tests.{not-true}
 use lib.Seq.{take-at}
 use Rattle.core.specs.Limits.{max-terms, max-places}
@@ -19,7 +19,7 @@ use Rattle.solver.specs.Rules.{Ruled, pass, answered, go-on, then, const
 use Rattle.solver.specs.Check.{before-ring, or-ring, full-check, check}
 use Rattle.solver.specs.declared.answer.TCheck as TCheck
 use Rattle.solver.specs.declared.answer.TCheck.the-variants.{Sat, Conflict, Split, Unknown, NoRoom}
-use Rattle.solver.specs.Memory.Table.{COUNTS, RECORDS, BLOCK, MARK, COLLECTED, LASTING, EMITTED, SPLIT, REC-KEY, solver-room, records#, registry, is-set, flagged-from, term-kind, key-atom, MarksAre, Announced, state, state-with, dt-with, CollectedSound, StateSound}
+use Rattle.solver.specs.Memory.Table.{COUNTS, RECORDS, BLOCK, MARK, COLLECTED, LASTING, EMITTED, SPLIT, ENTRY, solver-room, records#, registry, is-set, flagged-from, term-kind, EntryFits, of-sign, of-unequal, MarksAre, Announced, state, state-with, dt-with, CollectedSound, StateSound}
 use Rattle.solver.specs.Memory.Recording.{with-mark}
 use Rattle.solver.specs.Memory.Work.{W-MARK, apps-from, state-at, Begins, ChainSound, CheckSound}
 use Rattle.solver.specs.Memory.Answer.{answer-meaning, Outcome, Tried}
@@ -47,7 +47,7 @@ pub goes : (r : TCheck.TCheck) {b : Bool} → b ≡ passes r → not b ≡ false
 goes r {b} e n = sym e ∙ not-false b n
 
 -- a rule's result, by its outcome, when it passes
-passed : (r : TCheck.TCheck) (k : Ruled) (s : State) (o : List ℕ) → passes r ≡ true → Outcome r k s o → k ≡ pass s
+pub passed : (r : TCheck.TCheck) (k : Ruled) (s : State) (o : List ℕ) → passes r ≡ true → Outcome r k s o → k ≡ pass s
 unfolding passes
 passed Sat k s o e x = x
 passed Conflict k s o e x = absurd (false≢true e)
@@ -272,8 +272,7 @@ copying-all {s₀} {w} {s} {n} {x} q h = record { sound = λ c e z m. state-soun
           announced = q .announced (old .announced);
           collected = λ y g e′. collected y g (old .collected y g (sym (ap is-set (k .rest COLLECTED y tt g)) ∙ e′));
           lasting = λ y g e′. old .lasting y g (sym (ap is-set (k .rest LASTING y tt g)) ∙ e′);
-          records = λ i g.
-              ap (λ (v : ℕ). term-kind (context c) (key-atom v)) (k .rest REC-KEY i tt (omega arith)) ∙ old .records i (omega arith);
+          records = λ i g. subst⁻¹ (EntryFits (context c)) (k .rest ENTRY i tt (omega arith)) (old .records i (omega arith));
         }
       where
         -- a collected term has its mark in the work table too
@@ -300,8 +299,10 @@ copying-all {s₀} {w} {s} {n} {x} q h = record { sound = λ c e z m. state-soun
         let fit = old .records-fit in
         let r = registry-kept k tt (old .long) in
         let m = flagged-same w s W-MARK MARK 0 (λ y l g. ap is-set (marked z p y g)) in
-        let es = record-kept k true lv fit (k .rest COUNTS RECORDS tt (omega arith)) tt tt in
-        let ns = record-kept k false lv fit (k .rest COUNTS RECORDS tt (omega arith)) tt tt in
+        let count = k .rest COUNTS RECORDS tt (omega arith) in
+        let es = record-kept k (of-sign true) lv fit count tt in
+        let ns = record-kept k (of-sign false) lv fit count tt in
+        let ds = record-kept k of-unequal lv fit count tt in
         let la = flagged-kept k LASTING 0 tt refl in
         let em = flagged-kept k EMITTED 0 tt refl in
         let sp = flagged-kept k SPLIT 0 tt refl in
@@ -310,7 +311,15 @@ copying-all {s₀} {w} {s} {n} {x} q h = record { sound = λ c e z m. state-soun
           eq = merges e;
           atoms = atoms (r j);
           level = level e;
-          dt = record { marks = m j; level-record = es j; negative-record = ns j; lasting = la j; emitted = em j; split-done = sp j };
+          dt = record {
+            marks = m j;
+            level-record = es j;
+            negative-record = ns j;
+            disequalities = ds j;
+            lasting = la j;
+            emitted = em j;
+            split-done = sp j;
+          };
         }
 
 pub copying-done : (c : List ℕ) {s₀ w s : List ℕ} {n x : ℕ} → (n ≡ length (context c .terms)) × (n ≤ max-terms) → Copying s₀ w s x → n ≤ x →
@@ -392,7 +401,7 @@ moved {c} {d} {e} {s} y q z =
       collected = subst (λ (cx : Context). (x : ℕ) → x < max-terms → is-set (at s COLLECTED x) ≡ true →
           CollectedSound cx s x) p (z .collected);
       lasting = subst (λ (cx : Context). (x : ℕ) → x < max-terms → is-set (at s LASTING x) ≡ true → term-kind cx x ≡ 4) p (z .lasting);
-      records = subst (λ (cx : Context). (i : ℕ) → i < records# s → term-kind cx (key-atom (at s REC-KEY i)) ≡ 4) p (z .records);
+      records = subst (λ (cx : Context). (i : ℕ) → i < records# s → EntryFits cx (at s ENTRY i)) p (z .records);
     }
 
 -- a check that does not fit

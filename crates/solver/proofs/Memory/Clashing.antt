@@ -1,10 +1,9 @@
 -- Testers against their classes, of both signs. What the code finds of a class is what the definition asks for, and the leaves of a
--- conflict are the literal and then what an explanation appends to it. The loop over the list of entries: what the rest of them gives
--- for a record is what all of them give.
-use Rattle.core.proofs.Kit.{ℕ, suc, _+_, _-_, _≤_, _<_, _≡_, refl, sym, ap, ap₂, _∙_, subst, inl, true≢false, Bool, true, false, cond, not, List, [], _∷_, _++_, none, some, Option, add-one, arith, eqb, length, getD}
+-- conflict are the literal and then what an explanation appends to it.
+use Rattle.core.proofs.Kit.{ℕ, _+_, _/_, _%_, _≤_, _<_, _≡_, refl, sym, ap, ap₂, _∙_, subst, inl, true≢false, Bool, true, false, cond, not, List, [], _∷_, _++_, none, some, Option, arith, eqb, ltb-true, length, getD}
 use borrow.Author.Tests.{not-true, not-false}
 use Rattle.core.specs.Limits.{max-terms}
-use Rattle.core.specs.Lists.{In, any, gather, cons-option, range}
+use Rattle.core.specs.Lists.{In, any}
 use Rattle.core.specs.Term as Term
 use Rattle.core.specs.Context.{CtorApp, TesterApp, tester-app, children, symbol}
 use Rattle.core.specs.Memory.Words.{at}
@@ -25,21 +24,24 @@ use Rattle.theory.specs.Memory.Answer.{answer-size, leaves, leaf-meaning, with-
 use Rattle.theory.specs.Memory.Explaining.{Explainable, Explains}
 use Rattle.theory.proofs.Memory.Leaves.{first-sound}
 use Rattle.theory.proofs.Classes.{equal-sym, equal-trans}
-use Rattle.solver.specs.State.{State, AssertedTester, ctor-apps, ctor-of-class, equal}
-use Rattle.solver.specs.Records.{tester-leaves, disagrees, tester-conflict, is-own, own-app, denies, negative-conflict}
-use Rattle.solver.specs.Rules.{Ruled, pass, answered, go-on, then, try-each, conflict-of, tester-clash-at, tester-clash, negative-clash-at, negative-clash}
+use Rattle.solver.specs.State.{State, AssertedAtom, ctor-apps, ctor-of-class, equal}
+use Rattle.solver.specs.Records.{literal-leaves, tester-leaves, disagrees, tester-conflict, is-own, own-app, denies, negative-conflict}
+use Rattle.solver.specs.Rules.{Ruled, try-each, conflict-of, tester-clash-at, tester-clash, negative-clash-at, negative-clash}
 use Rattle.solver.specs.declared.answer.TCheck as TCheck
 use Rattle.solver.specs.declared.work.CtorOf as CtorOf
-use Rattle.solver.specs.Memory.Table.{REC-KEY, REC-LIT, records#, is-set, term-kind, of-sign, key-atom, asserted-at, entry-of, record-of, dt-with, state-with}
+use Rattle.solver.specs.Memory.Table.{ENTRY, UNEQUAL, records#, is-set, term-kind, of-sign, key-atom, entry-key, asserted, entry-of, record-of, dt-with, state-with, max-lits}
 use Rattle.solver.specs.Memory.Work.{state-at, apps-from, first-in-class, ctor-meaning, CtorAsked, CtorOfClass, CheckSound}
 use Rattle.solver.specs.Memory.Answer.{Readable, Tried}
-use Rattle.solver.specs.Memory.Testing.{ConflictIs, conflict-by, clash-by, agreeing, own-in-class, with-ctor, Lone, Found, DisagreeAsked, Disagrees, TesterTerm, TesterCtor, TesterAsked, ConflictAsked, TesterConflict, tester-found, entry-clash, ClashAsked, EntryAsked, EntryConflict}
+use Rattle.solver.specs.Memory.Testing.{ConflictIs, conflict-by, clash-by, agreeing, own-in-class, with-ctor, Lone, Found, DisagreeAsked, Disagrees, TesterTerm, TesterCtor, TesterAsked, ConflictAsked, TesterConflict, tester-found, tester-finds, found-at, ClashAsked, EntryAsked, EntryConflict}
 use Rattle.solver.proofs.Basics.{first-some}
 use Rattle.solver.proofs.Terms.{extends-self}
 use Rattle.solver.proofs.Apps.{op-is}
 use Rattle.solver.proofs.Signature.{tester-of}
 use Rattle.solver.proofs.Memory.Roles.{TesterAt, kind-tester, kind-within}
 use Rattle.solver.proofs.Memory.Owning.{own-first}
+use Rattle.solver.proofs.Memory.Signs.{sign-tester}
+use Rattle.solver.proofs.Memory.Trying.{try-same}
+use Rattle.solver.proofs.Memory.Asking.{giving, Asking, asking-first, asking-next, asking-found, asking-done}
 
 -- ---- a class and one constructor
 
@@ -89,7 +91,7 @@ by-found true c e w arg d k z s lv l x p q =
     go : (o : Option CtorApp) → disagrees (state-at c e s w lv) l x o ≡ against true (state-at c e s w lv) l d arg o
     go none = unfold disagrees in refl
     go (some a) =
-        unfold disagrees tester-leaves agreeing in
+        unfold disagrees tester-leaves literal-leaves agreeing in
         ap₂ (λ (i j : ℕ). cond (eqb (a .ctor) i) none (some (firsts (AssertedLeaf l ∷ explain (merges e) j (a .app))))) p q
 by-found false c e w arg d k z s lv l x p q =
     ap (denies (state-at c e s w lv) l x)
@@ -100,7 +102,7 @@ by-found false c e w arg d k z s lv l x p q =
         denies (state-at c e s w lv) l x (cond t (some a) none)
         ≡ cond (not t) none (some (firsts (AssertedLeaf l ∷ explain (merges e) arg (a .app))))
     by-ctor a true =
-        unfold denies tester-leaves in
+        unfold denies tester-leaves literal-leaves in
         ap {B = Option (List EqLeaf)} (λ (j : ℕ). some (firsts (AssertedLeaf l ∷ explain (merges e) j (a .app)))) q
     by-ctor a false = unfold denies in refl
 
@@ -129,6 +131,16 @@ may-explain {e} {f = f} {y = y} q a g p =
     let (n, t) = a .equal f y q in
     record { sound = a .engine; first = a .first; second = n; equal = t; answer = first-sound (merges e) g p }
 
+-- the leaves of a literal, and then of an explanation
+pub literal-first : (l : Lit.Lit) {e o₁ o₂ o₃ : List ℕ} {x y : ℕ} → Cleared o₁ →
+    Pushed o₁ o₂ (leaf-meaning (GivenLeaf.the-variants.Asserted l)) → Explains e x y o₂ o₃ →
+    leaves o₃ ≡ firsts (AssertedLeaf (l .0) ∷ explain (merges e) x y)
+unfolding leaf-meaning firsts firsts-after any
+literal-first l {e} {x = x} {y = y} g u k =
+    k .listed
+    ∙ ap (λ (ls : List EqLeaf). ls ++ firsts-after ls (explain (merges e) x y))
+    (u .listed ∙ ap (with-leaf (AssertedLeaf (l .0))) (g .empty))
+
 module _ (b : Bool) (e : List ℕ) (arg : ℕ) {k : CtorOf.CtorOf} {f : SymbolId.SymbolId} {y : TermId.TermId}
     (q : k ≡ CtorOf.the-variants.At f y) where
   by-app : (l ctor : ℕ) (c s w : List ℕ) (lv : ℕ → ℕ) (x : TesterApp) → x .ctor ≡ ctor → x .arg ≡ arg → Found b c e w arg ctor k →
@@ -149,17 +161,11 @@ module _ (b : Bool) (e : List ℕ) (arg : ℕ) {k : CtorOf.CtorOf} {f : SymbolId
   pub tester-disagrees : {o₁ o₂ o₃ : List ℕ} {l : Lit.Lit} {ctor : ℕ} {t : Bool} → t ≡ agreeing b (eqb (f .0) ctor) → t ≡ false →
       Cleared o₁ → Pushed o₁ o₂ (leaf-meaning (GivenLeaf.the-variants.Asserted l)) → Explains e arg (y .0) o₂ o₃ →
       Disagrees b e (l .0) ctor arg k TCheck.the-variants.Conflict o₃
-  unfolding leaf-meaning firsts firsts-after any
-  tester-disagrees {o₁} {o₂} {o₃} {l} {ctor} h d g u x = record {
-    conflict = λ c s w lv v i j z. by-app (l .0) ctor c s w lv v i j z false (sym d ∙ h) ∙ ap some (sym listed);
+  tester-disagrees {l = l} {ctor = ctor} h d g u x = record {
+    conflict = λ c s w lv v i j z.
+        by-app (l .0) ctor c s w lv v i j z false (sym d ∙ h) ∙ ap some (sym (literal-first l g u x));
     readable = x .sound .words;
   }
-    where
-      first-leaf : leaves o₂ ≡ AssertedLeaf (l .0) ∷ []
-      first-leaf = u .listed ∙ ap (with-leaf (AssertedLeaf (l .0))) (g .empty)
-
-      listed : leaves o₃ ≡ firsts (AssertedLeaf (l .0) ∷ explain (merges e) arg (y .0))
-      listed = x .listed ∙ ap (λ (ls : List EqLeaf). ls ++ firsts-after ls (explain (merges e) arg (y .0))) first-leaf
 
 -- ---- a tester application
 
@@ -294,43 +300,52 @@ term-within {c} {x} z = tester-within c x (z .core) (z .formed) (z .signed) (z .
 -- ---- the records
 
 -- an entry of another sign asks nothing
-pub entry-passed : {b t : Bool} {c e s w o : List ℕ} {i k : ℕ} → EntryAsked b c e s w i o → k ≡ at s REC-KEY i →
+pub entry-passed : {b t : Bool} {c e s w o : List ℕ} {i v k : ℕ} → EntryAsked b c e s w i o → v ≡ at s ENTRY i → k ≡ v / max-lits →
     t ≡ of-sign b k → not t ≡ true → EntryConflict b c e s w i TCheck.the-variants.Sat o
-unfolding entry-of entry-clash
-entry-passed {b} {t} {s = s} {i = i} z q p n = record {
-  conflict = λ lv. let m : of-sign b (at s REC-KEY i) ≡ false = sym (p ∙ ap (of-sign b) q) ∙ not-true t n in rw m;
+unfolding entry-of found-at
+entry-passed {b} {t} {s = s} {i = i} z q d p n = record {
+  conflict = λ lv.
+      let m : of-sign b (entry-key s i) ≡ false = sym (p ∙ ap (of-sign b) (d ∙ ap (λ (x : ℕ). x / max-lits) q)) ∙ not-true t n in rw m;
   readable = tt;
 }
 
 -- an entry of the sign asks what the code asked
-pub entry-asked : {b t : Bool} {c e s w o : List ℕ} {i k l x : ℕ} {r : TCheck.TCheck} → k ≡ at s REC-KEY i →
-    t ≡ of-sign b k → not t ≡ false → l ≡ at s REC-LIT i → x ≡ key-atom k → TesterConflict b c e w l x r o →
+pub entry-asked : {b t : Bool} {c e s w o : List ℕ} {i v k l x : ℕ} {r : TCheck.TCheck} → v ≡ at s ENTRY i → k ≡ v / max-lits →
+    t ≡ of-sign b k → not t ≡ false → l ≡ v % max-lits → x ≡ key-atom k → TesterConflict b c e w l x r o →
     EntryConflict b c e s w i r o
-unfolding entry-of asserted-at entry-clash tester-found state-with
-entry-asked {b} {t} {c} {e} {s} {w} {o} {i} {k} {l} {x} {r} q p n u v y = record {
+unfolding entry-of asserted found-at tester-found state-with
+entry-asked {b} {t} {c} {e} {s} {w} {o} {i} {v} {k} {l} {x} {r} a d p n u g y = record {
   conflict = λ lv. subst (λ (m : Option (List EqLeaf)). ConflictIs r m o) (sym (found lv)) (y .conflict s lv);
   readable = y .readable;
 }
   where
-    found : (lv : ℕ → ℕ) → entry-clash b (entry-of b s lv i) (state-at c e s w lv) ≡ conflict-by b (state-at c e s w lv) l (y .app)
+    is-key : k ≡ entry-key s i
+    is-key = d ∙ ap (λ (m : ℕ). m / max-lits) a
+
+    of-this : of-sign b (entry-key s i) ≡ true
+    of-this = sym (p ∙ ap (of-sign b) is-key) ∙ not-false t n
+
+    found : (lv : ℕ → ℕ) →
+        found-at (tester-finds b) (entry-of (of-sign b) s lv i) (state-at c e s w lv) ≡ conflict-by b (state-at c e s w lv) l (y .app)
     found lv =
-        let m : of-sign b (at s REC-KEY i) ≡ true = sym (p ∙ ap (of-sign b) q) ∙ not-false t n in
-        rw m
-        (ap₂ (λ (j : ℕ) (a : Option TesterApp). tester-found b j a (state-at c e s w lv)) (sym u)
-        (ap (tester-app (context c)) (ap key-atom (sym q) ∙ sym v) ∙ y .is-tester))
+        rw (of-this, sign-tester b (entry-key s i) of-this)
+        (ap₂ (λ (j : ℕ) (m : Option TesterApp). tester-found b j m (state-at c e s w lv))
+        (ap (λ (m : ℕ). m % max-lits) (sym a) ∙ sym u) (ap (tester-app (context c)) (ap key-atom (sym is-key) ∙ sym g) ∙ y .is-tester))
 
 -- the tester of an entry
-pub entry-term : {b : Bool} {c e s w o : List ℕ} {i k x : ℕ} → EntryAsked b c e s w i o → k ≡ at s REC-KEY i → x ≡ key-atom k →
-    ConflictAsked b c e w x o
-entry-term {c = c} {i = i} z q p =
+pub entry-term : {b t : Bool} {c e s w o : List ℕ} {i v k x : ℕ} → EntryAsked b c e s w i o → v ≡ at s ENTRY i → k ≡ v / max-lits →
+    t ≡ of-sign b k → not t ≡ false → x ≡ key-atom k → ConflictAsked b c e w x o
+entry-term {b} {t} {c} {s = s} {i = i} {k = k} z a d p n g =
     let st = z .asked .check .state in
+    let is-key : k ≡ entry-key s i = d ∙ ap (λ (m : ℕ). m / max-lits) a in
+    let low = ltb-true (entry-key s i) UNEQUAL (sign-tester b (entry-key s i) (sym (p ∙ ap (of-sign b) is-key) ∙ not-false t n)) in
     record {
       asked = record {
         term = record {
           core = st .core;
           formed = st .formed;
           signed = st .signed;
-          tester = ap (term-kind (context c)) (p ∙ ap key-atom q) ∙ st .records i (z .within);
+          tester = ap (term-kind (context c)) (g ∙ ap key-atom is-key) ∙ st .records i (z .within) .tester low;
         };
         engine = st .engine;
         table = inl (z .asked .check .work);
@@ -340,13 +355,13 @@ entry-term {c = c} {i = i} z q p =
     }
 
 -- it is a term
-pub entry-small : {b : Bool} {c e s w o : List ℕ} {i k x : ℕ} → EntryAsked b c e s w i o → k ≡ at s REC-KEY i → x ≡ key-atom k →
-    x < 4294967296
-entry-small z q p =
-    let t = entry-term z q p .asked .term in
-    let h = term-within t in
-    let n = t .core .term-count in
-    let f = t .core .terms-fit in
+pub entry-small : {b t : Bool} {c e s w o : List ℕ} {i v k x : ℕ} → EntryAsked b c e s w i o → v ≡ at s ENTRY i → k ≡ v / max-lits →
+    t ≡ of-sign b k → not t ≡ false → x ≡ key-atom k → x < 4294967296
+entry-small z a d p n g =
+    let m = entry-term z a d p n g .asked .term in
+    let h = term-within m in
+    let f = m .core .term-count in
+    let l = m .core .terms-fit in
     omega arith
 
 -- the rule of an entry
@@ -354,12 +369,11 @@ abbrev pub clash-at-by : Bool → ℕ → Option TesterApp → State → Ruled
 clash-at-by true = tester-clash-at
 clash-at-by false = negative-clash-at
 
-abbrev pub rule-of : Bool → AssertedTester → State → Ruled
+abbrev pub rule-of : Bool → AssertedAtom → State → Ruled
 rule-of b a S = clash-at-by b (a .lit) (tester-app (S .terms) (a .atom)) S
 
 -- the rule by what the definition finds of an entry
-rule-finds : (b : Bool) (a : AssertedTester) (S : State) → rule-of b a S ≡ conflict-of S (entry-clash b (some a) S)
-unfolding entry-clash
+rule-finds : (b : Bool) (a : AssertedAtom) (S : State) → rule-of b a S ≡ giving (tester-finds b) a S
 rule-finds b a S = go b (tester-app (S .terms) (a .atom))
   where
     go : (d : Bool) (m : Option TesterApp) → clash-at-by d (a .lit) m S ≡ conflict-of S (tester-found d (a .lit) m S)
@@ -371,90 +385,55 @@ rule-finds b a S = go b (tester-app (S .terms) (a .atom))
 -- the entries from i on are to be asked
 pub record Clashing (b : Bool) (c e s w o : List ℕ) (n i : ℕ) : Type 0 where
   pub asked : ClashAsked b c e s w o
-  pub count : n ≡ records# s
-  pub within : i ≤ n
-  pub rest : (lv : ℕ → ℕ) →
-      clash-by b (state-at c e s w lv) ≡ try-each (rule-of b) (gather (entry-of b s lv) (range i (n - i))) (state-at c e s w lv)
+  pub asking : Asking (tester-finds b) (of-sign b) s (state-at c e s w) (clash-by b) n i
 
 pub clashing-first : {b : Bool} {c e s w o : List ℕ} {n : ℕ} → ClashAsked b c e s w o → n ≡ records# s → Clashing b c e s w o n 0
-clashing-first {b} {c} {e} {s} {w} {n = n} z q = record {
+clashing-first {b} {c} {e} {s} {w} z q = record {
   asked = z;
-  count = q;
-  within = omega arith;
-  rest = λ lv.
-      let m : records# s ≡ n - 0 = omega arith in
-      whole b lv
-      ∙ ap (λ (k : ℕ). try-each (rule-of b) (gather (entry-of b s lv) (range 0 k)) (state-at c e s w lv)) m;
+  asking = asking-first q (λ lv.
+      whole b lv ∙ try-same (rule-of b) (giving (tester-finds b)) (rule-finds b) (record-of (of-sign b) s lv) (state-at c e s w lv));
 }
   where
     whole : (d : Bool) (lv : ℕ → ℕ) →
-        clash-by d (state-at c e s w lv)
-        ≡ try-each (rule-of d) (gather (entry-of d s lv) (range 0 (records# s))) (state-at c e s w lv)
-    whole true lv = unfold tester-clash state-with dt-with record-of in refl
-    whole false lv = unfold negative-clash state-with dt-with record-of in refl
+        clash-by d (state-at c e s w lv) ≡ try-each (rule-of d) (record-of (of-sign d) s lv) (state-at c e s w lv)
+    whole true lv = unfold tester-clash state-with dt-with in refl
+    whole false lv = unfold negative-clash state-with dt-with in refl
+
+-- the leaves of an answer that is no `Sat`
+pub conflict-leaves : (m : Option (List EqLeaf)) (o : List ℕ) (r : TCheck.TCheck) → (r ≡ TCheck.the-variants.Sat → ⊥) →
+    ConflictIs r m o → m ≡ some (leaves o)
+conflict-leaves m o TCheck.the-variants.Sat g b = absurd (g refl)
+conflict-leaves m o TCheck.the-variants.Conflict g b = b
+conflict-leaves m o TCheck.the-variants.Split g b = absurd b
+conflict-leaves m o TCheck.the-variants.Unknown g b = absurd b
+conflict-leaves m o TCheck.the-variants.NoRoom g b = absurd b
+
+pub conflict-words : (m : Option (List EqLeaf)) (o : List ℕ) (r : TCheck.TCheck) → (r ≡ TCheck.the-variants.Sat → ⊥) →
+    ConflictIs r m o → Readable r o → LeavesSound o
+conflict-words m o TCheck.the-variants.Sat g b k = absurd (g refl)
+conflict-words m o TCheck.the-variants.Conflict g b k = k
+conflict-words m o TCheck.the-variants.Split g b k = absurd b
+conflict-words m o TCheck.the-variants.Unknown g b k = absurd b
+conflict-words m o TCheck.the-variants.NoRoom g b k = absurd b
 
 module _ {b : Bool} {c e s w o : List ℕ} {n i : ℕ} {r : TCheck.TCheck} {o′ : List ℕ} (z : Clashing b c e s w o n i) (h : i < n)
     (t : EntryConflict b c e s w i r o′) where
-  later : (ℕ → ℕ) → State → Ruled
-  later lv S = try-each (rule-of b) (gather (entry-of b s lv) (range (suc i) (n - suc i))) S
-
-  rest-is : (lv : ℕ → ℕ) → clash-by b (state-at c e s w lv)
-      ≡ then (conflict-of (state-at c e s w lv) (entry-clash b (entry-of b s lv i) (state-at c e s w lv))) (later lv)
-  unfolding try-each range gather later
-  rest-is lv =
-      let k : n - i ≡ suc (n - suc i) = omega arith in
-      z .rest lv
-      ∙ ap (λ (m : ℕ). try-each (rule-of b) (gather (entry-of b s lv) (range i m)) (state-at c e s w lv)) k
-      ∙ go (entry-of b s lv i)
-    where
-      go : (m : Option AssertedTester) →
-          try-each (rule-of b) (cons-option m (gather (entry-of b s lv) (range (suc i) (n - suc i)))) (state-at c e s w lv)
-          ≡ then (conflict-of (state-at c e s w lv) (entry-clash b m (state-at c e s w lv))) (later lv)
-      go none = unfold cons-option entry-clash conflict-of then pass go-on in refl
-      go (some a) =
-          unfold cons-option in
-          ap (λ (k : Ruled). then k (later lv)) (rule-finds b a (state-at c e s w lv))
-
   pub clashing-next : r ≡ TCheck.the-variants.Sat → answer-size ≤ length o′ → Clashing b c e s w o′ n (i + 1)
-  unfolding then conflict-of pass go-on later
   clashing-next d a = record {
     asked = record { check = z .asked .check; lone = z .asked .lone; long = a };
-    count = z .count;
-    within = omega arith;
-    rest = λ lv.
-        rest-is lv
-        ∙ ap (λ (m : Option (List EqLeaf)). then (conflict-of (state-at c e s w lv) m) (later lv))
-        (subst (λ (v : TCheck.TCheck). ConflictIs v (entry-clash b (entry-of b s lv i) (state-at c e s w lv)) o′) d (t .conflict lv))
-        ∙ ap (λ (k : ℕ). try-each (rule-of b) (gather (entry-of b s lv) (range k (n - k))) (state-at c e s w lv)) (sym (add-one i));
+    asking = asking-next (z .asking) h (λ lv.
+        subst (λ (v : TCheck.TCheck).
+        ConflictIs v (found-at (tester-finds b) (entry-of (of-sign b) s lv i) (state-at c e s w lv)) o′) d (t .conflict lv));
   }
 
   pub clashing-found : (r ≡ TCheck.the-variants.Sat → ⊥) → Tried (clash-by b) c e s w TCheck.the-variants.Conflict c s w o′
-  unfolding then conflict-of answered go-on
   clashing-found d = record {
     sound = z .asked .check;
     extends = extends-self (context c);
-    outcome = λ lv.
-        rest-is lv
-        ∙ ap (λ (m : Option (List EqLeaf)). then (conflict-of (state-at c e s w lv) m) (later lv)) (conflict _ r d (t .conflict lv));
+    outcome = λ lv. asking-found (z .asking) h (leaves o′) lv (conflict-leaves _ o′ r d (t .conflict lv));
     unchanged = λ m. refl;
-    readable = words _ r d (t .conflict (λ k. k)) (t .readable);
+    readable = conflict-words _ o′ r d (t .conflict (λ k. k)) (t .readable);
   }
-    where
-      conflict : (m : Option (List EqLeaf)) (v : TCheck.TCheck) → (v ≡ TCheck.the-variants.Sat → ⊥) → ConflictIs v m o′ →
-          m ≡ some (leaves o′)
-      conflict m TCheck.the-variants.Sat g b = absurd (g refl)
-      conflict m TCheck.the-variants.Conflict g b = b
-      conflict m TCheck.the-variants.Split g b = absurd b
-      conflict m TCheck.the-variants.Unknown g b = absurd b
-      conflict m TCheck.the-variants.NoRoom g b = absurd b
-
-      words : (m : Option (List EqLeaf)) (v : TCheck.TCheck) → (v ≡ TCheck.the-variants.Sat → ⊥) → ConflictIs v m o′ →
-          Readable v o′ → LeavesSound o′
-      words m TCheck.the-variants.Sat g b k = absurd (g refl)
-      words m TCheck.the-variants.Conflict g b k = k
-      words m TCheck.the-variants.Split g b k = absurd b
-      words m TCheck.the-variants.Unknown g b k = absurd b
-      words m TCheck.the-variants.NoRoom g b k = absurd b
 
 -- a positive record may be asked in any check, either one where classes have one constructor
 pub positive-clash : {c e s w o : List ℕ} → CheckSound c e s w → answer-size ≤ length o → ClashAsked true c e s w o
@@ -464,17 +443,14 @@ pub lone-clash : {b : Bool} {c e s w o : List ℕ} → CheckSound c e s w → Lo
 lone-clash z o l = record { check = z; lone = λ q. o; long = l }
 
 pub clashing-asks : {b : Bool} {c e s w o : List ℕ} {n i : ℕ} → Clashing b c e s w o n i → i < n → EntryAsked b c e s w i o
-clashing-asks z h = let e = z .count in record { asked = z .asked; within = omega arith }
+clashing-asks z h = let e = z .asking .count in record { asked = z .asked; within = omega arith }
 
 pub clashing-done : {b : Bool} {c e s w o : List ℕ} {n i : ℕ} → Clashing b c e s w o n i → n ≤ i →
     Tried (clash-by b) c e s w TCheck.the-variants.Sat c s w o
-unfolding try-each range gather
-clashing-done {b} {c} {e} {s} {w} {o} {n} {i} z h = record {
+clashing-done {c = c} z h = record {
   sound = z .asked .check;
   extends = extends-self (context c);
-  outcome = λ lv.
-      let k : n - i ≡ 0 = omega arith in
-      z .rest lv ∙ ap (λ (m : ℕ). try-each (rule-of b) (gather (entry-of b s lv) (range i m)) (state-at c e s w lv)) k;
+  outcome = asking-done (z .asking) h;
   unchanged = λ m. refl;
   readable = tt;
 }

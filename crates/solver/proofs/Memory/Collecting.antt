@@ -1,6 +1,6 @@
 -- Collection: from one table to the next only terms below the collected one are marked, and no mark is taken back. A collected term has
 -- its children collected, so everything below it has its mark: the marks are those of `new-var`.
-use Rattle.core.proofs.Kit.{ℕ, zero, suc, _+_, _/_, _≤_, _<_, _≡_, refl, sym, ap, _∙_, subst, _⊎_, inl, inr, Bool, true, cond, false≢true, List, [], _∷_, arith, ℕ-discrete, below-more, T, length, getD, false}
+use Rattle.core.proofs.Kit.{ℕ, zero, suc, _+_, _/_, _≤_, _<_, _≡_, refl, sym, ap, _∙_, subst, subst⁻¹, _⊎_, inl, inr, Bool, true, cond, false≢true, List, [], _∷_, arith, ℕ-discrete, below-more, T, length, getD, false}
 use Rattle.core.specs.Limits.{max-terms, table-words}
 use Rattle.core.specs.Lists.{In, mem, keep}
 use Rattle.core.specs.Context.{children}
@@ -13,7 +13,7 @@ use Rattle.theory.specs.Atom.{Registered}
 use Rattle.theory.specs.Memory.Registry.{atoms}
 use Rattle.solver.specs.State.{with-marks, with-dt}
 use Rattle.solver.specs.Records.{relevant, collect, new-var}
-use Rattle.solver.specs.Memory.Table.{COUNTS, RECORDS, BLOCK, block-terms, MARK, COLLECTED, LASTING, EMITTED, SPLIT, REC-KEY, solver-room, records#, is-set, flagged-from, term-kind, key-atom, state, state-with, dt-with, SolverSound, CollectedSound, StateSound}
+use Rattle.solver.specs.Memory.Table.{COUNTS, RECORDS, BLOCK, block-terms, MARK, COLLECTED, LASTING, EMITTED, SPLIT, ENTRY, solver-room, records#, is-set, flagged-from, term-kind, EntryFits, of-sign, of-unequal, state, state-with, dt-with, SolverSound, CollectedSound, StateSound}
 use Rattle.solver.specs.Memory.Recording.{with-mark, Collecting, Spreads, Collects, CollectsChildren, CollectsVar}
 use Rattle.solver.proofs.Basics.{mem-in, in-mem, by-test}
 use Rattle.solver.proofs.Collection.{children-lower, new-var-marks}
@@ -260,8 +260,9 @@ module _ {s u : List ℕ} (k : Kept solver-room (BLOCK ∷ MARK ∷ COLLECTED �
         flagged-kept k LASTING 0 tt refl,
         flagged-kept k EMITTED 0 tt refl,
         flagged-kept k SPLIT 0 tt refl,
-        record-kept k true lv (z .records-fit) (k .rest COUNTS RECORDS tt (omega arith)) tt tt,
-        record-kept k false lv (z .records-fit) (k .rest COUNTS RECORDS tt (omega arith)) tt tt,
+        record-kept k (of-sign true) lv (z .records-fit) (k .rest COUNTS RECORDS tt (omega arith)) tt,
+        record-kept k (of-sign false) lv (z .records-fit) (k .rest COUNTS RECORDS tt (omega arith)) tt,
+        record-kept k of-unequal lv (z .records-fit) (k .rest COUNTS RECORDS tt (omega arith)) tt,
       )
 
 spreads-sound : {c e s u : List ℕ} {x : ℕ} → Spreads c x s u → StateSound c e s → StateSound c e u
@@ -281,7 +282,7 @@ spreads-sound {c} {e} {s} {u} a z =
       announced = a .tables .announced;
       collected = a .tables .collected;
       lasting = λ x h q. z .lasting x h (sym (ap is-set (k .rest LASTING x tt h)) ∙ q);
-      records = λ i h. ap (λ (v : ℕ). term-kind (context c) (key-atom v)) (k .rest REC-KEY i tt (omega arith)) ∙ z .records i (omega arith);
+      records = λ i h. subst⁻¹ (EntryFits (context c)) (k .rest ENTRY i tt (omega arith)) (z .records i (omega arith));
     }
 
 -- what lies below a collected term is collected

@@ -1,5 +1,5 @@
--- What stores in some regions leave of the registry, of a set of flags and of the records of testers.
-use Rattle.core.proofs.Kit.{ℕ, _/_, _≤_, _<_, _≡_, refl, sym, ap, _∙_, subst, _⊎_, Bool, List, T, eqb, arith, length, getD, ext-getD, getD-take, length-take-le, zero-add}
+-- What stores in some regions leave of the registry, of a set of flags and of the records.
+use Rattle.core.proofs.Kit.{ℕ, _/_, _≤_, _<_, _≡_, refl, sym, ap, _∙_, subst, subst⁻¹, _⊎_, Bool, List, T, eqb, arith, length, getD, ext-getD, getD-take, length-take-le, zero-add}
 use Rattle.core.specs.Limits.{max-terms, table-words}
 use Rattle.core.specs.Lists.{In, Apart, any}
 use Rattle.core.specs.Memory.Words.{at, counted, clear-of, Kept}
@@ -7,7 +7,7 @@ use Rattle.core.specs.Memory.Table.{context}
 use Rattle.core.proofs.Memory.Counted.{counted-same}
 use Rattle.theory.specs.Atom.{Registered}
 use Rattle.theory.specs.Memory.Registry.{registry-size, atoms, RegistrySound}
-use Rattle.solver.specs.Memory.Table.{REGISTRY, COUNTS, RECORDS, BLOCK, block-terms, MARK, COLLECTED, LASTING, RECORDED, REC-KEY, REC-LIT, max-records, solver-room, records#, registry, is-set, flagged-from, term-kind, key-atom, record-of, Announced, SolverSound, CollectedSound, StateSound}
+use Rattle.solver.specs.Memory.Table.{REGISTRY, COUNTS, RECORDS, BLOCK, block-terms, MARK, COLLECTED, LASTING, RECORDED, ENTRY, max-records, solver-room, records#, registry, is-set, flagged-from, term-kind, EntryFits, entry-key, record-of, Announced, SolverSound, CollectedSound, StateSound, max-lits}
 use Rattle.solver.proofs.Memory.Flags.{flagged-same}
 use Rattle.solver.proofs.Memory.Signs.{record-same}
 
@@ -37,23 +37,27 @@ module _ {ws s u : List ℕ} (k : Kept solver-room ws s u) where
   pub flagged-kept : (b i : ℕ) → T (clear-of solver-room b ws) → solver-room b ≡ max-terms → flagged-from u b i ≡ flagged-from s b i
   flagged-kept b i a r = flagged-same s u b b i (λ x l h. ap is-set (k .rest b x a (omega arith)))
 
-  pub record-kept : (b : Bool) (lv : ℕ → ℕ) → records# s ≤ max-records → records# u ≡ records# s →
-      T (clear-of solver-room REC-KEY ws) → T (clear-of solver-room REC-LIT ws) → record-of b u lv ≡ record-of b s lv
-  record-kept b lv f n a l =
-      record-same b s u lv lv (records# s) refl n (λ i h. k .rest REC-KEY i a (omega arith))
-      (λ i h. k .rest REC-LIT i l (omega arith)) (λ i h. refl)
+  pub record-kept : (p : ℕ → Bool) (lv : ℕ → ℕ) → records# s ≤ max-records → records# u ≡ records# s →
+      T (clear-of solver-room ENTRY ws) → record-of p u lv ≡ record-of p s lv
+  record-kept p lv f n a =
+      record-same p s u lv lv (records# s) refl n (λ i h. k .rest ENTRY i a (omega arith)) (λ i h. refl)
+
+  -- the keys of as many entries
+  pub keys-kept : T (clear-of solver-room ENTRY ws) → (n : ℕ) → n ≤ max-records → records# u ≡ n →
+      counted (entry-key u) (records# u) ≡ counted (entry-key s) n
+  keys-kept a n f e =
+      ap (counted (entry-key u)) e
+      ∙ counted-same (entry-key u) (entry-key s) n (λ i h. ap (λ (w : ℕ). w / max-lits) (k .rest ENTRY i a (omega arith)))
 
   -- a table stays sound by the registry, the records and their flags
   pub solver-kept : T (clear-of solver-room REGISTRY ws) → T (clear-of solver-room COUNTS ws) → T (clear-of solver-room RECORDED ws) →
-      T (clear-of solver-room REC-KEY ws) → SolverSound s → SolverSound u
+      T (clear-of solver-room ENTRY ws) → SolverSound s → SolverSound u
   solver-kept a b c d z =
       let l = k .long in
       let m = z .long in
       let fit = z .records-fit in
       let n : records# u ≡ records# s = k .rest COUNTS RECORDS b (omega arith) in
-      let same : counted (at u REC-KEY) (records# u) ≡ counted (at s REC-KEY) (records# s) =
-      ap (counted (at u REC-KEY)) n
-      ∙ counted-same (at u REC-KEY) (at s REC-KEY) (records# s) (λ i h. k .rest REC-KEY i d (omega arith)) in
+      let same = keys-kept d (records# s) fit n in
       record {
         long = omega arith;
         atoms = subst RegistrySound (sym (registry-kept a m)) (z .atoms);
@@ -71,7 +75,7 @@ module _ {ws s u : List ℕ} (k : Kept solver-room ws s u) where
   -- and so do the three tables, by the marks, what is collected and the lasting record as well
   pub state-kept : {c e : List ℕ} → T (clear-of solver-room REGISTRY ws) → T (clear-of solver-room COUNTS ws) →
       T (clear-of solver-room BLOCK ws) → T (clear-of solver-room MARK ws) → T (clear-of solver-room COLLECTED ws) →
-      T (clear-of solver-room LASTING ws) → T (clear-of solver-room RECORDED ws) → T (clear-of solver-room REC-KEY ws) →
+      T (clear-of solver-room LASTING ws) → T (clear-of solver-room RECORDED ws) → T (clear-of solver-room ENTRY ws) →
       StateSound c e s → StateSound c e u
   state-kept {c} {e} r n b m d l f a z =
       let fit = z .solver .records-fit in
@@ -88,8 +92,7 @@ module _ {ws s u : List ℕ} (k : Kept solver-room ws s u) where
         announced = announced-kept b m (z .announced);
         collected = λ x h q. still x h (z .collected x h (sym (ap is-set (k .rest COLLECTED x d h)) ∙ q));
         lasting = λ x h q. z .lasting x h (sym (ap is-set (k .rest LASTING x l h)) ∙ q);
-        records = λ i h.
-            ap (λ (v : ℕ). term-kind (context c) (key-atom v)) (k .rest REC-KEY i a (omega arith)) ∙ z .records i (omega arith);
+        records = λ i h. subst⁻¹ (EntryFits (context c)) (k .rest ENTRY i a (omega arith)) (z .records i (omega arith));
       }
     where
       still : (x : ℕ) → x < max-terms → CollectedSound (context c) s x → CollectedSound (context c) u x

@@ -1,5 +1,5 @@
 -- A term table that grows at its end: what the tables of a check keep, since marks and flags concern old terms; and terms made in a check.
-use Rattle.core.proofs.Kit.{ℕ, zero, suc, _≤_, _<_, _≡_, refl, sym, ap, _∙_, subst, subst⁻¹, _⊎_, inl, inr, true, false, true≢false, List, [], _∷_, arith, length}
+use Rattle.core.proofs.Kit.{ℕ, zero, suc, _/_, _%_, _≤_, _<_, _≡_, refl, sym, ap, _∙_, subst, subst⁻¹, _⊎_, inl, inr, true, false, true≢false, List, [], _∷_, arith, length}
 use Rattle.core.specs.Limits.{max-terms}
 use Rattle.core.specs.Lists.{In}
 use Rattle.core.specs.Term as Term
@@ -13,7 +13,7 @@ use Rattle.core.specs.Memory.Codes.{MkApp, made-answer, made-context}
 use Rattle.core.specs.declared.context.Made as Made
 use Rattle.solver.specs.State.{with-terms, made-in, make-app}
 use Rattle.solver.specs.Rules.{make-eq}
-use Rattle.solver.specs.Memory.Table.{MARK, REC-KEY, is-set, flagged-from, term-kind, key-atom, MarksAre, CollectedSound, StateSound, state-with}
+use Rattle.solver.specs.Memory.Table.{MARK, ENTRY, is-set, flagged-from, term-kind, key-atom, EntryFits, MarksAre, CollectedSound, StateSound, state-with, max-lits}
 use Rattle.solver.specs.Memory.Work.{W-MARK, state-at, apps-from, WorkSound, ChainSound, CheckSound}
 use Rattle.solver.specs.Memory.Making.{Making, Makeable, Equatable, MadeOutcome, MadeWithin, MakesTerm}
 use Rattle.solver.proofs.Basics.{by-test, gather-same}
@@ -99,6 +99,17 @@ module _ (c c′ : List ℕ) (ex : Extends (context c) (context c′)) (sound : 
   unfolding is-set
   tester-stays x h = kind-stays (context c) (context c′) x ex (ap is-set h) ∙ h
 
+  -- an entry's atom stays a tester application or an equation
+  entry-stays : (w : ℕ) → EntryFits (context c) w → EntryFits (context c′) w
+  entry-stays w f = record {
+    key = f .key;
+    tester = λ h. tester-stays (key-atom (w / max-lits)) (f .tester h);
+    equation = λ h.
+        let (l, e) = f .equation h in
+        let m = extends-length (context c) (context c′) ex in
+        (omega arith, ap (λ (x : Term). x .op) (extends-term (context c) (context c′) (w % max-lits) ex l) ∙ e);
+  }
+
   pub state-grows : (e s : List ℕ) → StateSound c e s → StateSound c′ e s
   state-grows e s S = record {
     core = sound;
@@ -111,7 +122,7 @@ module _ (c c′ : List ℕ) (ex : Extends (context c) (context c′)) (sound : 
     announced = S .announced;
     collected = λ x l h. collected-grows s x (S .collected x l h);
     lasting = λ x l h. tester-stays x (S .lasting x l h);
-    records = λ i l. tester-stays (key-atom (at s REC-KEY i)) (S .records i l);
+    records = λ i l. entry-stays (at s ENTRY i) (S .records i l);
   }
 
   pub work-grows : (e w : List ℕ) → WorkSound c e w → WorkSound c′ e w

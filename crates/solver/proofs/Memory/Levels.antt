@@ -1,16 +1,16 @@
--- The records of testers by levels: the level of an entry by the mark counts, one level more, and the levels above one closed.
-use Rattle.core.proofs.Kit.{ℕ, zero, suc, _+_, _≤_, _<_, _≡_, refl, sym, ap, ap₂, _∙_, Bool, true, false, cond, List, [], _∷_, none, some, ℕ-discrete, decLe, arith, leb, le-leb, lt-leb, length, getD, set, getD-set-same, getD-set-other}
+-- The records by levels: the level of an entry by the mark counts, one level more, and the levels above one closed.
+use Rattle.core.proofs.Kit.{ℕ, zero, suc, _+_, _-_, _*_, _≤_, _<_, _≡_, refl, sym, ap, ap₂, _∙_, subst⁻¹, Bool, true, false, cond, List, [], _∷_, none, some, ℕ-discrete, decLe, arith, ltb, leb, le-leb, lt-leb, length, getD, set, getD-set-same, getD-set-other}
 use Rattle.core.specs.Limits.{max-levels}
 use Rattle.core.specs.Lists.{gather, range}
-use Rattle.core.specs.Memory.Words.{at, Kept}
+use Rattle.core.specs.Memory.Words.{Kept}
 use Rattle.core.specs.Memory.Table.{context}
 use Rattle.core.proofs.Memory.Stores.{kept-more}
 use Rattle.theory.specs.Memory.Table.{merges, level}
 use Rattle.theory.specs.Memory.Registry.{atoms}
-use Rattle.solver.specs.State.{AssertedTester}
-use Rattle.solver.specs.Records.{pop-testers}
+use Rattle.solver.specs.State.{AssertedAtom}
+use Rattle.solver.specs.Records.{pop-entries}
 use Rattle.solver.specs.declared.levels.TesterMarks.{TesterMarks}
-use Rattle.solver.specs.Memory.Table.{COUNTS, MARK, LASTING, EMITTED, SPLIT, RECORDED, REC-KEY, REC-LIT, solver-room, records#, registry, is-set, flagged, term-kind, of-sign, key-atom, asserted-at, entry-of, record-of, dt-with, state-with, state}
+use Rattle.solver.specs.Memory.Table.{COUNTS, MARK, LASTING, EMITTED, SPLIT, RECORDED, ENTRY, solver-room, records#, registry, is-set, flagged, UNEQUAL, of-sign, of-unequal, key-atom, entry-key, entry-rest, asserted, EntryFits, entry-of, record-of, dt-with, state-with, state}
 use Rattle.solver.specs.Memory.Levels.{begun, entry-level, MarksSound, RecordsSound, Opened, Dropped, Popped}
 use Rattle.solver.proofs.Memory.Frames.{flagged-kept}
 use Rattle.solver.proofs.Memory.Signs.{gather-range, Tests, keep-gathered, entry-same, record-same}
@@ -89,11 +89,12 @@ marks-more z h = record { levels-fit = z .levels-fit; rise = z .rise; within = �
 -- ---- the records
 
 -- levels that agree
-levels-same : (b : Bool) (s : List ℕ) (lv lw : ℕ → ℕ) → ((i : ℕ) → i < records# s → lv i ≡ lw i) → record-of b s lv ≡ record-of b s lw
-levels-same b s lv lw h = record-same b s s lw lv (records# s) refl refl (λ i l. refl) (λ i l. refl) h
+levels-same : (p : ℕ → Bool) (s : List ℕ) (lv lw : ℕ → ℕ) → ((i : ℕ) → i < records# s → lv i ≡ lw i) →
+    record-of p s lv ≡ record-of p s lw
+levels-same p s lv lw h = record-same p s s lw lv (records# s) refl refl (λ i l. refl) h
 
 -- the state with other levels of the entries
-pub state-by-levels : (c e s : List ℕ) (lv lw : ℕ → ℕ) → ((b : Bool) → record-of b s lw ≡ record-of b s lv) →
+pub state-by-levels : (c e s : List ℕ) (lv lw : ℕ → ℕ) → ((p : ℕ → Bool) → record-of p s lw ≡ record-of p s lv) →
     state c e s lw ≡ state c e s lv
 unfolding state-with dt-with
 state-by-levels c e s lv lw q i = record {
@@ -103,8 +104,9 @@ state-by-levels c e s lv lw q i = record {
   level = level e;
   dt = record {
     marks = flagged s MARK;
-    level-record = q true i;
-    negative-record = q false i;
+    level-record = q (of-sign true) i;
+    negative-record = q (of-sign false) i;
+    disequalities = q of-unequal i;
     lasting = flagged s LASTING;
     emitted = flagged s EMITTED;
     split-done = flagged s SPLIT;
@@ -112,15 +114,17 @@ state-by-levels c e s lv lw q i = record {
 }
 
 -- what a test of the level says of an entry
-level-tested : (b : Bool) (s : List ℕ) (lv : ℕ → ℕ) (to i : ℕ) (t : Bool) → leb (lv i) to ≡ t →
-    Tests (λ (a : AssertedTester). leb (a .level) to) t (entry-of b s lv i)
-unfolding entry-of asserted-at
-level-tested b s lv to i t h = go (of-sign b (at s REC-KEY i))
+level-tested : (p : ℕ → Bool) (s : List ℕ) (lv : ℕ → ℕ) (to i : ℕ) (t : Bool) → leb (lv i) to ≡ t →
+    Tests (λ (a : AssertedAtom). leb (a .level) to) t (entry-of p s lv i)
+unfolding entry-of asserted
+level-tested p s lv to i t h = go (p (entry-key s i)) (ltb (entry-key s i) UNEQUAL)
   where
-    go : (d : Bool) → Tests (λ (a : AssertedTester). leb (a .level) to) t
-        (cond d (some (record { atom = key-atom (at s REC-KEY i); lit = at s REC-LIT i; level = lv i })) none)
-    go true = h
-    go false = tt
+    go : (d k : Bool) → Tests (λ (a : AssertedAtom). leb (a .level) to) t
+        (cond d (some (cond k (record { atom = key-atom (entry-key s i); lit = entry-rest s i; level = lv i })
+        (record { atom = entry-rest s i; lit = 2 * (entry-key s i - UNEQUAL) + 1; level = lv i }))) none)
+    go true true = h
+    go true false = h
+    go false k = tt
 
 -- ---- push
 
@@ -168,8 +172,8 @@ module _ {s : List ℕ} {m m′ : TesterMarks} {n : ℕ} (z : MarksSound s m) (l
           ∙ begun-not (m′ .counts) (m .levels) i (omega arith)
           ∙ begun-same (m .counts) (m′ .counts) (m .levels) i old-count
 
-      same : (b : Bool) → record-of b s (entry-level m′) ≡ record-of b s (entry-level m)
-      same b = levels-same b s (entry-level m′) (entry-level m) each
+      same : (p : ℕ → Bool) → record-of p s (entry-level m′) ≡ record-of p s (entry-level m)
+      same p = levels-same p s (entry-level m′) (entry-level m) each
 
 -- ---- pop
 
@@ -207,26 +211,25 @@ module _ {s u : List ℕ} {m m′ : TesterMarks} {to n : ℕ} (z : RecordsSound 
             let q = d .count in omega arith;
       }
 
-  closed-entries : (b : Bool) → record-of b u (entry-level m′) ≡ pop-testers to (record-of b s (entry-level m))
-  unfolding record-of pop-testers entry-level
-  closed-entries b =
-      ap (λ (k : ℕ). gather (entry-of b u (entry-level m′)) (range 0 k)) (d .count)
-      ∙ gather-range (entry-of b u (entry-level m′)) (entry-of b s (entry-level m)) 0 n (λ i g h. each i (omega arith))
-      ∙ sym (keep-gathered (λ (a : AssertedTester). leb (a .level) to) (entry-of b s (entry-level m)) 0 (records# s) n few
-      (λ i g h. level-tested b s (entry-level m) to i true (stays i (omega arith)))
-      (λ i g h. level-tested b s (entry-level m) to i false (goes i (omega arith) (omega arith))))
+  closed-entries : (p : ℕ → Bool) → record-of p u (entry-level m′) ≡ pop-entries to (record-of p s (entry-level m))
+  unfolding record-of pop-entries entry-level
+  closed-entries p =
+      ap (λ (k : ℕ). gather (entry-of p u (entry-level m′)) (range 0 k)) (d .count)
+      ∙ gather-range (entry-of p u (entry-level m′)) (entry-of p s (entry-level m)) 0 n (λ i g h. each i (omega arith))
+      ∙ sym (keep-gathered (λ (a : AssertedAtom). leb (a .level) to) (entry-of p s (entry-level m)) 0 (records# s) n few
+      (λ i g h. level-tested p s (entry-level m) to i true (stays i (omega arith)))
+      (λ i g h. level-tested p s (entry-level m) to i false (goes i (omega arith) (omega arith))))
     where
       few : n ≤ records# s
       few = let r = w .within to l in omega arith
 
-      each : (i : ℕ) → i < n → entry-of b u (entry-level m′) i ≡ entry-of b s (entry-level m) i
+      each : (i : ℕ) → i < n → entry-of p u (entry-level m′) i ≡ entry-of p s (entry-level m) i
       each i h =
           let f = z .solver .records-fit in
           let g = few in
           let lower : entry-level m′ i ≡ entry-level m i =
           ap₂ (λ (cs : List ℕ) (k : ℕ). begun cs k i) same o ∙ sym (level-stays i h) in
-          entry-same b s u (entry-level m) (entry-level m′) i (d .kept .rest REC-KEY i tt (omega arith))
-          (d .kept .rest REC-LIT i tt (omega arith)) lower
+          entry-same p s u (entry-level m) (entry-level m′) i (d .kept .rest ENTRY i tt (omega arith)) lower
 
       stays : (i : ℕ) → i < n → leb (entry-level m i) to ≡ true
       stays i h = let r = level-stays i h in let q = begun-most (m .counts) to i in le-leb (entry-level m i) to (omega arith)
@@ -250,17 +253,20 @@ module _ {s u : List ℕ} {m m′ : TesterMarks} {to n : ℕ} (z : RecordsSound 
             (λ x h g. q .lasting x h (sym (ap is-set (d .kept .rest LASTING x tt h)) ∙ g))
             (λ i h.
             let r = d .count in
-            ap (λ (k : ℕ). term-kind (context c) (key-atom k)) (d .kept .rest REC-KEY i tt (omega arith)) ∙ q .records i (omega arith));
+            subst⁻¹ (EntryFits (context c)) (d .kept .rest ENTRY i tt (omega arith)) (q .records i (omega arith)));
         state = λ c v.
-            state-by-entries kept (z .solver .long) c v (entry-level m) (entry-level m′)
-            (pop-testers to (record-of true s (entry-level m))) (pop-testers to (record-of false s (entry-level m)))
-            (flagged-kept (d .kept) LASTING 0 tt refl) (closed-entries true) (closed-entries false);
+            state-by-entries kept (z .solver .long) c v (entry-level m) (entry-level m′) (left (of-sign true)) (left (of-sign false))
+            (left of-unequal) (flagged-kept (d .kept) LASTING 0 tt refl) (closed-entries (of-sign true))
+            (closed-entries (of-sign false)) (closed-entries of-unequal);
         kept = d .kept;
       }
+    where
+      left : (ℕ → Bool) → List AssertedAtom
+      left p = pop-entries to (record-of p s (entry-level m))
 
 -- no level above `to` is open
 pub closes-none : {s : List ℕ} {m : TesterMarks} {to : ℕ} → RecordsSound s → MarksSound s m → m .levels ≤ to → Popped s m to s m
-unfolding entry-level record-of pop-testers
+unfolding entry-level record-of pop-entries
 closes-none {s} {m} {to} z w l = record {
   sound = z;
   marks = w;
@@ -269,16 +275,18 @@ closes-none {s} {m} {to} z w l = record {
   entries = all;
   state-sound = λ c e q. q;
   state = λ c e.
-      state-by-entries (kept-none record-regions s) (z .solver .long) c e (entry-level m) (entry-level m)
-      (pop-testers to (record-of true s (entry-level m))) (pop-testers to (record-of false s (entry-level m))) refl (all true)
-      (all false);
+      state-by-entries (kept-none record-regions s) (z .solver .long) c e (entry-level m) (entry-level m) (left (of-sign true))
+      (left (of-sign false)) (left of-unequal) refl (all (of-sign true)) (all (of-sign false)) (all of-unequal);
   kept = kept-none (COUNTS ∷ RECORDED ∷ []) s;
 }
   where
+    left : (ℕ → Bool) → List AssertedAtom
+    left p = pop-entries to (record-of p s (entry-level m))
+
     low : (i : ℕ) → leb (entry-level m i) to ≡ true
     low i = let b = begun-most (m .counts) (m .levels) i in le-leb (entry-level m i) to (omega arith)
 
-    all : (b : Bool) → record-of b s (entry-level m) ≡ pop-testers to (record-of b s (entry-level m))
-    all b =
-        sym (keep-gathered (λ (a : AssertedTester). leb (a .level) to) (entry-of b s (entry-level m)) 0 (records# s) (records# s)
-        (omega arith) (λ i g h. level-tested b s (entry-level m) to i true (low i)) (λ i g h. absurd (omega arith)))
+    all : (p : ℕ → Bool) → record-of p s (entry-level m) ≡ pop-entries to (record-of p s (entry-level m))
+    all p =
+        sym (keep-gathered (λ (a : AssertedAtom). leb (a .level) to) (entry-of p s (entry-level m)) 0 (records# s) (records# s)
+        (omega arith) (λ i g h. level-tested p s (entry-level m) to i true (low i)) (λ i g h. absurd (omega arith)))

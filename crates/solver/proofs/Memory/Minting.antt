@@ -14,7 +14,7 @@ use Rattle.core.specs.declared.ids.TermId as TermId
 use Rattle.core.proofs.Lists.{range-in}
 use Rattle.solver.specs.State.{with-emitted, with-dt, with-marks, mark, make-app, marked-in, mint}
 use Rattle.theory.specs.Memory.Table.{merges}
-use Rattle.solver.specs.Memory.Table.{COUNTS, RECORDS, MARK, LASTING, EMITTED, SPLIT, solver-room, records#, SolverSound, is-set, flagged-from, role-kind, term-kind, dt-with, state-with}
+use Rattle.solver.specs.Memory.Table.{COUNTS, RECORDS, MARK, LASTING, EMITTED, SPLIT, solver-room, records#, SolverSound, is-set, flagged-from, role-kind, term-kind, of-sign, of-unequal, dt-with, state-with}
 use Rattle.solver.specs.Memory.Work.{W-MARK, NEXT, state-at, apps-from, first-in-class, app-word, ChainSound, CheckSound, Markable, Marked}
 use Rattle.solver.specs.Rules.{hand-out}
 use Rattle.solver.specs.declared.answer.TCheck as TCheck
@@ -260,8 +260,9 @@ module _ (s : List ℕ) {x : ℕ} {s′ : List ℕ} (z : SolverSound s) (l : x <
       let count : records# s′ ≡ records# s = k .rest COUNTS RECORDS tt (omega arith) in
       rw (
         registry-kept k tt (z .long),
-        record-kept k true lv fit count tt tt,
-        record-kept k false lv fit count tt tt,
+        record-kept k (of-sign true) lv fit count tt,
+        record-kept k (of-sign false) lv fit count tt,
+        record-kept k of-unequal lv fit count tt,
         flagged-kept k LASTING 0 tt refl,
         flagged-kept k SPLIT 0 tt refl,
         one-more,

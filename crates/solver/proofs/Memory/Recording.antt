@@ -1,22 +1,26 @@
--- A tester recorded: a key that has its entry, and the lasting record.
-use Rattle.core.proofs.Kit.{ℕ, zero, suc, _+_, _<_, _≡_, refl, sym, ap, ap₂, _∙_, subst, _⊎_, inl, inr, ⊎-elim, Bool, true, false, cond, List, [], _∷_, _++_, append-nil, none, some, ℕ-discrete, arith, eqb, ne-eqb}
+-- A key that has its entry; a tester recorded, in the lasting record too.
+use Rattle.core.proofs.Kit.{ℕ, zero, suc, _+_, _/_, _<_, _≡_, refl, sym, ap, ap₂, _∙_, subst, subst⁻¹, _⊎_, inl, inr, ⊎-elim, Bool, true, false, cond, List, [], _∷_, _++_, append-nil, none, some, ℕ-discrete, arith, eqb, ne-eqb, ltb-true}
 use Rattle.core.specs.Limits.{max-terms}
-use Rattle.core.specs.Lists.{any, cons-option, insert}
+use Rattle.core.specs.Lists.{cons-option, insert}
 use Rattle.core.specs.Context.{Context}
-use Rattle.core.specs.Memory.Words.{at, put, counted, Kept}
+use Rattle.core.specs.Memory.Words.{at, put, Kept}
 use Rattle.core.specs.Memory.Table.{context}
 use Rattle.core.proofs.Memory.Stores.{kept-more}
 use Rattle.theory.specs.Memory.Table.{level}
-use Rattle.solver.specs.State.{AssertedTester, with-dt, with-level-record, with-negative-record, with-lasting}
+use Rattle.solver.specs.State.{AssertedAtom, with-dt, with-level-record, with-negative-record, with-disequalities, with-lasting}
 use Rattle.solver.specs.Records.{recorded, entered, record-tester, record-negative}
-use Rattle.solver.specs.Memory.Table.{COUNTS, RECORDS, LASTING, RECORDED, REC-KEY, REC-LIT, max-records, solver-room, records#, is-set, flagged, term-kind, tester-key, of-sign, key-atom, record-of, dt-with, state-with, state, SolverSound, StateSound}
-use Rattle.solver.specs.Memory.Levels.{Recordable, NewEntry, Entered, Enters, TesterRecordable, Recorded}
+use Rattle.solver.specs.Memory.Table.{COUNTS, RECORDS, LASTING, RECORDED, ENTRY, UNEQUAL, solver-room, records#, is-set, flagged, term-kind, tester-key, of-sign, of-unequal, key-atom, entry-word, asserted, record-of, EntryFits, dt-with, state-with, state, SolverSound, StateSound, max-lits}
+use Rattle.solver.specs.Memory.Levels.{Recordable, NewEntry, Entered, with-entry, Enters, TesterRecordable, Recorded}
 use Rattle.solver.proofs.Memory.Flags.{flagged-insert}
 use Rattle.solver.proofs.Memory.Frames.{flagged-kept, record-kept, solver-kept}
 use Rattle.solver.proofs.Memory.TableStores.{kept-none, stores}
-use Rattle.solver.proofs.Memory.Signs.{key-own, key-other, key-atom-is, key-fits, sign-atom, recorded-by-key}
-use Rattle.solver.proofs.Memory.Entries.{old-key, new-key, entered-sound, entered-record, record-regions, records-changed, state-changed}
+use Rattle.solver.proofs.Memory.Signs.{key-own, key-other, key-tester, key-unequal, key-atom-is, key-fits, word-key, recorded-by-key}
+use Rattle.solver.proofs.Memory.Entries.{old-word, new-word, entered-sound, entered-record, record-regions, records-changed, state-changed}
 use Rattle.solver.proofs.Memory.Levels.{marks-more}
+
+cond-alike : {A : Type 0} (b : Bool) (x : A) → cond b x x ≡ x
+cond-alike true x = refl
+cond-alike false x = refl
 
 kept-both : {ws s t u : List ℕ} → Kept solver-room ws s t → Kept solver-room ws t u → Kept solver-room ws s u
 kept-both p q = record { long = q .long ∙ p .long; rest = λ b x a h. q .rest b x a h ∙ p .rest b x a h }
@@ -32,120 +36,126 @@ set-none = refl
 
 -- ---- a key
 
--- a key has an entry in the record of its sign if its flag says so
-recorded-by-flag : (b : Bool) (s : List ℕ) (lv : ℕ → ℕ) (k : ℕ) → SolverSound s → k < max-records → of-sign b k ≡ true →
-    recorded (record-of b s lv) (key-atom k) ≡ is-set (at s RECORDED k)
-recorded-by-flag b s lv k z h o =
-    let (fits, same) = sign-atom b k h o in
-    recorded-by-key b s lv (key-atom k) fits
-    ∙ ap (λ (j : ℕ). any (eqb j) (counted (at s REC-KEY) (records# s))) same
-    ∙ sym (z .recorded k h)
+-- an atom has an entry in the record of testers of a sign if the flag of its key says so
+recorded-by-flag : (b : Bool) (s : List ℕ) (lv : ℕ → ℕ) (x : ℕ) → SolverSound s → x < max-terms →
+    recorded (record-of (of-sign b) s lv) x ≡ is-set (at s RECORDED (tester-key b x))
+recorded-by-flag b s lv x z h = recorded-by-key b s lv x h ∙ sym (z .recorded (tester-key b x) (key-fits b x h))
 
-pub new-entry : {s : List ℕ} {k r : ℕ} → Recordable s k → r ≡ at s RECORDED k → r ≡ 0 → NewEntry s k
+pub new-entry : {s : List ℕ} {k r f : ℕ} → Recordable s k r → f ≡ at s RECORDED k → f ≡ 0 → NewEntry s k r
 new-entry z q n = record { may = z; new = sym q ∙ n }
 
 -- the key has an entry
-pub enters-old : {s : List ℕ} {k r : ℕ} (l : ℕ) → Recordable s k → r ≡ at s RECORDED k → (r ≡ 0 → ⊥) → Enters s k l s
-unfolding entered
-enters-old {s} {k} {r} l z q n = record {
+pub enters-old : {s : List ℕ} {k r f : ℕ} → Recordable s k r → f ≡ at s RECORDED k → (f ≡ 0 → ⊥) → Enters s k r s
+unfolding with-entry
+enters-old {s} {k} {r} {f} z q n = record {
   sound = z .sound;
   more = omega arith;
-  entries = λ b lv. sym (go b lv (of-sign b k) refl);
-  keys = λ i h. inr (i, h, refl);
-  kept = kept-none (COUNTS ∷ RECORDED ∷ REC-KEY ∷ REC-LIT ∷ []) s;
+  entries = λ p lv. sym (rw (ap is-set (sym q) ∙ set-true f n) (cond-alike (p k) (record-of p s lv)));
+  words = λ i h. inr (i, h, refl);
+  kept = kept-none (COUNTS ∷ RECORDED ∷ ENTRY ∷ []) s;
 }
-  where
-    flag : is-set (at s RECORDED k) ≡ true
-    flag = ap is-set (sym q) ∙ set-true r n
-
-    go : (b : Bool) (lv : ℕ → ℕ) (d : Bool) → of-sign b k ≡ d →
-        cond d (entered (lv (records# s)) (key-atom k) l (record-of b s lv)) (record-of b s lv) ≡ record-of b s lv
-    go b lv true o = rw (recorded-by-flag b s lv k (z .sound .solver) (z .key) o ∙ flag)
-    go b lv false o = refl
 
 -- it gets one
-pub enters-new : {s u : List ℕ} {k l r : ℕ} → Recordable s k → r ≡ at s RECORDED k → r ≡ 0 → Entered s k l u → Enters s k l u
-unfolding entered cons-option
-enters-new {s} {u} {k} {l} {r} z q n w = record {
+pub enters-new : {s u : List ℕ} {k r f : ℕ} → Recordable s k r → f ≡ at s RECORDED k → f ≡ 0 → Entered s k r u → Enters s k r u
+unfolding with-entry cons-option
+enters-new {s} {u} {k} {r} {f} z q n w = record {
   sound = entered-sound new w;
   more = let c = w .count in omega arith;
-  entries = λ b lv. entered-record new w b lv ∙ go b lv (of-sign b k) refl;
-  keys = λ i h. key i h (ℕ-discrete i (records# s));
+  entries = λ p lv. entered-record new w p lv ∙ sym (rw (ap is-set (sym q ∙ n) ∙ set-none) (go p lv (p k)));
+  words = λ i h. word i h (ℕ-discrete i (records# s));
   kept = w .kept;
 }
   where
-    new : NewEntry s k
+    new : NewEntry s k r
     new = new-entry z q n
 
-    flag : is-set (at s RECORDED k) ≡ false
-    flag = ap is-set (sym q ∙ n) ∙ set-none
+    go : (p : ℕ → Bool) (lv : ℕ → ℕ) (d : Bool) →
+        cond d (record-of p s lv ++ (asserted k r (lv (records# s)) ∷ [])) (record-of p s lv)
+        ≡ record-of p s lv ++ cons-option (cond d (some (asserted k r (lv (records# s)))) none) []
+    go p lv true = refl
+    go p lv false = sym (append-nil (record-of p s lv))
 
-    go : (b : Bool) (lv : ℕ → ℕ) (d : Bool) → of-sign b k ≡ d →
-        record-of b s lv ++ cons-option (cond d (some (record { atom = key-atom k; lit = l; level = lv (records# s) })) none) []
-        ≡ cond d (entered (lv (records# s)) (key-atom k) l (record-of b s lv)) (record-of b s lv)
-    go b lv true o = rw (recorded-by-flag b s lv k (z .sound .solver) (z .key) o ∙ flag)
-    go b lv false o = append-nil (record-of b s lv)
+    word : (i : ℕ) → i < records# u → Dec (i ≡ records# s) →
+        (at u ENTRY i ≡ entry-word k r) ⊎ ((j : ℕ) × (j < records# s) × (at u ENTRY i ≡ at s ENTRY j))
+    word i h (yes e) = inl (ap (at u ENTRY) e ∙ new-word new w)
+    word i h (no d) = let c = w .count in let g : i < records# s = omega arith in inr (i, g, old-word new w i g)
 
-    key : (i : ℕ) → i < records# u → Dec (i ≡ records# s) →
-        (at u REC-KEY i ≡ k) ⊎ ((j : ℕ) × (j < records# s) × (at u REC-KEY i ≡ at s REC-KEY j))
-    key i h (yes e) = inl (ap (at u REC-KEY) e ∙ new-key new w)
-    key i h (no d) = let c = w .count in let g : i < records# s = omega arith in inr (i, g, old-key new w i g)
+-- the words of the entries fit if the new one does
+pub entries-fit : {s u : List ℕ} {k r : ℕ} (cx : Context) → Enters s k r u → EntryFits cx (entry-word k r) →
+    ((i : ℕ) → i < records# s → EntryFits cx (at s ENTRY i)) → (i : ℕ) → i < records# u → EntryFits cx (at u ENTRY i)
+entries-fit cx w f old i h =
+    ⊎-elim (λ e. subst⁻¹ (EntryFits cx) e f) (λ (j, g, e). subst⁻¹ (EntryFits cx) e (old j g)) (w .words i h)
 
 -- ---- a tester
 
--- the key of a tester in the words of the definition
-entered-is : (b : Bool) (x l : ℕ) → x < max-terms → (v : ℕ) (es : List AssertedTester) →
-    entered v (key-atom (tester-key b x)) l es ≡ entered v x l es
-entered-is b x l h v es = ap (λ (a : ℕ). entered v a l es) (key-atom-is b x h)
+-- its entry in the words of the definition
+module _ (b : Bool) (x l : ℕ) (h : x < max-terms) where
+  tester-entry : (v : ℕ) → asserted (tester-key b x) l v ≡ record { atom = x; lit = l; level = v }
+  unfolding asserted
+  tester-entry v =
+      rw (key-tester b x h) (ap (λ (a : ℕ). record { atom = a; lit = l; level = v }) (key-atom-is b x h))
 
-tester-key-fits : {s : List ℕ} {x : ℕ} (b : Bool) → TesterRecordable s x → Recordable s (tester-key b x)
-tester-key-fits {x = x} b z = record { sound = z .sound; key = key-fits b x (z .atom) }
+  tester-fits : (cx : Context) → l < max-lits → term-kind cx x ≡ 4 → EntryFits cx (entry-word (tester-key b x) l)
+  tester-fits cx g k =
+      let e = word-key (tester-key b x) l g in
+      let fits = key-fits b x h in
+      let low = ltb-true (tester-key b x) UNEQUAL (key-tester b x h) in
+      record {
+        key = omega arith;
+        tester = λ w. ap (λ (n : ℕ). term-kind cx (key-atom n)) e ∙ ap (term-kind cx) (key-atom-is b x h) ∙ k;
+        equation = λ w. absurd (omega arith);
+      }
 
--- the atoms of the entries are testers
-entries-kind : (b : Bool) {s u : List ℕ} {x l : ℕ} (cx : Context) → x < max-terms → Enters s (tester-key b x) l u → term-kind cx x ≡ 4 →
-    ((i : ℕ) → i < records# s → term-kind cx (key-atom (at s REC-KEY i)) ≡ 4) →
-    (i : ℕ) → i < records# u → term-kind cx (key-atom (at u REC-KEY i)) ≡ 4
-entries-kind b {s} {u} {x} cx a w k old i h =
-    ⊎-elim (λ e. ap (λ (v : ℕ). term-kind cx (key-atom v)) e ∙ ap (term-kind cx) (key-atom-is b x a) ∙ k)
-    (λ (j, g, e). ap (λ (v : ℕ). term-kind cx (key-atom v)) e ∙ old j g) (w .keys i h)
+  -- the record of its sign
+  own-record : {s u : List ℕ} → SolverSound s → Enters s (tester-key b x) l u → (lv : ℕ → ℕ) →
+      record-of (of-sign b) u lv ≡ entered (lv (records# s)) x l (record-of (of-sign b) s lv)
+  unfolding entered with-entry
+  own-record {s} {u} z w lv =
+      w .entries (of-sign b) lv
+      ∙ rw (key-own b x h, tester-entry (lv (records# s)), recorded-by-flag b s lv x z h)
+
+  -- and the others
+  other-record : {s u : List ℕ} → Enters s (tester-key b x) l u → (p : ℕ → Bool) → p (tester-key b x) ≡ false → (lv : ℕ → ℕ) →
+      record-of p u lv ≡ record-of p s lv
+  other-record w p e lv = w .entries p lv ∙ rw e
+
+tester-key-fits : {s : List ℕ} {x l : ℕ} (b : Bool) → TesterRecordable s x l → Recordable s (tester-key b x) l
+tester-key-fits {x = x} b z = record { sound = z .sound; key = key-fits b x (z .atom); rest = z .lit }
 
 -- a negative one
-records-negative : {s u : List ℕ} {x l : ℕ} → TesterRecordable s x → Enters s (tester-key false x) l u → Recorded false s x l u
-unfolding state-with dt-with with-negative-record with-level-record with-lasting with-dt record-negative
+records-negative : {s u : List ℕ} {x l : ℕ} → TesterRecordable s x l → Enters s (tester-key false x) l u → Recorded false s x l u
+unfolding state-with dt-with with-disequalities with-negative-record with-level-record with-lasting with-dt record-negative
 records-negative {s} {u} {x} {l} z w = record {
   sound = w .sound;
   state-sound = λ c v g k.
       records-changed g kept (w .sound .solver) (λ y h q. g .lasting y h (sym (ap is-set (w .kept .rest LASTING y tt h)) ∙ q))
-      (entries-kind false (context c) (z .atom) w k (g .records));
+      (entries-fit (context c) w (tester-fits false x l (z .atom) (context c) (z .lit) k) (g .records));
   state = λ c v lv g.
-      state-changed kept (z .sound .solver .long) c v lv lv (flagged s LASTING) (record-of true s lv)
-      (entered (lv (records# s)) (key-atom (tester-key false x)) l (record-of false s lv)) (flagged-kept (w .kept) LASTING 0 tt refl)
-      (w .entries true lv ∙ ap (choose true lv) (key-other false x (z .atom)))
-      (w .entries false lv ∙ ap (choose false lv) (key-own false x (z .atom)))
-      ∙ ap (with-negative-record (state c v s lv))
-      (entered-is false x l (z .atom) (lv (records# s)) (record-of false s lv)
-      ∙ ap (λ (k : ℕ). entered k x l (record-of false s lv)) g);
+      state-changed kept (z .sound .solver .long) c v lv lv (flagged s LASTING) (record-of (of-sign true) s lv)
+      (entered (lv (records# s)) x l (record-of (of-sign false) s lv)) (record-of of-unequal s lv)
+      (flagged-kept (w .kept) LASTING 0 tt refl)
+      (other-record false x l (z .atom) w (of-sign true) (key-other false x (z .atom)) lv)
+      (own-record false x l (z .atom) (z .sound .solver) w lv)
+      (other-record false x l (z .atom) w of-unequal (key-unequal false x (z .atom)) lv)
+      ∙ ap (λ (k : ℕ). with-negative-record (state c v s lv) (entered k x l (record-of (of-sign false) s lv))) g;
   marks = λ m g. marks-more g (w .more);
 }
   where
-    choose : (b : Bool) (lv : ℕ → ℕ) → Bool → List AssertedTester
-    choose b lv d = cond d (entered (lv (records# s)) (key-atom (tester-key false x)) l (record-of b s lv)) (record-of b s lv)
-
     kept : Kept solver-room record-regions s u
-    kept = kept-more solver-room (COUNTS ∷ RECORDED ∷ REC-KEY ∷ REC-LIT ∷ []) record-regions s u tt (w .kept)
+    kept = kept-more solver-room (COUNTS ∷ RECORDED ∷ ENTRY ∷ []) record-regions s u tt (w .kept)
 
 -- a positive one stands in the lasting record too
-module _ {s t : List ℕ} {x : ℕ} (z : TesterRecordable s x) (e : t ≡ put s LASTING x 1) where
+module _ {s t : List ℕ} {x l : ℕ} (z : TesterRecordable s x l) (e : t ≡ put s LASTING x 1) where
   lasting-kept : Kept solver-room (LASTING ∷ []) s t
   lasting-kept = let a = z .atom in search (e, stores)
 
   lasting-word : (y : ℕ) → at t LASTING y ≡ cond (eqb y x) 1 (at s LASTING y)
-  lasting-word y = let a = z .atom in let l = z .sound .solver .long in search (e, stores)
+  lasting-word y = let a = z .atom in let m = z .sound .solver .long in search (e, stores)
 
   lasting-count : records# t ≡ records# s
   lasting-count = lasting-kept .rest COUNTS RECORDS tt (omega arith)
 
-  pub lasting-recordable : TesterRecordable t x
+  pub lasting-recordable : TesterRecordable t x l
   lasting-recordable = record {
     sound = record {
       solver = solver-kept lasting-kept tt tt tt tt (z .sound .solver);
@@ -153,9 +163,10 @@ module _ {s t : List ℕ} {x : ℕ} (z : TesterRecordable s x) (e : t ≡ put s 
           let n = lasting-count in
           let f = z .sound .solver .records-fit in
           let a = z .sound .keys i (omega arith) in
-          let b = lasting-kept .rest REC-KEY i tt (omega arith) in omega arith;
+          let b = ap (λ (w : ℕ). w / max-lits) (lasting-kept .rest ENTRY i tt (omega arith)) in omega arith;
     };
     atom = z .atom;
+    lit = z .lit;
   }
 
   -- the flags of the lasting record, in a table that keeps them
@@ -179,58 +190,55 @@ module _ {s t : List ℕ} {x : ℕ} (z : TesterRecordable s x) (e : t ≡ put s 
           old y h
           (ap is-set (sym (k y h ∙ lasting-word y ∙ ap (λ (b : Bool). cond b 1 (at s LASTING y)) (ne-eqb y x d))) ∙ g)
 
-  old-record : (b : Bool) (lv : ℕ → ℕ) → record-of b t lv ≡ record-of b s lv
-  old-record b lv = record-kept lasting-kept b lv (z .sound .solver .records-fit) lasting-count tt tt
+  old-record : (p : ℕ → Bool) (lv : ℕ → ℕ) → record-of p t lv ≡ record-of p s lv
+  old-record p lv = record-kept lasting-kept p lv (z .sound .solver .records-fit) lasting-count tt
 
-  records-positive : {u : List ℕ} {l : ℕ} → Enters t (tester-key true x) l u → Recorded true s x l u
-  unfolding state-with dt-with with-negative-record with-level-record with-lasting with-dt record-tester
-  records-positive {u} {l} w = record {
+  records-positive : {u : List ℕ} → Enters t (tester-key true x) l u → Recorded true s x l u
+  unfolding state-with dt-with with-disequalities with-negative-record with-level-record with-lasting with-dt record-tester
+  records-positive {u} w = record {
     sound = w .sound;
     state-sound = λ c v g k.
         records-changed g kept (w .sound .solver) (lasting-kind (context c) u same k (g .lasting))
-        (entries-kind true (context c) (z .atom) w k (old-kind c v g));
+        (entries-fit (context c) w (tester-fits true x l (z .atom) (context c) (z .lit) k) (old-fits c v g));
     state = λ c v lv g.
         state-changed kept (z .sound .solver .long) c v lv lv (insert x (flagged s LASTING))
-        (entered (lv (records# t)) (key-atom (tester-key true x)) l (record-of true t lv)) (record-of false s lv) (lasting-now u same)
-        (w .entries true lv ∙ ap (choose true lv) (key-own true x (z .atom)))
-        (w .entries false lv ∙ ap (choose false lv) (key-other true x (z .atom)) ∙ old-record false lv)
+        (entered (lv (records# t)) x l (record-of (of-sign true) t lv)) (record-of (of-sign false) s lv) (record-of of-unequal s lv)
+        (lasting-now u same) (own-record true x l (z .atom) (lasting-recordable .sound .solver) w lv)
+        (other-record true x l (z .atom) w (of-sign false) (key-other true x (z .atom)) lv ∙ old-record (of-sign false) lv)
+        (other-record true x l (z .atom) w of-unequal (key-unequal true x (z .atom)) lv ∙ old-record of-unequal lv)
         ∙ ap (with-level-record (with-lasting (state c v s lv) (insert x (flagged s LASTING))))
-        (entered-is true x l (z .atom) (lv (records# t)) (record-of true t lv)
-        ∙ ap₂ (λ (k : ℕ) (es : List AssertedTester). entered k x l es) (ap lv lasting-count ∙ g) (old-record true lv));
+        (ap₂ (λ (k : ℕ) (es : List AssertedAtom). entered k x l es) (ap lv lasting-count ∙ g) (old-record (of-sign true) lv));
     marks = λ m g. marks-more g (let a = w .more in let b = lasting-count in omega arith);
   }
     where
-      choose : (b : Bool) (lv : ℕ → ℕ) → Bool → List AssertedTester
-      choose b lv d = cond d (entered (lv (records# t)) (key-atom (tester-key true x)) l (record-of b t lv)) (record-of b t lv)
-
       same : (y : ℕ) → y < max-terms → at u LASTING y ≡ at t LASTING y
       same y h = w .kept .rest LASTING y tt h
 
       kept : Kept solver-room record-regions s u
       kept =
           kept-both (kept-more solver-room (LASTING ∷ []) record-regions s t tt lasting-kept)
-          (kept-more solver-room (COUNTS ∷ RECORDED ∷ REC-KEY ∷ REC-LIT ∷ []) record-regions t u tt (w .kept))
+          (kept-more solver-room (COUNTS ∷ RECORDED ∷ ENTRY ∷ []) record-regions t u tt (w .kept))
 
-      old-kind : (c v : List ℕ) → StateSound c v s → (i : ℕ) → i < records# t → term-kind (context c) (key-atom (at t REC-KEY i)) ≡ 4
-      old-kind c v g i h =
+      old-fits : (c v : List ℕ) → StateSound c v s → (i : ℕ) → i < records# t → EntryFits (context c) (at t ENTRY i)
+      old-fits c v g i h =
           let n = lasting-count in
           let f = z .sound .solver .records-fit in
-          ap (λ (k : ℕ). term-kind (context c) (key-atom k)) (lasting-kept .rest REC-KEY i tt (omega arith)) ∙ g .records i (omega arith)
+          subst⁻¹ (EntryFits (context c)) (lasting-kept .rest ENTRY i tt (omega arith)) (g .records i (omega arith))
 
   -- as the code has the key and the sign
-  pub positive-entered : {b : Bool} {u : List ℕ} {l : ℕ} → b ≡ true → Enters t x l u → Recorded b s x l u
+  pub positive-entered : {b : Bool} {u : List ℕ} → b ≡ true → Enters t x l u → Recorded b s x l u
   unfolding tester-key
-  positive-entered {u = u} {l = l} q w = subst (λ (v : Bool). Recorded v s x l u) (sym q) (records-positive w)
+  positive-entered {u = u} q w = subst (λ (v : Bool). Recorded v s x l u) (sym q) (records-positive w)
 
-pub negative-entered : {b : Bool} {s u : List ℕ} {x l : ℕ} → TesterRecordable s x → b ≡ false → Enters s (x + max-terms) l u →
+pub negative-entered : {b : Bool} {s u : List ℕ} {x l : ℕ} → TesterRecordable s x l → b ≡ false → Enters s (x + max-terms) l u →
     Recorded b s x l u
 unfolding tester-key
 negative-entered {s = s} {u = u} {x = x} {l = l} z q w = subst (λ (v : Bool). Recorded v s x l u) (sym q) (records-negative z w)
 
-pub positive-key : {s : List ℕ} {x : ℕ} → TesterRecordable s x → Recordable s x
+pub positive-key : {s : List ℕ} {x l : ℕ} → TesterRecordable s x l → Recordable s x l
 unfolding tester-key
 positive-key z = tester-key-fits true z
 
-pub negative-key : {s : List ℕ} {x : ℕ} → TesterRecordable s x → Recordable s (x + max-terms)
+pub negative-key : {s : List ℕ} {x l : ℕ} → TesterRecordable s x l → Recordable s (x + max-terms) l
 unfolding tester-key
 negative-key z = tester-key-fits false z

@@ -9,18 +9,17 @@ use Rattle.core.specs.Formed.{Formed, Signed}
 use Rattle.core.specs.Memory.Words.{at, put, counted, apart, Kept}
 use Rattle.core.specs.Memory.Table.{context, ContextSound}
 use Rattle.core.proofs.Lists.{T-and, not-true-false}
-use Rattle.core.proofs.Memory.Counted.{counted-same}
 use Rattle.core.proofs.Memory.Stores.{length-put, other-place}
 use Rattle.theory.specs.Atom.{Registered, register}
 use Rattle.theory.specs.Memory.Registry.{registry-size, atoms, RegistrySound}
 use Rattle.theory.specs.Memory.Table.{Engine}
 use Rattle.theory.proofs.Members.{in-either}
 use Rattle.solver.specs.State.{empty-state, with-atoms}
-use Rattle.solver.specs.Memory.Table.{REGISTRY, COUNTS, RECORDS, MARK, BLOCK, COLLECTED, LASTING, EMITTED, SPLIT, RECORDED, REC-KEY, solver-room, records#, registry, is-set, flagged, term-kind, key-atom, entry-of, record-of, dt-with, state-with, state, SolverSound, CollectedSound, Announced, StateSound}
+use Rattle.solver.specs.Memory.Table.{REGISTRY, COUNTS, RECORDS, MARK, BLOCK, COLLECTED, LASTING, EMITTED, SPLIT, RECORDED, ENTRY, solver-room, records#, registry, is-set, flagged, term-kind, EntryFits, entry-key, of-sign, of-unequal, entry-of, record-of, dt-with, state-with, state, SolverSound, CollectedSound, Announced, StateSound}
 use Rattle.solver.specs.Memory.Recording.{flag-words, Wiped, SolverCleared, MayRegister, Registers}
 use Rattle.solver.proofs.Signature.{empty-signed}
 use Rattle.solver.proofs.Memory.Flags.{has, in-flagged, flagged-none}
-use Rattle.solver.proofs.Memory.Frames.{flagged-kept, record-kept, announced-kept}
+use Rattle.solver.proofs.Memory.Frames.{flagged-kept, record-kept, announced-kept, keys-kept}
 
 -- ---- the registry's part put back
 
@@ -67,11 +66,8 @@ module _ {s u : List ℕ} (k : Kept solver-room (REGISTRY ∷ []) s u) (z : Solv
   same-count : records# u ≡ records# s
   same-count = k .rest COUNTS RECORDS tt (omega arith)
 
-  same-keys : counted (at u REC-KEY) (records# u) ≡ counted (at s REC-KEY) (records# s)
-  same-keys =
-      let fit = z .records-fit in
-      ap (counted (at u REC-KEY)) same-count
-      ∙ counted-same (at u REC-KEY) (at s REC-KEY) (records# s) (λ i h. k .rest REC-KEY i tt (omega arith))
+  same-keys : counted (entry-key u) (records# u) ≡ counted (entry-key s) (records# s)
+  same-keys = keys-kept k tt (records# s) (z .records-fit) same-count
 
   solver-with : RegistrySound (registry u) → SolverSound u
   solver-with g =
@@ -95,8 +91,9 @@ module _ {s u : List ℕ} (k : Kept solver-room (REGISTRY ∷ []) s u) (z : Solv
         flagged-kept k LASTING 0 tt refl,
         flagged-kept k EMITTED 0 tt refl,
         flagged-kept k SPLIT 0 tt refl,
-        record-kept k true lv (z .records-fit) same-count tt tt,
-        record-kept k false lv (z .records-fit) same-count tt tt,
+        record-kept k (of-sign true) lv (z .records-fit) same-count tt,
+        record-kept k (of-sign false) lv (z .records-fit) same-count tt,
+        record-kept k of-unequal lv (z .records-fit) same-count tt,
       )
 
 module _ {c e s u : List ℕ} (k : Kept solver-room (REGISTRY ∷ []) s u) (z : StateSound c e s) where
@@ -116,8 +113,7 @@ module _ {c e s u : List ℕ} (k : Kept solver-room (REGISTRY ∷ []) s u) (z : 
         announced = announced-kept k tt tt (z .announced);
         collected = λ x h q. still x h (z .collected x h (sym (ap is-set (k .rest COLLECTED x tt h)) ∙ q));
         lasting = λ x h q. z .lasting x h (sym (ap is-set (k .rest LASTING x tt h)) ∙ q);
-        records = λ i h.
-            ap (λ (v : ℕ). term-kind (context c) (key-atom v)) (k .rest REC-KEY i tt (omega arith)) ∙ z .records i (omega arith);
+        records = λ i h. subst⁻¹ (EntryFits (context c)) (k .rest ENTRY i tt (omega arith)) (z .records i (omega arith));
       }
     where
       still : (x : ℕ) → x < max-terms → CollectedSound (context c) s x → CollectedSound (context c) u x
@@ -215,9 +211,9 @@ module _ (s t r : List ℕ) (l : table-words ≤ length s) (w : Wiped s t) (n : 
   no-records : records# cleared-table ≡ 0
   no-records = cleared-word COUNTS RECORDS (omega arith) (omega arith)
 
-  no-entries : counted (at cleared-table REC-KEY) (records# cleared-table) ≡ []
+  no-entries : counted (entry-key cleared-table) (records# cleared-table) ≡ []
   unfolding counted range
-  no-entries = ap (counted (at cleared-table REC-KEY)) no-records
+  no-entries = ap (counted (entry-key cleared-table)) no-records
 
   pub clears : RegistrySound r → atoms r ≡ [] → SolverCleared cleared-table
   unfolding is-set any
@@ -284,9 +280,9 @@ module _ {c e u : List ℕ} (core : ContextSound c) (empty : context c ≡ empty
         records = λ i h. absurd (omega arith);
       }
 
-  no-record : (b : Bool) (lv : ℕ → ℕ) → record-of b u lv ≡ []
+  no-record : (p : ℕ → Bool) (lv : ℕ → ℕ) → record-of p u lv ≡ []
   unfolding record-of gather range
-  no-record b lv = ap (λ (n : ℕ). gather (entry-of b u lv) (range 0 n)) (z .records)
+  no-record p lv = ap (λ (n : ℕ). gather (entry-of p u lv) (range 0 n)) (z .records)
 
   pub cleared-state : (lv : ℕ → ℕ) → state c e u lv ≡ empty-state
   unfolding state-with dt-with empty-state
@@ -300,6 +296,7 @@ module _ {c e u : List ℕ} (core : ContextSound c) (empty : context c ≡ empty
         z .lasting,
         z .emitted,
         z .split-done,
-        no-record true lv,
-        no-record false lv,
+        no-record (of-sign true) lv,
+        no-record (of-sign false) lv,
+        no-record of-unequal lv,
       )

@@ -1,14 +1,15 @@
--- The level record and the record of negative testers in one list: keys by sign and atom, and what is gathered from the list when it
--- stays, grows by an entry or is cut.
-use Rattle.core.proofs.Kit.{ℕ, zero, suc, _+_, _-_, _≤_, _<_, _≡_, refl, sym, ap, _∙_, Bool, true, false, cond, not, List, [], _∷_, _++_, map, Option, none, some, decLt, arith, eqb, ne-eqb, ltb, ltb-true, le-ltb, add-zero, true≢false}
+-- The three records in one list: the keys of testers by sign and atom, those of unequal terms by variable, the words of entries, and what
+-- is gathered from the list when it stays, grows by an entry or is cut.
+use Rattle.core.proofs.Kit.{ℕ, zero, suc, _+_, _-_, _*_, _/_, _%_, _≤_, _<_, _≡_, refl, sym, ap, ap₂, _∙_, Bool, true, false, cond, not, _&&_, List, [], _∷_, _++_, map, Option, none, some, decLt, arith, eqb, ne-eqb, eqb-false, ltb, ltb-true, le-ltb, add-zero}
 use borrow.Author.Tests.{lt-ltb}
 use Rattle.core.specs.Limits.{max-terms}
+use Rattle.core.specs.Ids as Ids
 use Rattle.core.specs.Lists.{any, keep, gather, cons-option, range}
 use Rattle.core.specs.Memory.Words.{at, counted}
-use Rattle.core.proofs.Lists.{range-in}
-use Rattle.solver.specs.State.{AssertedTester}
-use Rattle.solver.specs.Records.{recorded}
-use Rattle.solver.specs.Memory.Table.{REC-KEY, REC-LIT, max-records, records#, tester-key, of-sign, key-atom, asserted-at, entry-of, record-of}
+use Rattle.core.proofs.Lists.{range-in, T-and, T-true, true-T}
+use Rattle.solver.specs.State.{AssertedAtom}
+use Rattle.solver.specs.Records.{recorded, has-literal}
+use Rattle.solver.specs.Memory.Table.{ENTRY, max-records, UNEQUAL, records#, tester-key, unequal-key, of-sign, of-unequal, key-atom, entry-word, entry-key, entry-rest, asserted, entry-of, record-of, max-lits}
 use Rattle.solver.proofs.Basics.{eqb-same, gather-same}
 
 -- ---- keys
@@ -16,12 +17,22 @@ use Rattle.solver.proofs.Basics.{eqb-same, gather-same}
 pub key-own : (b : Bool) (x : ℕ) → x < max-terms → of-sign b (tester-key b x) ≡ true
 unfolding of-sign tester-key
 key-own true x h = lt-ltb x max-terms h
-key-own false x h = rw (le-ltb (x + max-terms) max-terms (omega arith))
+key-own false x h = rw (le-ltb (x + max-terms) max-terms (omega arith), lt-ltb (x + max-terms) UNEQUAL (omega arith))
 
 pub key-other : (b : Bool) (x : ℕ) → x < max-terms → of-sign (not b) (tester-key b x) ≡ false
 unfolding of-sign tester-key
 key-other true x h = rw (lt-ltb x max-terms h)
 key-other false x h = le-ltb (x + max-terms) max-terms (omega arith)
+
+-- the key of a tester is none of unequal terms
+pub key-tester : (b : Bool) (x : ℕ) → x < max-terms → ltb (tester-key b x) UNEQUAL ≡ true
+unfolding tester-key
+key-tester true x h = lt-ltb x UNEQUAL (omega arith)
+key-tester false x h = lt-ltb (x + max-terms) UNEQUAL (omega arith)
+
+pub key-unequal : (b : Bool) (x : ℕ) → x < max-terms → of-unequal (tester-key b x) ≡ false
+unfolding of-unequal
+key-unequal b x h = ap not (key-tester b x h)
 
 pub key-atom-is : (b : Bool) (x : ℕ) → x < max-terms → key-atom (tester-key b x) ≡ x
 unfolding key-atom tester-key
@@ -33,25 +44,32 @@ unfolding tester-key
 key-fits true x h = omega arith
 key-fits false x h = omega arith
 
--- a key whose atom is a term fits
-pub atom-fits : (k : ℕ) → key-atom k < max-terms → k < max-records
-unfolding key-atom
-atom-fits k h = go (decLt k max-terms)
-  where
-    go : Dec (k < max-terms) → k < max-records
-    go (yes l) = omega arith
-    go (no l) = let q = rw (le-ltb k max-terms (omega arith)) at h in omega arith
+-- a key of a sign is one of a tester
+pub sign-tester : (b : Bool) (k : ℕ) → of-sign b k ≡ true → ltb k UNEQUAL ≡ true
+unfolding of-sign
+sign-tester true k e = let l = ltb-true k max-terms e in lt-ltb k UNEQUAL (omega arith)
+sign-tester false k e = T-true (ltb k UNEQUAL) (T-and (not (ltb k max-terms)) (ltb k UNEQUAL) (true-T _ e) .1)
 
--- the atom of a key of that sign
-pub sign-atom : (b : Bool) (k : ℕ) → k < max-records → of-sign b k ≡ true → (key-atom k < max-terms) × (tester-key b (key-atom k) ≡ k)
-unfolding of-sign key-atom tester-key
-sign-atom true k h o = let l = ltb-true k max-terms o in rw (lt-ltb k max-terms l) (l, refl)
-sign-atom false k h o = go (decLt k max-terms)
-  where
-    go : Dec (k < max-terms) →
-        (cond (ltb k max-terms) k (k - max-terms) < max-terms) × (cond (ltb k max-terms) k (k - max-terms) + max-terms ≡ k)
-    go (yes l) = absurd (true≢false (sym o ∙ ap not (lt-ltb k max-terms l)))
-    go (no l) = rw (le-ltb k max-terms (omega arith)) (omega arith, omega arith)
+-- the key of a literal is one of unequal terms, and of no tester
+pub unequal-own : (l : ℕ) → of-unequal (unequal-key l) ≡ true
+unfolding of-unequal unequal-key
+unequal-own l = ap not (le-ltb (UNEQUAL + Ids.var l) UNEQUAL (omega arith))
+
+pub unequal-other : (b : Bool) (l : ℕ) → of-sign b (unequal-key l) ≡ false
+unfolding of-sign unequal-key
+unequal-other true l = le-ltb (UNEQUAL + Ids.var l) max-terms (omega arith)
+unequal-other false l =
+    rw (le-ltb (UNEQUAL + Ids.var l) max-terms (omega arith), le-ltb (UNEQUAL + Ids.var l) UNEQUAL (omega arith))
+
+-- ---- words
+
+pub word-key : (k r : ℕ) → r < max-lits → entry-word k r / max-lits ≡ k
+unfolding entry-word
+word-key k r h = omega arith
+
+pub word-rest : (k r : ℕ) → r < max-lits → entry-word k r % max-lits ≡ r
+unfolding entry-word
+word-rest k r h = omega arith
 
 -- ---- what is gathered
 
@@ -123,54 +141,80 @@ module _ {A : Type 0} where
 
 -- ---- the records of a table
 
--- an entry whose words and level are as before
-pub entry-same : (b : Bool) (s u : List ℕ) (lv lw : ℕ → ℕ) (i : ℕ) → at u REC-KEY i ≡ at s REC-KEY i → at u REC-LIT i ≡ at s REC-LIT i →
-    lw i ≡ lv i → entry-of b u lw i ≡ entry-of b s lv i
-unfolding entry-of asserted-at
-entry-same b s u lv lw i k l v j =
-    cond (of-sign b (k j)) (some (record { atom = key-atom (k j); lit = l j; level = v j })) none
+-- an entry whose word and level are as before
+pub entry-same : (p : ℕ → Bool) (s u : List ℕ) (lv lw : ℕ → ℕ) (i : ℕ) → at u ENTRY i ≡ at s ENTRY i → lw i ≡ lv i →
+    entry-of p u lw i ≡ entry-of p s lv i
+unfolding entry-of
+entry-same p s u lv lw i k v j =
+    cond (p (k j / max-lits)) (some (asserted (k j / max-lits) (k j % max-lits) (v j))) none
 
--- an entry of a key, if it is of that sign
-pub entry-is : (b : Bool) (u : List ℕ) (lv : ℕ → ℕ) (i k l : ℕ) → at u REC-KEY i ≡ k → at u REC-LIT i ≡ l →
-    entry-of b u lv i ≡ cond (of-sign b k) (some (record { atom = key-atom k; lit = l; level = lv i })) none
-unfolding entry-of asserted-at
-entry-is b u lv i k l p q j = cond (of-sign b (p j)) (some (record { atom = key-atom (p j); lit = q j; level = lv i })) none
+-- an entry of a key, if the test lets it through
+pub entry-is : (p : ℕ → Bool) (u : List ℕ) (lv : ℕ → ℕ) (i k r : ℕ) → r < max-lits → at u ENTRY i ≡ entry-word k r →
+    entry-of p u lv i ≡ cond (p k) (some (asserted k r (lv i))) none
+unfolding entry-of
+entry-is p u lv i k r h q =
+    ap₂ (λ (x y : ℕ). cond (p x) (some (asserted x y (lv i))) none) (ap (λ (w : ℕ). w / max-lits) q ∙ word-key k r h)
+    (ap (λ (w : ℕ). w % max-lits) q ∙ word-rest k r h)
 
-pub record-same : (b : Bool) (s u : List ℕ) (lv lw : ℕ → ℕ) (n : ℕ) → records# s ≡ n → records# u ≡ n →
-    ((i : ℕ) → i < n → at u REC-KEY i ≡ at s REC-KEY i) → ((i : ℕ) → i < n → at u REC-LIT i ≡ at s REC-LIT i) →
-    ((i : ℕ) → i < n → lw i ≡ lv i) → record-of b u lw ≡ record-of b s lv
+pub record-same : (p : ℕ → Bool) (s u : List ℕ) (lv lw : ℕ → ℕ) (n : ℕ) → records# s ≡ n → records# u ≡ n →
+    ((i : ℕ) → i < n → at u ENTRY i ≡ at s ENTRY i) → ((i : ℕ) → i < n → lw i ≡ lv i) → record-of p u lw ≡ record-of p s lv
 unfolding record-of
-record-same b s u lv lw n p q k l v =
-    ap (λ (m : ℕ). gather (entry-of b u lw) (range 0 m)) q
-    ∙ gather-range (entry-of b u lw) (entry-of b s lv) 0 n
-    (λ i g h. entry-same b s u lv lw i (k i (omega arith)) (l i (omega arith)) (v i (omega arith)))
-    ∙ ap (λ (m : ℕ). gather (entry-of b s lv) (range 0 m)) (sym p)
+record-same p s u lv lw n e q k v =
+    ap (λ (m : ℕ). gather (entry-of p u lw) (range 0 m)) q
+    ∙ gather-range (entry-of p u lw) (entry-of p s lv) 0 n
+    (λ i g h. entry-same p s u lv lw i (k i (omega arith)) (v i (omega arith)))
+    ∙ ap (λ (m : ℕ). gather (entry-of p s lv) (range 0 m)) (sym e)
 
--- an atom has an entry in a record if its key is in the list
+-- an atom has an entry in a record of testers if its key is in the list
 pub recorded-by-key : (b : Bool) (s : List ℕ) (lv : ℕ → ℕ) (x : ℕ) → x < max-terms →
-    recorded (record-of b s lv) x ≡ any (eqb (tester-key b x)) (counted (at s REC-KEY) (records# s))
-unfolding recorded record-of counted entry-of asserted-at of-sign key-atom tester-key any-option
+    recorded (record-of (of-sign b) s lv) x ≡ any (eqb (tester-key b x)) (counted (entry-key s) (records# s))
+unfolding recorded record-of counted entry-of asserted of-sign key-atom tester-key any-option
 recorded-by-key b s lv x h =
-    any-gathered (λ (a : AssertedTester). eqb (a .atom) x) (entry-of b s lv) (eqb (tester-key b x)) (at s REC-KEY)
-    (range 0 (records# s)) (λ i. each b (at s REC-KEY i) (at s REC-LIT i) (lv i))
+    any-gathered test (entry-of (of-sign b) s lv) (eqb (tester-key b x)) (entry-key s) (range 0 (records# s))
+    (λ i. each b (entry-key s i) (entry-rest s i) (lv i))
   where
-    test : AssertedTester → Bool
+    test : AssertedAtom → Bool
     test a = eqb (a .atom) x
 
-    each : (d : Bool) (k l v : ℕ) →
-        any-option test (cond (of-sign d k) (some (record { atom = key-atom k; lit = l; level = v })) none) ≡ eqb (tester-key d x) k
-    each true k l v = go (decLt k max-terms)
+    each : (d : Bool) (k r v : ℕ) → any-option test (cond (of-sign d k) (some (asserted k r v)) none) ≡ eqb (tester-key d x) k
+    each true k r v = go (decLt k max-terms)
       where
-        go : Dec (k < max-terms) →
-            any-option test (cond (ltb k max-terms) (some (record { atom = key-atom k; lit = l; level = v })) none) ≡ eqb x k
-        go (yes g) = rw (lt-ltb k max-terms g) (eqb-same k x x k (λ e. sym e) (λ e. sym e))
+        go : Dec (k < max-terms) → any-option test (cond (ltb k max-terms) (some (asserted k r v)) none) ≡ eqb x k
+        go (yes g) =
+            rw (lt-ltb k max-terms g, lt-ltb k UNEQUAL (omega arith)) (eqb-same k x x k (λ e. sym e) (λ e. sym e))
         go (no g) = rw (le-ltb k max-terms (omega arith)) (sym (ne-eqb x k (omega arith)))
-    each false k l v = go (decLt k max-terms)
+    each false k r v = go (decLt k max-terms) (decLt k UNEQUAL)
       where
-        go : Dec (k < max-terms) →
-            any-option test (cond (not (ltb k max-terms)) (some (record { atom = key-atom k; lit = l; level = v })) none)
-            ≡ eqb (x + max-terms) k
-        go (yes g) = rw (lt-ltb k max-terms g) (sym (ne-eqb (x + max-terms) k (omega arith)))
+        go : Dec (k < max-terms) → Dec (k < UNEQUAL) →
+            any-option test (cond (not (ltb k max-terms) && ltb k UNEQUAL) (some (asserted k r v)) none) ≡ eqb (x + max-terms) k
+        go (yes g) e = rw (lt-ltb k max-terms g) (sym (ne-eqb (x + max-terms) k (omega arith)))
+        go (no g) (yes e) =
+            rw (le-ltb k max-terms (omega arith), lt-ltb k UNEQUAL e)
+            (eqb-same (k - max-terms) x (x + max-terms) k (λ q. omega arith) (λ q. omega arith))
+        go (no g) (no e) =
+            rw (le-ltb k max-terms (omega arith), le-ltb k UNEQUAL (omega arith)) (sym (ne-eqb (x + max-terms) k (omega arith)))
+
+-- a negative literal has an entry in the record of unequal terms if its key is in the list
+pub listed-by-key : (s : List ℕ) (lv : ℕ → ℕ) (l : ℕ) → Ids.is-positive l ≡ false →
+    has-literal (record-of of-unequal s lv) l ≡ any (eqb (unequal-key l)) (counted (entry-key s) (records# s))
+unfolding has-literal record-of counted entry-of asserted of-unequal unequal-key any-option
+listed-by-key s lv l h =
+    any-gathered test (entry-of of-unequal s lv) (eqb (unequal-key l)) (entry-key s) (range 0 (records# s))
+    (λ i. each (entry-key s i) (entry-rest s i) (lv i))
+  where
+    test : AssertedAtom → Bool
+    test a = eqb (a .lit) l
+
+    odd : (l % 2 ≡ 0 → ⊥)
+    odd = eqb-false (l % 2) 0 h
+
+    each : (k r v : ℕ) → any-option test (cond (not (ltb k UNEQUAL)) (some (asserted k r v)) none) ≡ eqb (UNEQUAL + Ids.var l) k
+    each k r v = go (decLt k UNEQUAL)
+      where
+        go : Dec (k < UNEQUAL) →
+            any-option test (cond (not (ltb k UNEQUAL)) (some (asserted k r v)) none) ≡ eqb (UNEQUAL + Ids.var l) k
+        go (yes g) = rw (lt-ltb k UNEQUAL g) (sym (ne-eqb (UNEQUAL + Ids.var l) k (omega arith)))
         go (no g) =
-            rw (le-ltb k max-terms (omega arith))
-            (eqb-same (k - max-terms) x (x + max-terms) k (λ e. omega arith) (λ e. omega arith))
+            let o = odd in
+            rw (le-ltb k UNEQUAL (omega arith))
+            (eqb-same (2 * (k - UNEQUAL) + 1) l (UNEQUAL + Ids.var l) k (λ q. omega arith) (λ q. omega arith))

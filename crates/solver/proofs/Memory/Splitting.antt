@@ -27,7 +27,7 @@ use Rattle.solver.specs.Rules.{Phase, Positive, NoPhase, Testers, make-t
 use Rattle.solver.specs.declared.answer.TCheck as TCheck
 use Rattle.solver.specs.declared.work.CtorOf as CtorOf
 use Rattle.solver.specs.declared.exhaustiveness.Undetermined as Undetermined
-use Rattle.solver.specs.Memory.Table.{watched-kind, COUNTS, RECORDS, MARK, LASTING, EMITTED, SPLIT, solver-room, records#, SolverSound, is-set, flagged-from, term-kind, state-with, dt-with}
+use Rattle.solver.specs.Memory.Table.{watched-kind, COUNTS, RECORDS, MARK, LASTING, EMITTED, SPLIT, solver-room, records#, SolverSound, is-set, flagged-from, term-kind, of-sign, of-unequal, state-with, dt-with}
 use Rattle.solver.specs.Memory.Work.{W-MARK, state-at, apps-from, first-in-class, ctor-meaning, CtorOfClass, WorkSound, CheckSound}
 use Rattle.solver.specs.Memory.Splitting.{is-watched, is-open, is-undetermined, Found, Passed, Testable, testers-at, MakesTester, Splittable, ctors-of, TestersOutcome, MakesTesters, SplitsOn, FoundAsked, FoundAnswered}
 use Rattle.solver.specs.Memory.Answer.{split-of, listed, split-atoms, split-guard, split-phases, SplitSound, SplitCleared, TesterPushed, Tried}
@@ -610,8 +610,9 @@ module _ {s : List ℕ} (z : SolverSound s) {x : ℕ} (l : x < max-terms) where
       let n : records# flagged-split ≡ records# s = kept .rest COUNTS RECORDS tt (omega arith) in
       sym (rw (
         registry-kept kept tt (z .long),
-        record-kept kept true lv (z .records-fit) n tt tt,
-        record-kept kept false lv (z .records-fit) n tt tt,
+        record-kept kept (of-sign true) lv (z .records-fit) n tt,
+        record-kept kept (of-sign false) lv (z .records-fit) n tt,
+        record-kept kept of-unequal lv (z .records-fit) n tt,
         flagged-kept kept LASTING 0 tt refl,
         flagged-kept kept EMITTED 0 tt refl,
         one-more,

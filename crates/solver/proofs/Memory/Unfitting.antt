@@ -7,15 +7,15 @@ use Rattle.core.specs.Ids.{lit, negate}
 use Rattle.core.specs.Lists.{first, total, mem, insert, pairs}
 use Rattle.core.specs.Term as Term
 use Rattle.core.specs.Term.{Term, Eq}
-use Rattle.core.specs.Context.{Context, CtorApp, SelApp, TesterApp, tester-app, mk-eq, places, terms-fit, sort-of, dt-constructors, dt-tester, dt-selectors}
+use Rattle.core.specs.Context.{Context, CtorApp, SelApp, TesterApp, tester-app, mk-eq, places, terms-fit, sort-of, children, dt-constructors, dt-tester, dt-selectors}
 use Rattle.core.specs.Formed.{Extends}
 use Rattle.core.proofs.Lists.{T-and, true-T, not-true-false}
 use Rattle.theory.specs.Types.{EqLeaf}
 use Rattle.theory.specs.Atom.{var-of-atom}
-use Rattle.solver.specs.State.{State, AssertedTester, MadeIn, with-terms, with-dt, with-marks, with-emitted, with-split-done, ctor-apps, sel-apps, testers, watched-dt-terms, equal, ctor-of-class, mark, made-in, make-app, marked-in, mint}
-use Rattle.solver.specs.Records.{is-some, tester-conflict, negative-conflict}
-use Rattle.solver.specs.Rules.{TCheck, Split, Unknown, Ruled, pass, answered, go-on, then, try-each, conflict-of, tester-clash-at, tester-clash, negative-clash-at, negative-clash, mint-on-both, same-constructor, mint-selectors, instantiate-injectivity-selectors, hand-out, hand-out-made, make-eq, equate-field, collapse-field, collapse-at, collapse-lemma, tester-lemma-at, tester-lemma, Fields, mint-field, mint-fields, guard, equate-with, instantiate, instantiate-at, instantiate-constructor, Testers, make-tester, split-on, to-split, split-answer, exhaustiveness-split, has-undetermined-class, unknown-fence}
-use Rattle.solver.specs.Memory.Checks.{from-split, from-instantiation, from-tester-lemma, from-collapse, from-injectivity, from-negative-clash, from-tester-clash}
+use Rattle.solver.specs.State.{State, AssertedAtom, MadeIn, with-terms, with-dt, with-marks, with-emitted, with-split-done, ctor-apps, sel-apps, testers, watched-dt-terms, equal, ctor-of-class, mark, made-in, make-app, marked-in, mint}
+use Rattle.solver.specs.Records.{is-some, tester-conflict, negative-conflict, disequality-conflict}
+use Rattle.solver.specs.Rules.{TCheck, Split, Unknown, Ruled, pass, answered, go-on, then, try-each, conflict-of, tester-clash-at, tester-clash, negative-clash-at, negative-clash, disequality-clash, mint-on-both, same-constructor, mint-selectors, instantiate-injectivity-selectors, hand-out, hand-out-made, make-eq, equate-field, collapse-field, collapse-at, collapse-lemma, tester-lemma-at, tester-lemma, Fields, mint-field, mint-fields, guard, equate-with, instantiate, instantiate-at, instantiate-constructor, Testers, make-tester, split-on, to-split, split-answer, exhaustiveness-split, has-undetermined-class, unknown-fence}
+use Rattle.solver.specs.Memory.Checks.{from-split, from-instantiation, from-tester-lemma, from-collapse, from-injectivity, from-disequality-clash, from-negative-clash, from-tester-clash}
 use Rattle.solver.proofs.Terms.{extends-self, extends-then, extends-length, mk-app-makes}
 
 -- ---- what does not fit
@@ -176,16 +176,22 @@ negative-clash-at-onward l (some x) s = conflict-onward s (negative-conflict s l
 pub tester-clash-onward : (s : State) → Onward s (tester-clash s .state)
 unfolding tester-clash
 tester-clash-onward s =
-    try-onward (λ (e : AssertedTester) s′. tester-clash-at (e .lit) (tester-app (s′ .terms) (e .atom)) s′)
+    try-onward (λ (e : AssertedAtom) s′. tester-clash-at (e .lit) (tester-app (s′ .terms) (e .atom)) s′)
     (λ e s′. tester-clash-at-onward (e .lit) (tester-app (s′ .terms) (e .atom)) s′)
     (s .dt .level-record) s
 
 pub negative-clash-onward : (s : State) → Onward s (negative-clash s .state)
 unfolding negative-clash
 negative-clash-onward s =
-    try-onward (λ (e : AssertedTester) s′. negative-clash-at (e .lit) (tester-app (s′ .terms) (e .atom)) s′)
+    try-onward (λ (e : AssertedAtom) s′. negative-clash-at (e .lit) (tester-app (s′ .terms) (e .atom)) s′)
     (λ e s′. negative-clash-at-onward (e .lit) (tester-app (s′ .terms) (e .atom)) s′)
     (s .dt .negative-record) s
+
+disequality-clash-onward : (s : State) → Onward s (disequality-clash s .state)
+unfolding disequality-clash
+disequality-clash-onward s =
+    try-onward (λ (e : AssertedAtom) s′. conflict-of s′ (disequality-conflict s′ (e .lit) (children (s′ .terms) (e .atom))))
+    (λ e s′. conflict-onward s′ (disequality-conflict s′ (e .lit) (children (s′ .terms) (e .atom)))) (s .dt .disequalities) s
 
 pub hand-out-onward : (x : ℕ) (guards : List ℕ) (s : State) → Onward s (hand-out x guards s .state)
 unfolding hand-out
@@ -320,8 +326,13 @@ pub from-injectivity-onward : (s : State) → Onward s (from-injectivity s .stat
 from-injectivity-onward s =
     onward-through s (pass (instantiate-injectivity-selectors s)) from-collapse (unfold pass in injectivity-onward s) from-collapse-onward
 
+pub from-disequality-clash-onward : (s : State) → Onward s (from-disequality-clash s .state)
+from-disequality-clash-onward s =
+    onward-through s (disequality-clash s) from-injectivity (disequality-clash-onward s) from-injectivity-onward
+
 pub from-negative-clash-onward : (s : State) → Onward s (from-negative-clash s .state)
-from-negative-clash-onward s = onward-through s (negative-clash s) from-injectivity (negative-clash-onward s) from-injectivity-onward
+from-negative-clash-onward s =
+    onward-through s (negative-clash s) from-disequality-clash (negative-clash-onward s) from-disequality-clash-onward
 
 pub from-tester-clash-onward : (s : State) → Onward s (from-tester-clash s .state)
 from-tester-clash-onward s =

@@ -1,5 +1,6 @@
--- A check where no constructor application is marked and no tester was asserted. The pass over the watched terms goes by the solver's
--- marks, as if they were those of a work table: no class has an application, so each watched term is undetermined.
+-- A check where no constructor application is marked and no tester was asserted: unequal terms, then the watched ones. The pass over the
+-- watched terms goes by the solver's marks, as if they were those of a work table: no class has an application, so each watched term is
+-- undetermined.
 use Rattle.core.proofs.Kit.{ℕ, _+_, _≤_, _<_, _≡_, refl, sym, ap, _∙_, subst, inl, inr, Bool, true, false, not, _||_, List, [], Option, some, arith, eqb, eq-eqb, ne-eqb, eqb-true, eqb-false, length}
 use Rattle.core.specs.Limits.{max-terms}
 use Rattle.core.specs.Lists.{first}
@@ -7,7 +8,7 @@ use Rattle.core.specs.Memory.Words.{at}
 use Rattle.core.specs.Memory.Table.{context}
 use Rattle.core.specs.declared.ids.TermId.{TermId}
 use Rattle.solver.specs.State.{ctor-apps}
-use Rattle.solver.specs.Rules.{Ruled}
+use Rattle.solver.specs.Rules.{Ruled, disequality-clash}
 use Rattle.solver.specs.Ring.{Edge}
 use Rattle.solver.specs.Check.{before-ring, ring-answer}
 use Rattle.solver.specs.declared.answer.TCheck as TCheck
@@ -18,14 +19,18 @@ use Rattle.solver.specs.Memory.Recording.{NoneAnnounced, NoneLasting}
 use Rattle.solver.specs.Memory.Work.{W-MARK, state-at, apps-from, first-in-class, ctor-meaning, marks-only, CtorOfClass, CheckSound}
 use Rattle.solver.specs.Memory.Answer.{answer-meaning, Outcome, Tried}
 use Rattle.solver.specs.Memory.Splitting.{is-undetermined, Watches, SplitsOn, FoundAsked, FoundAnswered}
-use Rattle.solver.specs.Memory.Checks.{passes, from-split, Rings, WatchedAsked, ChecksWatched, ChecksKept}
+use Rattle.solver.specs.Memory.Checks.{passes, from-split, from-injectivity, Rings, ChecksFully, UnmarkedAsked, WatchedAsked, ChecksWatched, ChecksKept}
+use Rattle.solver.specs.Memory.Disequalities.{UnequalAsked, UnequalClash, NoneJoined}
 use Rattle.solver.proofs.Basics.{none-some, by-test}
-use Rattle.solver.proofs.NoApps.{no-ring, only-watched}
+use Rattle.solver.proofs.NoApps.{no-ring, unequal-first, only-watched}
 use Rattle.solver.proofs.Memory.Flags.{flagged-none, flagged-same}
 use Rattle.solver.proofs.Memory.Roles.{kind-within}
 use Rattle.solver.proofs.Memory.MarksOnly.{only-mark, none-built, begins-only}
 use Rattle.solver.proofs.Memory.Splitting.{Asked, passed-over, asked-none, Passing, pass-first, pass-by, pass-done, pass-split, pass-unknown, pass-nothing, split-tried, unknown-tried, none-tried}
-use Rattle.solver.proofs.Memory.Checking.{fully-stopped, fully-walked, check-kept}
+use Rattle.solver.proofs.Memory.Checking.{goes, passed, then-stop, fully-stopped, fully-walked, check-kept}
+use Rattle.solver.proofs.Memory.Unfitting.{from-injectivity-onward}
+use Rattle.solver.proofs.Memory.Trying.{tried-as}
+use Rattle.solver.proofs.Memory.Disequalities.{unequal-tried}
 
 -- ---- a term
 
@@ -139,15 +144,17 @@ module _ {c e s : List ℕ} (z : StateSound c e s) (n : NoneAnnounced s) where
   none-in u lv = none-built z n
 
   -- what follows the rules that pass is the whole
-  whole : {r : TCheck.TCheck} {c′ s′ o : List ℕ} → NoneLasting c s → Tried from-split c e s (marks-only s) r c′ s′ (marks-only s) o →
+  whole : {r : TCheck.TCheck} {c′ s′ o : List ℕ} → NoneLasting c s → NoneJoined c e s →
+      Tried from-split c e s (marks-only s) r c′ s′ (marks-only s) o →
       Tried before-ring c e s (marks-only s) r c′ s′ (marks-only s) o
   unfolding state-with dt-with
-  whole {r} {c′} {s′} {o} l t = record {
+  whole {r} {c′} {s′} {o} l j t = record {
     sound = t .sound;
     extends = t .extends;
     outcome = λ lv.
         subst (λ (k : Ruled). Outcome r k (state-at c′ e s′ (marks-only s) lv) o)
-        (sym (only-watched (state-at c e s (marks-only s) lv) (none-in s lv) (none-lasting z l))) (t .outcome lv);
+        (sym (only-watched (state-at c e s (marks-only s) lv) (none-in s lv) (none-lasting z l)
+        (j (marks-only s) lv))) (t .outcome lv);
     unchanged = t .unchanged;
     readable = t .readable;
   }
@@ -179,25 +186,25 @@ module _ {c s : List ℕ} {r : Undetermined.Undetermined} (w : Watches c s r) wh
   watched-split : {x : TermId} {a : TCheck.TCheck} {c′ s′ o : List ℕ} → r ≡ Undetermined.the-variants.Split x →
       SplitsOn c s (x .0) a c′ s′ o → ChecksWatched c s a c′ s′ o
   watched-split {x} {a} i k = record {
-    fully = λ e z n l.
+    fully = λ e z n l j.
         fully-stopped (begins-only z n) refl (answers a (k .answers))
-        (whole z n l (split-tried (sound z n) (w .passed e z n) i k));
+        (whole z n l j (split-tried (sound z n) (w .passed e z n) i k));
     marks = k .marks;
   }
 
   watched-unknown : {o : List ℕ} → r ≡ Undetermined.the-variants.Unknown → ChecksWatched c s TCheck.the-variants.Unknown c s o
   unfolding passes
   watched-unknown i = record {
-    fully = λ e z n l.
-        fully-stopped (begins-only z n) refl refl (whole z n l (unknown-tried (sound z n) (w .passed e z n) i));
+    fully = λ e z n l j.
+        fully-stopped (begins-only z n) refl refl (whole z n l j (unknown-tried (sound z n) (w .passed e z n) i));
     marks = λ x h. refl;
   }
 
   watched-none : {o : List ℕ} → r ≡ Undetermined.the-variants.Nothing → ChecksWatched c s TCheck.the-variants.Sat c s o
   unfolding passes
   watched-none {o} i = record {
-    fully = λ e z n l.
-        fully-walked (begins-only z n) refl refl (whole z n l (none-tried (sound z n) (w .passed e z n) {o = o} i)) (no-rings z n o);
+    fully = λ e z n l j.
+        fully-walked (begins-only z n) refl refl (whole z n l j (none-tried (sound z n) (w .passed e z n) {o = o} i)) (no-rings z n o);
     marks = λ x h. refl;
   }
 
@@ -209,14 +216,43 @@ watched-found Undetermined.the-variants.Unknown w (q, i, j) = rw (q, i, j) (watc
 watched-found Undetermined.the-variants.Nothing w (q, i, j) = rw (q, i, j) (watched-none w refl)
 
 -- its marks are the solver's already
-pub watched-kept : {c e s c′ s′ o : List ℕ} {r : TCheck.TCheck} → StateSound c e s → NoneAnnounced s → NoneLasting c s →
-    ChecksWatched c s r c′ s′ o → ChecksKept c e s r c′ s′ o
-watched-kept {c} {e} {s} {c′} {s′} {o} {r} z n l w = record {
-  fits = λ h. check-kept refl (w .fully e z n l) refl h (record {
-    sound = λ d f y m. y .state;
-    view = λ d f lv y m.
+marks-kept : {c e s c′ s′ o : List ℕ} {r : TCheck.TCheck} → ChecksFully c e s r c′ s′ (marks-only s) o →
+    ((x : ℕ) → x < max-terms → at s′ MARK x ≡ at s MARK x) → ChecksKept c e s r c′ s′ o
+marks-kept {s = s} {s′ = s′} k m = record {
+  fits = λ h. check-kept refl k refl h (record {
+    sound = λ d f y n. y .state;
+    view = λ d f lv y n.
         ap (state-with d f s′ lv)
-        (flagged-same (marks-only s) s′ W-MARK MARK 0 (λ x g i. ap is-set (w .marks x i ∙ sym (only-mark s x i))));
+        (flagged-same (marks-only s) s′ W-MARK MARK 0 (λ x g i. ap is-set (m x i ∙ sym (only-mark s x i))));
   });
-  refused = λ h. (marks-only s, w .fully e z n l);
+  refused = λ h. (marks-only s, k);
 }
+
+pub unequal-asked : {c e s o : List ℕ} → UnmarkedAsked c e s o → UnequalAsked c e s o
+unequal-asked z = record { state = z .state; long = z .long }
+
+pub split-asked : {c e s o o₁ : List ℕ} → UnmarkedAsked c e s o → length o₁ ≡ length o → WatchedAsked c s o₁
+split-asked z n =
+    let st = z .state in
+    let l = z .long in
+    record { core = st .core; formed = st .formed; signed = st .signed; solver = st .solver; long = omega arith }
+
+-- unequal terms first
+module _ {c e s o : List ℕ} {r : TCheck.TCheck} {b : Bool} {o₁ : List ℕ} (z : UnmarkedAsked c e s o) (u : UnequalClash c e s r o₁)
+    (test : b ≡ passes r) where
+  pub watched-stopped : not b ≡ true → ChecksKept c e s r c s o₁
+  watched-stopped taken =
+      marks-kept
+      (fully-stopped (begins-only (z .state) (z .apps)) test taken
+      (tried-as
+      (then-stop disequality-clash from-injectivity test taken from-injectivity-onward
+      (unequal-tried (sound (z .state) (z .apps)) u))
+      (λ lv. unequal-first (state-at c e s (marks-only s) lv) (none-in (z .state) (z .apps) s lv))))
+      (λ x h. refl)
+
+  pub watched-on : {c′ s′ o₂ : List ℕ} {q : TCheck.TCheck} → not b ≡ false → ChecksWatched c s q c′ s′ o₂ → ChecksKept c e s q c′ s′ o₂
+  watched-on left w = marks-kept (w .fully e (z .state) (z .apps) (z .lasting) none) (w .marks)
+    where
+      none : NoneJoined c e s
+      none v lv =
+          passed r (disequality-clash (state-at c e s v lv)) (state-at c e s v lv) o₁ (goes r test left) (u .outcome v lv)

@@ -1,5 +1,5 @@
 -- What asserting a literal promises.
-use Prim.Native.Nat.{ℕ, _≤_}
+use Prim.Native.Nat.{ℕ, _≤_, _<_}
 use mathlib.Core.Path.{_≡_}
 use mathlib.Core.Bool.{Bool, true}
 use mathlib.Core.List.{List}
@@ -14,15 +14,16 @@ use Rattle.theory.specs.Memory.Registry.{atoms}
 use Rattle.theory.specs.Memory.Answer.{answer-size}
 use Rattle.solver.specs.Records.{assert}
 use Rattle.solver.specs.declared.answer.TCheck as TCheck
-use Rattle.solver.specs.Memory.Table.{records#, registry, term-kind, state, StateSound}
+use Rattle.solver.specs.Memory.Table.{records#, registry, term-kind, state, StateSound, max-lits}
 use Rattle.solver.specs.declared.levels.TesterMarks.{TesterMarks}
 use Rattle.solver.specs.Memory.Levels.{MarksSound, recording}
 use Rattle.solver.specs.Memory.Answer.{Readable}
 use Rattle.solver.specs.Memory.Testing.{ConflictIs, conflict-by}
 
--- tester application x may be asserted
-pub record TesterAssertable (c e s : List ℕ) (x : ℕ) (o : List ℕ) : Type 0 where
+-- tester application x may be asserted, by the literal l
+pub record TesterAssertable (c e s : List ℕ) (l x : ℕ) (o : List ℕ) : Type 0 where
   pub sound : StateSound c e s
+  pub lit : l < max-lits
   pub tester : term-kind (context c) x ≡ 4
   pub long : answer-size ≤ length o
 

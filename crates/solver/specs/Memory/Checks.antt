@@ -12,7 +12,7 @@ use Rattle.core.specs.Memory.Words.{at}
 use Rattle.core.specs.Memory.Table.{context, ContextSound}
 use Rattle.theory.specs.Memory.Answer.{answer-size}
 use Rattle.solver.specs.State.{State}
-use Rattle.solver.specs.Rules.{Ruled, pass, then, tester-clash, negative-clash, instantiate-injectivity-selectors, collapse-lemma, tester-lemma, instantiate-constructor, exhaustiveness-split, unknown-fence}
+use Rattle.solver.specs.Rules.{Ruled, pass, then, tester-clash, negative-clash, disequality-clash, instantiate-injectivity-selectors, collapse-lemma, tester-lemma, instantiate-constructor, exhaustiveness-split, unknown-fence}
 use Rattle.solver.specs.Ring.{constructor-graph-find-cycle}
 use Rattle.solver.specs.Check.{Checked, ring-answer, check, full-check}
 use Rattle.solver.specs.declared.answer.TCheck as TCheck
@@ -21,6 +21,7 @@ use Rattle.solver.specs.Memory.Recording.{NoneAnnounced, NoneLasting}
 use Rattle.solver.specs.Memory.Work.{Blank, work-size, marks-only, state-at, ChainSound, CheckSound}
 use Rattle.solver.specs.Memory.Answer.{answer-meaning, Readable}
 use Rattle.solver.specs.Memory.Making.{Making}
+use Rattle.solver.specs.Memory.Disequalities.{NoneJoined}
 
 -- does a rule pass on to the next?
 unfoldable pub passes : TCheck.TCheck → Bool
@@ -57,8 +58,11 @@ from-collapse s = then (collapse-lemma s) from-tester-lemma
 abbrev pub from-injectivity : State → Ruled
 from-injectivity s = then (pass (instantiate-injectivity-selectors s)) from-collapse
 
+abbrev pub from-disequality-clash : State → Ruled
+from-disequality-clash s = then (disequality-clash s) from-injectivity
+
 abbrev pub from-negative-clash : State → Ruled
-from-negative-clash s = then (negative-clash s) from-injectivity
+from-negative-clash s = then (negative-clash s) from-disequality-clash
 
 abbrev pub from-tester-clash : State → Ruled
 from-tester-clash s = then (tester-clash s) from-negative-clash
@@ -109,6 +113,13 @@ pub record KeepsMarks (n : ℕ) (s w s′ : List ℕ) : Type 0 where
   pub sound : (c e : List ℕ) → CheckSound c e s w → n ≡ length (context c .terms) → StateSound c e s′
   pub view : (c e : List ℕ) (lv : ℕ → ℕ) → CheckSound c e s w → n ≡ length (context c .terms) → state c e s′ lv ≡ state-at c e s w lv
 
+-- a state where no constructor application is marked and no tester was asserted positively
+pub record UnmarkedAsked (c e s o : List ℕ) : Type 0 where
+  pub state : StateSound c e s
+  pub apps : NoneAnnounced s
+  pub lasting : NoneLasting c s
+  pub long : answer-size ≤ length o
+
 -- the watched terms may be split on
 pub record WatchedAsked (c s o : List ℕ) : Type 0 where
   pub core : ContextSound c
@@ -117,9 +128,11 @@ pub record WatchedAsked (c s o : List ℕ) : Type 0 where
   pub solver : SolverSound s
   pub long : answer-size ≤ length o
 
--- a full check where no constructor application is marked and no tester was asserted positively: no mark is set
+-- a full check where no constructor application is marked, no tester was asserted positively and no unequal terms are equal: no mark is
+-- set
 pub record ChecksWatched (c s : List ℕ) (r : TCheck.TCheck) (c′ s′ o : List ℕ) : Type 0 where
-  pub fully : (e : List ℕ) → StateSound c e s → NoneAnnounced s → NoneLasting c s → ChecksFully c e s r c′ s′ (marks-only s) o
+  pub fully : (e : List ℕ) → StateSound c e s → NoneAnnounced s → NoneLasting c s → NoneJoined c e s →
+      ChecksFully c e s r c′ s′ (marks-only s) o
   pub marks : (x : ℕ) → x < max-terms → at s′ MARK x ≡ at s MARK x
 
 -- A check: its answer and its state are the definition's if they fit, else it is refused and nothing changes.

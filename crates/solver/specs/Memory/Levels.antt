@@ -1,20 +1,20 @@
--- The records of testers by levels: the caller's mark counts say how many entries they had when each open level began. What the
+-- The records by levels: the caller's mark counts say how many entries they had when each open level began. What the
 -- functions on them promise.
 use Prim.Native.Nat.{ℕ, zero, suc, _≤_, _<_}
 use mathlib.Core.Path.{_≡_}
 use mathlib.Core.Logic.{_⊎_}
 use mathlib.Core.Bool.{Bool, true, false, cond}
-use mathlib.Core.List.{List, [], _∷_}
+use mathlib.Core.List.{List, [], _∷_, _++_}
 use lib.Dec.{eqb, leb}
 use lib.ListN.{length, getD}
 use Rattle.core.specs.Limits.{max-levels, max-terms, table-words}
 use Rattle.core.specs.Memory.Words.{at, Kept}
 use Rattle.core.specs.Memory.Table.{context}
 use Rattle.theory.specs.Memory.Table.{level}
-use Rattle.solver.specs.State.{State, with-level-record, with-negative-record}
-use Rattle.solver.specs.Records.{entered, record-tester, record-negative, pop-testers}
+use Rattle.solver.specs.State.{State, AssertedAtom, with-level-record, with-negative-record, with-disequalities}
+use Rattle.solver.specs.Records.{record-tester, record-negative, pop-entries}
 use Rattle.solver.specs.declared.levels.TesterMarks.{TesterMarks}
-use Rattle.solver.specs.Memory.Table.{COUNTS, RECORDED, REC-KEY, REC-LIT, max-records, solver-room, records#, of-sign, key-atom, record-of, state, term-kind, SolverSound, StateSound}
+use Rattle.solver.specs.Memory.Table.{COUNTS, RECORDED, ENTRY, max-records, solver-room, records#, is-set, of-sign, of-unequal, entry-key, entry-word, asserted, record-of, state, term-kind, SolverSound, StateSound, max-lits}
 
 -- ---- levels
 
@@ -38,7 +38,7 @@ pub record MarksSound (s : List ℕ) (m : TesterMarks) : Type 0 where
 -- the solver's table is sound, and its records have keys; both follow from a sound state
 pub record RecordsSound (s : List ℕ) : Type 0 where
   pub solver : SolverSound s
-  pub keys : (i : ℕ) → i < records# s → at s REC-KEY i < max-records
+  pub keys : (i : ℕ) → i < records# s → entry-key s i < max-records
 
 -- ---- push
 
@@ -46,7 +46,7 @@ pub record RecordsSound (s : List ℕ) : Type 0 where
 pub record Opened (s : List ℕ) (m m′ : TesterMarks) : Type 0 where
   pub marks : MarksSound s m′
   pub one-more : m′ .levels ≡ suc (m .levels)
-  pub entries : (b : Bool) → record-of b s (entry-level m′) ≡ record-of b s (entry-level m)
+  pub entries : (p : ℕ → Bool) → record-of p s (entry-level m′) ≡ record-of p s (entry-level m)
   pub state : (c e : List ℕ) → state c e s (entry-level m′) ≡ state c e s (entry-level m)
 
 -- ---- pop
@@ -63,51 +63,60 @@ pub record Popped (s : List ℕ) (m : TesterMarks) (to : ℕ) (s′ : List ℕ) 
   pub marks : MarksSound s′ m′
   pub below : to < m .levels → m′ .levels ≡ to
   pub above : m .levels ≤ to → (s′ ≡ s) × (m′ ≡ m)
-  pub entries : (b : Bool) → record-of b s′ (entry-level m′) ≡ pop-testers to (record-of b s (entry-level m))
+  pub entries : (p : ℕ → Bool) → record-of p s′ (entry-level m′) ≡ pop-entries to (record-of p s (entry-level m))
   pub state-sound : (c e : List ℕ) → StateSound c e s → StateSound c e s′
   pub state : (c e : List ℕ) →
       state c e s′ (entry-level m′)
-      ≡ with-negative-record
-      (with-level-record (state c e s (entry-level m)) (pop-testers to (record-of true s (entry-level m))))
-      (pop-testers to (record-of false s (entry-level m)))
+      ≡ with-disequalities
+      (with-negative-record
+      (with-level-record (state c e s (entry-level m)) (pop-entries to (record-of (of-sign true) s (entry-level m))))
+      (pop-entries to (record-of (of-sign false) s (entry-level m))))
+      (pop-entries to (record-of of-unequal s (entry-level m)))
   pub kept : Kept solver-room (COUNTS ∷ RECORDED ∷ []) s s′
 
--- ---- record_tester
+-- ---- an entry
 
--- a key may be entered
-pub record Recordable (s : List ℕ) (k : ℕ) : Type 0 where
+-- a key may be entered, with r beside it
+pub record Recordable (s : List ℕ) (k r : ℕ) : Type 0 where
   pub sound : RecordsSound s
   pub key : k < max-records
+  pub rest : r < max-lits
 
 -- and has no entry
-pub record NewEntry (s : List ℕ) (k : ℕ) : Type 0 where
-  pub may : Recordable s k
+pub record NewEntry (s : List ℕ) (k r : ℕ) : Type 0 where
+  pub may : Recordable s k r
   pub new : at s RECORDED k ≡ 0
 
--- there is one entry more: the key k with the literal l
-pub record Entered (s : List ℕ) (k l : ℕ) (s′ : List ℕ) : Type 0 where
+-- there is one entry more
+pub record Entered (s : List ℕ) (k r : ℕ) (s′ : List ℕ) : Type 0 where
   pub long : table-words ≤ length s′
   pub count : records# s′ ≡ suc (records# s)
   pub flags : (y : ℕ) → y < max-records → at s′ RECORDED y ≡ cond (eqb y k) 1 (at s RECORDED y)
-  pub keys : (i : ℕ) → i < max-records → at s′ REC-KEY i ≡ cond (eqb i (records# s)) k (at s REC-KEY i)
-  pub lits : (i : ℕ) → i < max-records → at s′ REC-LIT i ≡ cond (eqb i (records# s)) l (at s REC-LIT i)
-  pub kept : Kept solver-room (COUNTS ∷ RECORDED ∷ REC-KEY ∷ REC-LIT ∷ []) s s′
+  pub words : (i : ℕ) → i < max-records → at s′ ENTRY i ≡ cond (eqb i (records# s)) (entry-word k r) (at s ENTRY i)
+  pub kept : Kept solver-room (COUNTS ∷ RECORDED ∷ ENTRY ∷ []) s s′
 
--- the key k has an entry in the record of its sign
-pub record Enters (s : List ℕ) (k l : ℕ) (s′ : List ℕ) : Type 0 where
+-- a record with an entry more, unless it is there
+unfoldable pub with-entry : Bool → AssertedAtom → List AssertedAtom → List AssertedAtom
+with-entry there a es = cond there es (es ++ (a ∷ []))
+
+-- the key k has an entry in each record whose test lets it through
+pub record Enters (s : List ℕ) (k r : ℕ) (s′ : List ℕ) : Type 0 where
   pub sound : RecordsSound s′
   pub more : records# s ≤ records# s′
-  pub entries : (b : Bool) (lv : ℕ → ℕ) →
-      record-of b s′ lv
-      ≡ cond (of-sign b k) (entered (lv (records# s)) (key-atom k) l (record-of b s lv)) (record-of b s lv)
-  pub keys : (i : ℕ) → i < records# s′ →
-      (at s′ REC-KEY i ≡ k) ⊎ ((j : ℕ) × (j < records# s) × (at s′ REC-KEY i ≡ at s REC-KEY j))
-  pub kept : Kept solver-room (COUNTS ∷ RECORDED ∷ REC-KEY ∷ REC-LIT ∷ []) s s′
+  pub entries : (p : ℕ → Bool) (lv : ℕ → ℕ) →
+      record-of p s′ lv
+      ≡ cond (p k) (with-entry (is-set (at s RECORDED k)) (asserted k r (lv (records# s))) (record-of p s lv)) (record-of p s lv)
+  pub words : (i : ℕ) → i < records# s′ →
+      (at s′ ENTRY i ≡ entry-word k r) ⊎ ((j : ℕ) × (j < records# s) × (at s′ ENTRY i ≡ at s ENTRY j))
+  pub kept : Kept solver-room (COUNTS ∷ RECORDED ∷ ENTRY ∷ []) s s′
 
--- the tester application x may be recorded
-pub record TesterRecordable (s : List ℕ) (x : ℕ) : Type 0 where
+-- ---- record_tester
+
+-- the tester application x may be recorded, with the literal l
+pub record TesterRecordable (s : List ℕ) (x l : ℕ) : Type 0 where
   pub sound : RecordsSound s
   pub atom : x < max-terms
+  pub lit : l < max-lits
 
 -- what the definition records of a tester, positive or negative
 abbrev pub recording : Bool → State → ℕ → ℕ → State

@@ -22,7 +22,7 @@ use Rattle.solver.specs.Memory.Table.{COUNTS, BLOCK, blocks, block-terms
 
 -- the count of the records, the marks, the words of the blocks and the flags of all terms and keys stand side by side, from COUNTS on
 abbrev pub flag-words : ℕ
-flag-words = 7232
+flag-words = 8256
 
 -- these words are 0
 pub record Wiped (s u : List ℕ) : Type 0 where

@@ -1,14 +1,15 @@
 -- The lent table of this layer: where each part stands, what a table means, and when the three tables fit together.
-use Prim.Native.Nat.{ℕ, zero, suc, _+_, _-_, _/_, _≤_, _<_}
+use Prim.Native.Nat.{ℕ, zero, suc, _+_, _-_, _*_, _/_, _%_, _≤_, _<_}
 use mathlib.Core.Path.{_≡_}
 use mathlib.Core.Logic.{_⊎_}
-use mathlib.Core.Bool.{Bool, true, false, cond, not, _||_}
+use mathlib.Core.Bool.{Bool, true, false, cond, not, _||_, _&&_}
 use mathlib.Core.List.{List, [], _∷_}
 use mathlib.Core.Option.{Option, none, some}
 use lib.Dec.{eqb, ltb}
 use lib.ListN.{length, take}
 use Rattle.core.specs.Limits.{max-terms, table-words}
 use Rattle.core.specs.Lists.{In, Apart, any, gather, keep, range}
+use Rattle.core.specs.Ids as Ids
 use Rattle.core.specs.Term as Term
 use Rattle.core.specs.Term.{Role, Constructor, Tester, Selector, Function, Op, Eq}
 use Rattle.core.specs.Context.{Context, symbol, term, children, is-datatype-sort}
@@ -18,7 +19,7 @@ use Rattle.core.specs.Memory.Table.{context, ContextSound}
 use Rattle.theory.specs.Atom.{Registered}
 use Rattle.theory.specs.Memory.Table.{merges, level, EngineSound}
 use Rattle.theory.specs.Memory.Registry.{registry-size, atoms, RegistrySound}
-use Rattle.solver.specs.State.{State, DtSolver, AssertedTester}
+use Rattle.solver.specs.State.{State, DtSolver, AssertedAtom}
 
 -- ---- the layout
 
@@ -26,7 +27,7 @@ use Rattle.solver.specs.State.{State, DtSolver, AssertedTester}
 abbrev pub REGISTRY : ℕ
 REGISTRY = 0
 
--- how many entries the two records of testers have
+-- how many entries the records have
 abbrev pub COUNTS : ℕ
 COUNTS = 3136
 
@@ -60,21 +61,27 @@ EMITTED = 6272
 abbrev pub SPLIT : ℕ
 SPLIT = 7296
 
--- The level record and the record of negative testers are one list, in order of assertion. The key of an entry is its atom, and 1,024
--- more if the tester is negative. For each key: whether it has an entry.
+-- The level record, the record of negative testers and that of unequal terms are one list, in order of the lines. The key of an entry is
+-- its atom, and 1,024 more if the tester is negative; for unequal terms the variable of their literal, and 2,048 more. For each key:
+-- whether it has an entry.
 abbrev pub RECORDED : ℕ
 RECORDED = 8320
 
--- for each entry: its key and its literal
-abbrev pub REC-KEY : ℕ
-REC-KEY = 10368
+-- for each entry: its key, times 2,048, and its literal; for unequal terms, whose key tells the literal, their equation
+abbrev pub ENTRY : ℕ
+ENTRY = 11392
 
-abbrev pub REC-LIT : ℕ
-REC-LIT = 12416
-
--- an atom may have an entry in each record
+-- an atom may have an entry in each record of testers, a variable one in that of unequal terms
 abbrev pub max-records : ℕ
-max-records = 2048
+max-records = 3072
+
+-- the keys from here on are those of unequal terms
+abbrev pub UNEQUAL : ℕ
+UNEQUAL = 2048
+
+-- a variable has two literals
+abbrev pub max-lits : ℕ
+max-lits = 2048
 
 -- The words from 14,464 on are free.
 abbrev pub layout : List (ℕ × ℕ)
@@ -88,8 +95,7 @@ layout =
     ∷ (EMITTED, max-terms)
     ∷ (SPLIT, max-terms)
     ∷ (RECORDED, max-records)
-    ∷ (REC-KEY, max-records)
-    ∷ (REC-LIT, max-records)
+    ∷ (ENTRY, max-records)
     ∷ []
 
 abbrev pub solver-room : ℕ → ℕ
@@ -152,32 +158,54 @@ unfoldable pub tester-key : Bool → ℕ → ℕ
 tester-key true x = x
 tester-key false x = x + max-terms
 
+-- that of unequal terms, by their literal
+unfoldable pub unequal-key : ℕ → ℕ
+unequal-key l = UNEQUAL + Ids.var l
+
 -- is a key one of a positive tester, or of a negative one?
 unfoldable pub of-sign : Bool → ℕ → Bool
 of-sign true k = ltb k max-terms
-of-sign false k = not (ltb k max-terms)
+of-sign false k = not (ltb k max-terms) && ltb k UNEQUAL
 
+-- or of unequal terms?
+unfoldable pub of-unequal : ℕ → Bool
+of-unequal k = not (ltb k UNEQUAL)
+
+-- the atom of a tester's key
 unfoldable pub key-atom : ℕ → ℕ
 key-atom k = cond (ltb k max-terms) k (k - max-terms)
 
--- The level that an entry came at is known by the caller's mark counts: `lv` gives it for entry i.
-unfoldable pub asserted-at : List ℕ → (ℕ → ℕ) → ℕ → AssertedTester
-asserted-at s lv i = record { atom = key-atom (at s REC-KEY i); lit = at s REC-LIT i; level = lv i }
+-- the word of an entry, by its key and what stands beside it
+unfoldable pub entry-word : ℕ → ℕ → ℕ
+entry-word k r = k * max-lits + r
 
--- entry i, if its tester is of that sign
-unfoldable pub entry-of : Bool → List ℕ → (ℕ → ℕ) → ℕ → Option AssertedTester
-entry-of b s lv i = cond (of-sign b (at s REC-KEY i)) (some (asserted-at s lv i)) none
+abbrev pub entry-key : List ℕ → ℕ → ℕ
+entry-key s i = at s ENTRY i / max-lits
 
--- the record of positive testers, which is the level record, or that of negative ones
-unfoldable pub record-of : Bool → List ℕ → (ℕ → ℕ) → List AssertedTester
-record-of b s lv = gather (entry-of b s lv) (range 0 (records# s))
+abbrev pub entry-rest : List ℕ → ℕ → ℕ
+entry-rest s i = at s ENTRY i % max-lits
+
+-- the entry that a key, what stands beside it and a level mean
+unfoldable pub asserted : ℕ → ℕ → ℕ → AssertedAtom
+asserted k r v =
+    cond (ltb k UNEQUAL) (record { atom = key-atom k; lit = r; level = v })
+    (record { atom = r; lit = 2 * (k - UNEQUAL) + 1; level = v })
+
+-- Entry i, if a test lets its key through. The level that it came at is known by the caller's mark counts: `lv` gives it.
+unfoldable pub entry-of : (ℕ → Bool) → List ℕ → (ℕ → ℕ) → ℕ → Option AssertedAtom
+entry-of p s lv i = cond (p (entry-key s i)) (some (asserted (entry-key s i) (entry-rest s i) (lv i))) none
+
+-- the record of those entries: of positive testers, which is the level record, of negative ones, or of unequal terms
+unfoldable pub record-of : (ℕ → Bool) → List ℕ → (ℕ → ℕ) → List AssertedAtom
+record-of p s lv = gather (entry-of p s lv) (range 0 (records# s))
 
 -- what the solver keeps, with these marks
 unfoldable pub dt-with : List ℕ → (ℕ → ℕ) → List ℕ → DtSolver
 dt-with s lv marks = record {
   marks = marks;
-  level-record = record-of true s lv;
-  negative-record = record-of false s lv;
+  level-record = record-of (of-sign true) s lv;
+  negative-record = record-of (of-sign false) s lv;
+  disequalities = record-of of-unequal s lv;
   lasting = flagged s LASTING;
   emitted = flagged s EMITTED;
   split-done = flagged s SPLIT;
@@ -204,14 +232,20 @@ pub record SolverSound (s : List ℕ) : Type 0 where
   pub atoms : RegistrySound (registry s)
   -- a key has one entry, and its flag says so
   pub records-fit : records# s ≤ max-records
-  pub once : Apart (counted (at s REC-KEY) (records# s))
-  pub recorded : (x : ℕ) → x < max-records → is-set (at s RECORDED x) ≡ any (eqb x) (counted (at s REC-KEY) (records# s))
+  pub once : Apart (counted (entry-key s) (records# s))
+  pub recorded : (x : ℕ) → x < max-records → is-set (at s RECORDED x) ≡ any (eqb x) (counted (entry-key s) (records# s))
 
 -- a collected term: its mark is there if it is to have one, and its children are collected
 pub record CollectedSound (cx : Context) (s : List ℕ) (x : ℕ) : Type 0 where
   pub within : x < length (cx .terms)
   pub mark : at s MARK x ≡ term-kind cx x
   pub below : (y : ℕ) → In y (children cx x) → is-set (at s COLLECTED y) ≡ true
+
+-- the word of an entry: its atom is a tester application, or an equation
+pub record EntryFits (cx : Context) (w : ℕ) : Type 0 where
+  pub key : w / max-lits < max-records
+  pub tester : w / max-lits < UNEQUAL → term-kind cx (key-atom (w / max-lits)) ≡ 4
+  pub equation : UNEQUAL ≤ w / max-lits → (w % max-lits < length (cx .terms)) × (term cx (w % max-lits) .op ≡ Eq)
 
 -- The three tables fit together.
 pub record StateSound (c e s : List ℕ) : Type 0 where
@@ -224,6 +258,6 @@ pub record StateSound (c e s : List ℕ) : Type 0 where
   pub marks : MarksAre (context c) s MARK
   pub announced : Announced s MARK BLOCK
   pub collected : (x : ℕ) → x < max-terms → is-set (at s COLLECTED x) ≡ true → CollectedSound (context c) s x
-  -- the atoms of the records are tester applications
+  -- the atoms of the lasting record are tester applications, the entries of the others fit
   pub lasting : (x : ℕ) → x < max-terms → is-set (at s LASTING x) ≡ true → term-kind (context c) x ≡ 4
-  pub records : (i : ℕ) → i < records# s → term-kind (context c) (key-atom (at s REC-KEY i)) ≡ 4
+  pub records : (i : ℕ) → i < records# s → EntryFits (context c) (at s ENTRY i)

@@ -18,12 +18,12 @@ use Rattle.theory.specs.Types.{EqLeaf}
 use Rattle.theory.specs.EqEngine.{Merge, find, are-equal}
 use Rattle.theory.specs.Memory.Table.{merges, EngineSound}
 use Rattle.theory.specs.Memory.Answer.{answer-size, leaves}
-use Rattle.solver.specs.State.{State, AssertedTester}
+use Rattle.solver.specs.State.{State, AssertedAtom}
 use Rattle.solver.specs.Records.{tester-conflict, negative-conflict}
 use Rattle.solver.specs.Rules.{Ruled, tester-clash, negative-clash}
 use Rattle.solver.specs.declared.answer.TCheck as TCheck
 use Rattle.solver.specs.declared.work.CtorOf as CtorOf
-use Rattle.solver.specs.Memory.Table.{term-kind, records#, entry-of}
+use Rattle.solver.specs.Memory.Table.{term-kind, records#, of-sign, entry-of}
 use Rattle.solver.specs.Memory.Work.{W-MARK, state-at, apps-from, first-in-class, ctor-meaning, ClassTable, CheckSound}
 use Rattle.solver.specs.Memory.Answer.{Readable}
 use Rattle.solver.specs.Memory.ConstructorClash.{symbol-of}
@@ -146,10 +146,14 @@ unfoldable pub tester-found : Bool → ℕ → Option TesterApp → State → Op
 tester-found b l none S = none
 tester-found b l (some x) S = conflict-by b S l x
 
--- what the definition finds of an entry, if there is one
-unfoldable pub entry-clash : Bool → Option AssertedTester → State → Option (List EqLeaf)
-entry-clash b none S = none
-entry-clash b (some a) S = tester-found b (a .lit) (tester-app (S .terms) (a .atom)) S
+-- what the definition finds of an entry of a record of testers
+abbrev pub tester-finds : Bool → AssertedAtom → State → Option (List EqLeaf)
+tester-finds b a S = tester-found b (a .lit) (tester-app (S .terms) (a .atom)) S
+
+-- and of an entry, if there is one
+unfoldable pub found-at : (AssertedAtom → State → Option (List EqLeaf)) → Option AssertedAtom → State → Option (List EqLeaf)
+found-at f none S = none
+found-at f (some a) S = f a S
 
 -- the tables of a check, and a record whose entries are asked
 pub record ClashAsked (b : Bool) (c e s w o : List ℕ) : Type 0 where
@@ -162,5 +166,5 @@ pub record EntryAsked (b : Bool) (c e s w : List ℕ) (i : ℕ) (o : List ℕ) :
   pub within : i < records# s
 
 pub record EntryConflict (b : Bool) (c e s w : List ℕ) (i : ℕ) (r : TCheck.TCheck) (o : List ℕ) : Type 0 where
-  pub conflict : (lv : ℕ → ℕ) → ConflictIs r (entry-clash b (entry-of b s lv i) (state-at c e s w lv)) o
+  pub conflict : (lv : ℕ → ℕ) → ConflictIs r (found-at (tester-finds b) (entry-of (of-sign b) s lv i) (state-at c e s w lv)) o
   pub readable : Readable r o

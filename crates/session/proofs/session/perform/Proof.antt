@@ -171,37 +171,46 @@ unfolding command-meaning
 returns-13 c =
     let at-k = c .before .before .before .before .before .before in
     let entry = at-k .before .before .before .before .before .before .before in
-    by-levels (entry .pre) _ (ap (λ (j : Command). command-meaning j (now (entry .args .numbers))) (at-k .enum-told3 .given .1))
-    (c .before .before .push-line .ensures)
+    by-solver (entry .pre) _ (ap (λ (j : Command). command-meaning j (now (entry .args .numbers))) (at-k .k11 .given .1))
+    (c .before .before .differ-line .ensures)
 
 returns-14 : tie.Need-returns-14
 unfolding command-meaning
 returns-14 c =
-    let at-k = c .before .before .before .before .before .before .before .before .before in
+    let at-k = c .before .before .before .before .before .before in
     let entry = at-k .before .before .before .before .before .before .before in
-    by-levels (entry .pre) _ (ap (λ (j : Command). command-meaning j (now (entry .args .numbers))) (at-k .k11 .given .1))
-    (c .before .before .before .before .pop-line .ensures)
+    by-levels (entry .pre) _ (ap (λ (j : Command). command-meaning j (now (entry .args .numbers))) (at-k .enum-told3 .given .1))
+    (c .before .before .push-line .ensures)
 
 returns-15 : tie.Need-returns-15
 unfolding command-meaning
 returns-15 c =
+    let at-k = c .before .before .before .before .before .before .before .before .before in
+    let entry = at-k .before .before .before .before .before .before .before in
+    by-levels (entry .pre) _ (ap (λ (j : Command). command-meaning j (now (entry .args .numbers))) (at-k .k12 .given .1))
+    (c .before .before .before .before .pop-line .ensures)
+
+returns-16 : tie.Need-returns-16
+unfolding command-meaning
+returns-16 c =
     let at-k = c .before .before .before .before .before .before .before .before .before .before .before .before in
     let entry = at-k .before .before .before .before .before .before .before in
-    by-check (entry .pre) (ap (λ (j : Command). command-meaning j (now (entry .args .numbers))) (at-k .k12 .given .1))
+    by-check (entry .pre) (ap (λ (j : Command). command-meaning j (now (entry .args .numbers))) (at-k .k13 .given .1))
     (c .before .before .before .before .before .before .check-line .ensures)
 
 pub perform-spec : {M : Type 1} → statement M
 perform-spec =
     tie.close (tie.spec (λ c. search needs) (λ c. search needs) (λ c κs. search needs) (λ c. search needs) add-ctor-line
-    (λ c. search needs) (λ c. search needs) part-ctor-line-end ctor-line-requires (λ c. search needs) add-fun-line
-    (λ c. search needs) (λ c. search needs) part-fun-line-end fun-line-requires (λ c. search needs) (λ c κs. search needs)
-    (λ c. search needs) add-term-line (λ c. search needs) (λ c. search needs) part-term-line-end (λ c κs. search needs)
-    (λ c. search needs) (λ c κs. search needs) (λ c. search needs) (λ c κs. search needs) (λ c. search needs) (λ c κs. search needs)
-    (λ c. search needs) (λ c κs. search needs) (λ c. search needs) (λ c κs. search needs) (λ c. search needs) (λ c κs. search needs)
-    (λ c. search needs) push-line-requires (λ c. search needs) pop-line-requires (λ c. search needs) (λ c κs. search needs) returns
-    (λ c. search needs) returns-2 (λ c. search needs) returns-3 (λ c. search needs) returns-4 (λ c. search needs) returns-5
-    (λ c. search needs) returns-6 (λ c. search needs) returns-7 (λ c. search needs) (λ c. search needs) returns-8
-    (λ c. search needs) (λ c. search needs) (λ c. search needs) returns-9 (λ c. search needs) (λ c. search needs) returns-10
-    (λ c. search needs) (λ c. search needs) returns-11 (λ c. search needs) (λ c. search needs) (λ c. search needs)
-    (λ c. search needs) returns-12 (λ c. search needs) (λ c. search needs) returns-13 (λ c. search needs) (λ c. search needs)
-    returns-14 (λ c. search needs) (λ c. search needs) (λ c. search needs) (λ c. search needs) returns-15)
+    (λ c. search needs) (λ c. search needs) part-ctor-line-end ctor-line-requires (λ c. search needs) add-fun-line (λ c. search needs)
+    (λ c. search needs) part-fun-line-end fun-line-requires (λ c. search needs) (λ c κs. search needs) (λ c. search needs)
+    add-term-line (λ c. search needs) (λ c. search needs) part-term-line-end (λ c κs. search needs) (λ c. search needs)
+    (λ c κs. search needs) (λ c. search needs) (λ c κs. search needs) (λ c. search needs) (λ c κs. search needs) (λ c. search needs)
+    (λ c κs. search needs) (λ c. search needs) (λ c κs. search needs) (λ c. search needs) (λ c κs. search needs) (λ c. search needs)
+    (λ c κs. search needs) (λ c. search needs) push-line-requires (λ c. search needs) pop-line-requires (λ c. search needs)
+    (λ c κs. search needs) returns (λ c. search needs) returns-2 (λ c. search needs) returns-3 (λ c. search needs) returns-4
+    (λ c. search needs) returns-5 (λ c. search needs) returns-6 (λ c. search needs) returns-7 (λ c. search needs) (λ c. search needs)
+    returns-8 (λ c. search needs) (λ c. search needs) (λ c. search needs) returns-9 (λ c. search needs) (λ c. search needs) returns-10
+    (λ c. search needs) (λ c. search needs) returns-11 (λ c. search needs) (λ c. search needs) (λ c. search needs) (λ c. search needs)
+    returns-12 (λ c. search needs) (λ c. search needs) returns-13 (λ c. search needs) (λ c. search needs) returns-14
+    (λ c. search needs) (λ c. search needs) returns-15 (λ c. search needs) (λ c. search needs) (λ c. search needs) (λ c. search needs)
+    returns-16)

@@ -1,8 +1,8 @@
 -- The next rule is tried if the first passes.
 use Rattle.core.proofs.Kit.{needs}
 use Rattle.solver.specs.Rules.{negative-clash}
-use Rattle.solver.specs.Memory.Checks.{from-injectivity}
-use Rattle.solver.proofs.Memory.Unfitting.{from-injectivity-onward}
+use Rattle.solver.specs.Memory.Checks.{from-disequality-clash}
+use Rattle.solver.proofs.Memory.Unfitting.{from-disequality-clash-onward}
 use Rattle.solver.proofs.Memory.Checking.{then-on, then-stop}
 use Rattle.solver.proofs.check.from_negative_clash.Statement.{statement}
 use Rattle.solver.proofs.check.from_negative_clash.Tie as tie
@@ -11,7 +11,7 @@ returns : tie.Need-returns
 returns c =
     let tested = c .before in
     let first = tested .before .before .before in
-    then-stop negative-clash from-injectivity (tested .passes .ensures) (c .if1 .taken) from-injectivity-onward
+    then-stop negative-clash from-disequality-clash (tested .passes .ensures) (c .if1 .taken) from-disequality-clash-onward
     (first .negative-clash .ensures)
 
 returns-2 : tie.Need-returns-2
@@ -20,8 +20,8 @@ returns-2 c =
     let branch = next .before .before .before .before .before in
     let tested = branch .before in
     let first = tested .before .before .before in
-    then-on negative-clash from-injectivity (tested .passes .ensures) (branch .if1 .left)
-    (first .negative-clash .ensures) (next .from-injectivity .ensures)
+    then-on negative-clash from-disequality-clash (tested .passes .ensures) (branch .if1 .left)
+    (first .negative-clash .ensures) (next .from-disequality-clash .ensures)
 
 pub from-negative-clash-spec : {M : Type 1} → statement M
 from-negative-clash-spec =

@@ -16,5 +16,5 @@ returns-2 c = search entry-asked
 pub entry-conflict-spec : {M : Type 1} → statement M
 entry-conflict-spec =
     tie.close
-    (tie.spec (λ c κs. search needs) (λ c κs. search needs) returns (λ c κs. search needs) (λ c. search needs) (λ c κs. search needs)
+    (tie.spec (λ c κs. search needs) (λ c κs. search needs) returns (λ c. search needs) (λ c κs. search needs)
     (λ c. search entry-small) tester-conflict-requires (λ c. search needs) returns-2)

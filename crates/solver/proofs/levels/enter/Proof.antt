@@ -5,7 +5,7 @@ use Rattle.solver.proofs.levels.enter.Statement.{statement}
 use Rattle.solver.proofs.levels.enter.Tie as tie
 
 append-record-requires : tie.Need-append-record-requires
-append-record-requires c κs = (search new-entry, search needs)
+append-record-requires c κs = search new-entry
 
 pub enter-spec : {M : Type 1} → statement M
 enter-spec =

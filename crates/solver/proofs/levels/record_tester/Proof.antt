@@ -5,10 +5,10 @@ use Rattle.solver.proofs.levels.record_tester.Statement.{statement}
 use Rattle.solver.proofs.levels.record_tester.Tie as tie
 
 enter-requires : tie.Need-enter-requires
-enter-requires c κs = (positive-key (search lasting-recordable), search needs)
+enter-requires c κs = positive-key (search lasting-recordable)
 
 enter-requires-2 : tie.Need-enter-requires-2
-enter-requires-2 c κs = (search negative-key, search needs)
+enter-requires-2 c κs = search negative-key
 
 pub record-tester-spec : {M : Type 1} → statement M
 record-tester-spec =
