@@ -3,8 +3,8 @@
 use crate::generate::{self, Kind};
 use crate::run::{self, Source, MOST_OUTPUT};
 
-/// Answers the scripts without a negative tester by both. Prints how many those are, or returns the first script that
-/// differs. Panics if they are too few.
+/// Answers by both the scripts that the published Rust is given. Prints how many those are, or returns the first script
+/// that differs. Panics if they are too few.
 pub fn agree(kind: Kind, count: u64, seed: u64) -> Result<(), Vec<u8>> {
     let (mut compared, mut lines) = (0, 0);
     for script in (0..count).map(|place| generate::script(kind, seed + place)) {
@@ -17,16 +17,17 @@ pub fn agree(kind: Kind, count: u64, seed: u64) -> Result<(), Vec<u8>> {
             lines += right.run.lines;
         }
     }
-    assert!(compared >= least(kind, count), "{kind:?}: only {compared} of {count} scripts have no negative tester");
-    println!("{kind:?}: {compared} of {count} scripts have no negative tester; {lines} lines, no difference");
+    assert!(compared >= least(kind, count), "{kind:?}: the published Rust is given only {compared} of {count} scripts");
+    println!("{kind:?}: the published Rust is given {compared} of {count} scripts; {lines} lines, no difference");
     Ok(())
 }
 
-/// So many scripts have to be compared: were a negative tester seen in every script, nothing would be held to the
-/// published Rust. Kind `negative` is about them; of any other kind more than nine scripts in ten have none.
+/// So many scripts have to be compared: were a negative tester or unequal terms seen in every script, nothing would be
+/// held to the published Rust. The kinds `negative` and `unequal` are about them; of any other kind more than eight scripts
+/// in ten have none.
 fn least(kind: Kind, count: u64) -> u64 {
     match kind {
-        Kind::Negative => 0,
+        Kind::Negative | Kind::Unequal => 0,
         _ => count.div_ceil(2),
     }
 }

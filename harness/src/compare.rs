@@ -7,7 +7,7 @@ use std::process::{Command, Output, Stdio};
 
 /// Takes the scripts in turn from all kinds. Prints what was compared, or returns the first script that differs.
 pub fn compare(program: &str, count: u64, seed: u64) -> Result<(), Vec<u8>> {
-    let (mut lines, mut bytes, mut stopped, mut negative) = (0, 0, 0, 0);
+    let (mut lines, mut bytes, mut stopped, mut defined) = (0, 0, 0, 0);
     for place in 0..count {
         let kind = Kind::ALL[place as usize % Kind::ALL.len()];
         let script = generate::script(kind, seed + place);
@@ -18,10 +18,10 @@ pub fn compare(program: &str, count: u64, seed: u64) -> Result<(), Vec<u8>> {
         lines += run.lines;
         bytes += run.output.len();
         stopped += u64::from(run.result != 0);
-        negative += u64::from(source == Source::Definition);
+        defined += u64::from(source == Source::Definition);
     }
     println!("{count} scripts, {lines} lines, {bytes} bytes, {stopped} runs with a result other than 0: no difference");
-    println!("{} held to the published Rust, {negative} with a negative tester to the definition", count - negative);
+    println!("{} held to the published Rust, {defined} to the definition alone", count - defined);
     Ok(())
 }
 

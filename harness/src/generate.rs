@@ -6,6 +6,7 @@ use crate::negative_topics;
 use crate::reacting;
 use crate::rng::Rng;
 use crate::search::{self, Size};
+use crate::unequal_topics;
 
 #[derive(Clone, Copy, Debug)]
 pub enum Kind {
@@ -19,6 +20,8 @@ pub enum Kind {
     Damaged,
     /// About negative testers, which the other kinds seldom have; no line is refused.
     Negative,
+    /// About unequal terms, which the other kinds seldom have; no line is refused.
+    Unequal,
     Any,
     /// A search that goes on until a limit is near; for the benchmark.
     Long,
@@ -27,8 +30,16 @@ pub enum Kind {
 }
 
 impl Kind {
-    pub const ALL: [Kind; 7] =
-        [Kind::Search, Kind::Reacting, Kind::Refused, Kind::Limits, Kind::Damaged, Kind::Negative, Kind::Any];
+    pub const ALL: [Kind; 8] = [
+        Kind::Search,
+        Kind::Reacting,
+        Kind::Refused,
+        Kind::Limits,
+        Kind::Damaged,
+        Kind::Negative,
+        Kind::Unequal,
+        Kind::Any,
+    ];
 
     pub fn named(name: &str) -> Option<Kind> {
         match name {
@@ -38,6 +49,7 @@ impl Kind {
             "limits" => Some(Kind::Limits),
             "damaged" => Some(Kind::Damaged),
             "negative" => Some(Kind::Negative),
+            "unequal" => Some(Kind::Unequal),
             "any" => Some(Kind::Any),
             "long" => Some(Kind::Long),
             "stuck" => Some(Kind::Stuck),
@@ -60,9 +72,16 @@ fn script_of(kind: Kind, rng: &mut Rng) -> Vec<u8> {
         Kind::Refused => like_a_search(rng, 20),
         Kind::Limits => limits::limits(rng),
         Kind::Negative => negative_topics::negative(rng),
+        Kind::Unequal => unequal_topics::unequal(rng),
         Kind::Damaged => {
-            let kinds = [Kind::Search, Kind::Search, Kind::Reacting, Kind::Refused, Kind::Limits];
-            let script = script_of(kinds[rng.below(kinds.len())], rng);
+            let kind = match rng.below(100) {
+                0..=37 => Kind::Search,
+                38..=56 => Kind::Reacting,
+                57..=75 => Kind::Refused,
+                76..=94 => Kind::Limits,
+                _ => Kind::Unequal,
+            };
+            let script = script_of(kind, rng);
             damage::damage(rng, &script)
         }
         Kind::Any => {

@@ -29,4 +29,6 @@ mod shortcuts;
 mod signature;
 pub mod statistic;
 mod topics;
+mod unequal;
+mod unequal_topics;
 pub mod writer;

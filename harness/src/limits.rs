@@ -4,14 +4,14 @@ use crate::needs::Needs;
 use crate::rng::Rng;
 use crate::run::{MOST_OUTPUT, MOST_SCRIPT};
 use crate::search::{Search, Size};
-use crate::session::{MOST_LEVELS, MOST_PAIRS, MOST_PLACES, MOST_SORTS, MOST_SYMBOLS, MOST_TERMS};
+use crate::session::{MOST_LEVELS, MOST_PAIRS, MOST_PLACES, MOST_SORTS, MOST_SYMBOLS, MOST_TERMS, MOST_VARIABLES};
 use crate::writer::Writer;
 
 pub type Family = fn(&mut Rng) -> Vec<u8>;
 
 pub const FAMILIES: &[Family] = &[
     terms, full_checks, crowd, places, place_checks, pairs, levels, sorts, inhabitation, symbols, numbers, leaves,
-    long_ring, tall_towers, script_size, output_size,
+    long_ring, tall_towers, script_size, output_size, unequal,
 ];
 
 /// A script of a random family; the size families come more often, since each of their scripts meets its limit once.
@@ -226,7 +226,7 @@ fn levels(rng: &mut Rng) -> Vec<u8> {
 
 fn sorts(rng: &mut Rng) -> Vec<u8> {
     let mut w = Writer::new();
-    for _ in 0..MOST_SORTS + rng.between(0, 4) - 2 {
+    for _ in 0..MOST_SORTS + rng.between(0, 6) - 2 {
         w.line(if rng.chance(30) { "sort=d" } else { "sort=u" });
     }
     for sort in 0..MOST_SORTS + 2 {
@@ -321,7 +321,8 @@ fn numbers(rng: &mut Rng) -> Vec<u8> {
     w.line("term=21");
     w.line("eq=0,1");
     w.line("var=1023,2");
-    const KEYS: &[&str] = &["term", "eq", "var", "equate", "cong", "iface", "assert", "push", "pop", "check", "ctor"];
+    const KEYS: &[&str] =
+        &["term", "eq", "var", "equate", "cong", "iface", "assert", "push", "pop", "check", "ctor", "differ"];
     const LARGE: &[usize] = &[
         0, 1, 63, 64, 1_023, 1_024, 2_046, 2_047, 2_048, 65_535, 65_536, 2_147_483_647, 2_147_483_648, 4_294_967_294,
         4_294_967_295, 4_294_967_296, 18_446_744_073_709_551_615,
@@ -484,5 +485,38 @@ fn output_size(rng: &mut Rng) -> Vec<u8> {
     if rng.chance(50) {
         w.line("check=1");
     }
+    w.script
+}
+
+/// Unequal terms where no table has room: both ends of a chain of terms on a full table, said at each level, in a record
+/// as long as there may be.
+fn unequal(rng: &mut Rng) -> Vec<u8> {
+    let mut w = Writer::new();
+    declare_numbers(&mut w);
+    let count = rng.between(MOST_TERMS - 200, MOST_TERMS - 2);
+    fill_function_chain(&mut w, count);
+    let ends = if rng.chance(50) { [0, count - 1] } else { [count - 1, 0] };
+    let atom = w.term("eq", &ends).unwrap_or(0);
+    let variables = if rng.chance(30) { MOST_VARIABLES as usize } else { rng.between(1, 100) };
+    for variable in 0..variables {
+        w.numbers("var", &[variable, atom]);
+    }
+    fill_table(rng, &mut w, MOST_TERMS);
+    more_terms(rng, &mut w, 2);
+    for variable in 0..variables {
+        if rng.chance(20) {
+            w.line("push=1");
+        }
+        w.numbers("differ", &[2 * variable + 1]);
+    }
+    let middle = rng.below(count - 1);
+    for link in (0..count - 1).filter(|&link| link != middle) {
+        w.numbers("iface", &[link, link + 1, 0, link]);
+    }
+    w.line("check=1");
+    w.numbers("iface", &[middle + 1, middle, 0, middle]);
+    w.line("check=1");
+    w.numbers("pop", &[rng.below(MOST_LEVELS)]);
+    w.line("check=1");
     w.script
 }

@@ -1,5 +1,6 @@
 //! Answers scripts with the published solver or the definition, makes scripts, and counts what they meet.
 
+use oracle::definition::Beyond;
 use oracle::generate::{self, Kind};
 use oracle::run::{self, Source};
 use oracle::{agree, compare, records, rows, statistic};
@@ -12,10 +13,11 @@ harness statistic KIND COUNT SEED
 harness fixed EXAMPLES
 harness verify
 harness negative
+harness unequal
 harness agree KIND COUNT SEED
 harness rows FILE
 harness compare PROGRAM COUNT SEED
-KIND is search, reacting, refused, limits, damaged, negative or any.";
+KIND is search, reacting, refused, limits, damaged, negative, unequal or any.";
 
 fn main() {
     let arguments: Vec<String> = std::env::args().skip(1).collect();
@@ -39,7 +41,8 @@ fn command(arguments: &[&str]) -> Option<()> {
         }
         ["fixed", examples] => records::write_fixed(examples.as_ref(), &mut std::io::stdout()),
         ["verify"] => verify(),
-        ["negative"] => records::negative(&input()).iter().for_each(|place| println!("{place}")),
+        ["negative"] => places(|beyond| beyond.negative_tester),
+        ["unequal"] => places(|beyond| beyond.unequal_terms),
         ["agree", kind, count, seed] => agree(Kind::named(kind)?, count.parse().ok()?, seed.parse().ok()?),
         ["rows", file] => rows(file),
         ["compare", program, count, seed] => compare(program, count.parse().ok()?, seed.parse().ok()?),
@@ -63,7 +66,7 @@ fn answer(with_result: bool) {
     let (run, source) = run::agreed(&input());
     put(&run.output);
     if source == Source::Definition {
-        eprintln!("answered by the definition: a negative tester is asserted");
+        eprintln!("answered by the definition: a negative tester is asserted, or terms are said to differ");
     }
     match run.refused {
         0 => eprintln!("no line refused"),
@@ -72,6 +75,11 @@ fn answer(with_result: bool) {
     if with_result {
         eprintln!("result={} lines={} bytes={}", run.result, run.lines, run.output.len());
     }
+}
+
+/// Prints the places, from 0, of the records on standard input whose script has this.
+fn places(has: fn(Beyond) -> bool) {
+    records::places(&input(), has).iter().for_each(|place| println!("{place}"));
 }
 
 fn statistic(kind: Kind, count: u64, seed: u64) {
@@ -91,9 +99,9 @@ fn agree(kind: Kind, count: u64, seed: u64) {
     }
 }
 
-/// Answers the definition's own table of negative testers, which stands in the file, and compares.
+/// Answers the definition's own tables, which stand in the file, and compares.
 fn rows(file: &str) {
-    let text = std::fs::read_to_string(file).expect("the file of the table");
+    let text = std::fs::read_to_string(file).expect("the file of the tables");
     match rows::rows(&text) {
         Ok(count) => println!("rows: {count} rows of the definition's tables answered alike"),
         Err(what) => {

@@ -17,6 +17,11 @@ pub fn saying_no(rng: &mut Rng) -> Writer {
     react_with(Search::start(rng, Size::Small, 0).saying_no(true))
 }
 
+/// The same, and terms are said to differ.
+pub fn telling_apart(rng: &mut Rng) -> Writer {
+    react_with(Search::start(rng, Size::Small, 0).telling_apart(true))
+}
+
 fn react_with(search: Search) -> Writer {
     let mut core = Core { search, clauses: Vec::new(), assigned: BTreeMap::new() };
     core.prepare();
@@ -114,7 +119,7 @@ impl Core<'_> {
         if !self.search.may_assert(literal) {
             return Next::Again;
         }
-        let answer = self.search.w.numbers("assert", &[literal]);
+        let answer = self.search.say(literal);
         let atom = self.search.w.session.atom_of(variable as u32);
         if literal % 2 == 0 && self.search.w.session.symbol_of(atom).is_none() {
             self.search.w.numbers("equate", &[literal]);

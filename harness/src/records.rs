@@ -2,16 +2,19 @@
 //! parted by blanks: the bytes of the script, the bytes of the answers, the result and the lines answered; then the
 //! script's bytes and the answers' bytes, with nothing between or after them.
 
+use crate::definition::Beyond;
 use crate::generate::{self, Kind};
 use crate::inhabitation;
 use crate::limits;
 use crate::negative_topics;
 use crate::rng::Rng;
-use crate::run::{self, has_negative_tester};
+use crate::run::{self, beyond_rust};
 use crate::search;
 use crate::shortcuts;
 use crate::statistic::{self, Statistic};
 use crate::topics::TOPICS;
+use crate::unequal;
+use crate::unequal_topics;
 use std::io::Write;
 use std::path::Path;
 
@@ -63,7 +66,15 @@ pub fn write_fixed(examples: &Path, out: &mut dyn Write) {
     }
     for &(topic, count) in negative_topics::TOPICS {
         let scripts = (0..).map(|seed| search::on_negative_topic(&mut Rng::new(seed), topic).script);
-        let chosen = |script: &Vec<u8>| script.len() <= MOST_TOPIC_BYTES && has_negative_tester(script);
+        let chosen = |script: &Vec<u8>| script.len() <= MOST_TOPIC_BYTES && beyond_rust(script).negative_tester;
+        scripts.filter(chosen).take(count).for_each(|script| put(&script, out));
+    }
+    for script in unequal::scripts() {
+        put(&script, out);
+    }
+    for &(topic, count) in unequal_topics::TOPICS {
+        let scripts = (0..).map(|seed| search::on_unequal_topic(&mut Rng::new(seed), topic).script);
+        let chosen = |script: &Vec<u8>| script.len() <= MOST_TOPIC_BYTES && beyond_rust(script).unequal_terms;
         scripts.filter(chosen).take(count).for_each(|script| put(&script, out));
     }
 }
@@ -117,9 +128,10 @@ pub fn verify(bytes: &[u8]) -> (usize, Vec<usize>) {
     (records(bytes).count(), differing.map(|(place, _)| place).collect())
 }
 
-/// The places, from 0, of the records whose script has a negative tester: their answers are the definition's.
-pub fn negative(bytes: &[u8]) -> Vec<usize> {
-    let places = records(bytes).enumerate().filter(|(_, (script, _))| has_negative_tester(script));
+/// The places, from 0, of the records whose script has something that the published Rust is not given: their answers
+/// are the definition's.
+pub fn places(bytes: &[u8], has: fn(Beyond) -> bool) -> Vec<usize> {
+    let places = records(bytes).enumerate().filter(|(_, (script, _))| has(beyond_rust(script)));
     places.map(|(place, _)| place).collect()
 }
 
@@ -137,7 +149,7 @@ fn records(mut bytes: &[u8]) -> impl Iterator<Item = (&[u8], &[u8])> {
 }
 
 /// Whether the script gives the record again. A wrong oracle differs from the definition, or breaks off, at a negative
-/// tester too if its terms have other numbers: another answer in each case.
+/// tester or unequal terms too if its terms have other numbers: another answer in each case.
 fn gives_again(script: &[u8], expected: &[u8]) -> bool {
     std::panic::catch_unwind(|| record(script)).is_ok_and(|again| again == expected)
 }

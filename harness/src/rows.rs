@@ -1,5 +1,5 @@
-//! Holds the right run to the tables on which the prover computes the definition itself (`negatives` and `closings` in
-//! `crates/session/specs/Examples.antt`), so that its second reading is tied to something fixed.
+//! Holds the right run to the tables on which the prover computes the definition itself (`negatives`, `closings` and
+//! `unequals` in `crates/session/specs/Examples.antt`), so that its second reading is tied to something fixed.
 
 use crate::run;
 
@@ -9,11 +9,12 @@ struct Row {
     answers: String,
 }
 
-/// Answers each row of both tables. Returns how many rows there are, or what is wrong.
+/// Answers each row of the tables. Returns how many rows there are, or what is wrong.
 pub fn rows(text: &str) -> Result<usize, String> {
     let setting = Row { script: quoted(text, "\nsetting =")?, answers: quoted(text, "\nsetting-answers =")? };
     let nothing = Row { script: String::new(), answers: String::new() };
-    Ok(hold_table(text, "negatives", &setting)? + hold_table(text, "closings", &nothing)?)
+    let tables = [("negatives", &setting), ("closings", &nothing), ("unequals", &setting)];
+    tables.iter().map(|(name, setting)| hold_table(text, name, setting)).sum()
 }
 
 /// Answers each row of a table behind the lines that stand before all of them.

@@ -1,7 +1,7 @@
 //! A run over a whole script: questions 2 and 12. Question 1 has no counterpart, since no work tables are lent.
 
 use crate::answer::Answer;
-use crate::definition;
+use crate::definition::{self, Beyond};
 use crate::script;
 use crate::session;
 
@@ -25,7 +25,7 @@ pub struct Run {
 #[derive(Clone, Copy, PartialEq, Eq, Debug)]
 pub enum Source {
     Rust,
-    /// The script has a negative tester, which the published Rust is not given.
+    /// The script has a negative tester or unequal terms, which the published Rust is not given.
     Definition,
 }
 
@@ -34,15 +34,15 @@ pub fn by_rust(script: &[u8], room: usize) -> Run {
     run_lines(&mut session::Session::new(), script, room, |_, _, _| ())
 }
 
-/// A run of the definition, and whether the script has a negative tester.
-pub fn by_definition(script: &[u8], room: usize) -> (Run, bool) {
+/// A run of the definition, and what the script has that the published Rust is not given.
+pub fn by_definition(script: &[u8], room: usize) -> (Run, Beyond) {
     let mut session = definition::Session::new();
     let run = run_lines(&mut session, script, room, |_, _, _| ());
-    (run, session.has_negative_tester())
+    (run, session.beyond())
 }
 
-/// In a run of the definition, was a negative literal whose atom is a tester application asserted, by a line accepted?
-pub fn has_negative_tester(script: &[u8]) -> bool {
+/// What the lines accepted in a run of the definition have that the published Rust is not given.
+pub fn beyond_rust(script: &[u8]) -> Beyond {
     by_definition(script, MOST_OUTPUT).1
 }
 
@@ -61,8 +61,8 @@ pub struct Right {
 
 /// The right run in `room` bytes of output.
 pub fn right(script: &[u8], room: usize) -> Right {
-    let (defined, has_negative_tester) = by_definition(script, room);
-    if has_negative_tester {
+    let (defined, beyond) = by_definition(script, room);
+    if beyond.any() {
         return Right { run: defined, source: Source::Definition, agreed: true };
     }
     let run = by_rust(script, room);

@@ -42,6 +42,7 @@ pub enum Line {
     Assert(u32),
     Push,
     Pop(u32),
+    Differ(u32),
     Check { full: bool },
 }
 
@@ -72,6 +73,7 @@ pub fn read(line: &[u8]) -> Option<Line> {
         (b"assert", &[literal]) => Some(Line::Assert(literal)),
         (b"push", [1]) => Some(Line::Push),
         (b"pop", &[level]) => Some(Line::Pop(level)),
+        (b"differ", &[literal]) => Some(Line::Differ(literal)),
         (b"check", &[effort @ (0 | 1)]) => Some(Line::Check { full: effort == 1 }),
         _ => None,
     }

@@ -35,11 +35,15 @@ pub struct Search<'a> {
     pub first_variable: HashMap<usize, usize>,
     /// Whether the script asserts negative testers; decided when the first one comes up, unless before.
     says_no: Option<bool>,
+    /// Whether the script says of terms that they differ; decided when that first comes up, unless before.
+    tells_apart: Option<bool>,
 }
 
 /// How many of a hundred scripts in which a negative tester comes up assert it. The published Rust is not given such
 /// scripts, so most do without.
 const SAYS_NO_PERCENT: usize = 10;
+/// The same of unequal terms.
+const TELLS_APART_PERCENT: usize = 10;
 
 pub fn search(rng: &mut Rng, size: Size, refused_percent: usize) -> Writer {
     let mut search = Search::start(rng, size, refused_percent);
@@ -83,6 +87,14 @@ pub fn saying_no(rng: &mut Rng) -> Writer {
     search.w
 }
 
+/// A search that says of terms that they differ.
+pub fn telling_apart(rng: &mut Rng) -> Writer {
+    let size = if rng.chance(70) { Size::Small } else { Size::Middle };
+    let mut search = Search::start(rng, size, 0).telling_apart(true);
+    search.fill();
+    search.w
+}
+
 /// A small script on one topic, with a few random steps after it.
 pub fn on_topic(rng: &mut Rng, topic: Plan) -> Writer {
     about(Search::over(rng, Size::Small, 0, true, Needs::Nothing), topic)
@@ -91,6 +103,11 @@ pub fn on_topic(rng: &mut Rng, topic: Plan) -> Writer {
 /// The same, and the steps may assert negative testers.
 pub fn on_negative_topic(rng: &mut Rng, topic: Plan) -> Writer {
     about(Search::over(rng, Size::Small, 0, true, Needs::Nothing).saying_no(true), topic)
+}
+
+/// The same, and the steps may say of terms that they differ.
+pub fn on_unequal_topic(rng: &mut Rng, topic: Plan) -> Writer {
+    about(Search::over(rng, Size::Small, 0, true, Needs::Nothing).telling_apart(true), topic)
 }
 
 fn about(mut search: Search, topic: Plan) -> Writer {
@@ -111,7 +128,7 @@ impl<'a> Search<'a> {
     /// The long scripts of the benchmark close in one round, as they did when they were first timed.
     fn for_benchmark(rng: &'a mut Rng) -> Search<'a> {
         let rich = rng.chance(60);
-        Search::over(rng, Size::Large, 0, rich, Needs::Nothing).saying_no(false)
+        Search::over(rng, Size::Large, 0, rich, Needs::Nothing).saying_no(false).telling_apart(false)
     }
 
     fn over(rng: &'a mut Rng, size: Size, refused_percent: usize, rich: bool, needs: Needs) -> Search<'a> {
@@ -126,7 +143,19 @@ impl<'a> Search<'a> {
         let mut w = Writer::new();
         let signature = Signature::declare(rng, &mut w, &shape);
         let (variables, first_variable) = (Vec::new(), HashMap::new());
-        Search { rng, w, signature, size, refused_percent, rich, tags: 0, variables, first_variable, says_no: None }
+        Search {
+            rng,
+            w,
+            signature,
+            size,
+            refused_percent,
+            rich,
+            tags: 0,
+            variables,
+            first_variable,
+            says_no: None,
+            tells_apart: None,
+        }
     }
 
     /// Decides whether the script asserts negative testers.
@@ -139,6 +168,25 @@ impl<'a> Search<'a> {
     pub fn may_assert(&mut self, literal: usize) -> bool {
         !self.w.session.is_negative_tester(literal as u32)
             || *self.says_no.get_or_insert_with(|| self.rng.chance(SAYS_NO_PERCENT))
+    }
+
+    /// Decides whether the script says of terms that they differ.
+    pub fn telling_apart(mut self, yes: bool) -> Search<'a> {
+        self.tells_apart = Some(yes);
+        self
+    }
+
+    /// The negative literal of an equation may be said by `differ`, which few scripts do. Decided by numbers of its own:
+    /// the other scripts go on as if nothing had been asked.
+    fn may_differ(&mut self, literal: usize) -> bool {
+        let decide = || Rng::new(self.w.script.len() as u64).chance(TELLS_APART_PERCENT);
+        literal % 2 == 1 && self.w.session.is_equation(literal as u32) && *self.tells_apart.get_or_insert_with(decide)
+    }
+
+    /// Puts a literal in force: by `assert` or, where its sides may be said to differ, mostly by `differ`.
+    pub fn say(&mut self, literal: usize) -> Answer {
+        let differ = self.may_differ(literal) && self.rng.chance(80);
+        self.w.numbers(if differ { "differ" } else { "assert" }, &[literal])
     }
 
     fn fill(&mut self) {
@@ -215,7 +263,7 @@ impl<'a> Search<'a> {
             return;
         };
         if self.rng.chance(20) && self.may_assert(2 * variable + 1) {
-            let answer = self.w.numbers("assert", &[2 * variable + 1]);
+            let answer = self.say(2 * variable + 1);
             self.go_back_after(&answer);
         } else {
             self.hold(variable, atom);

@@ -1,6 +1,6 @@
-//! The session: questions 4 to 11 over the published solver. `check` and `assert` answers come from `DtSolver`,
-//! equality from `EqualityEngine`, terms from `Context`. It is given no script with a negative tester, and breaks off at
-//! one.
+//! The session: questions 4 to 11 and 13 over the published solver. `check` and `assert` answers come from `DtSolver`,
+//! equality from `EqualityEngine`, terms from `Context`. It is given no script with a negative tester or with unequal
+//! terms, and breaks off at either.
 
 use crate::answer::{Answer, Leaf};
 use crate::run::Answers;
@@ -91,6 +91,7 @@ impl Session {
             Line::Assert(literal) => self.assert(*literal),
             Line::Push => self.push(),
             Line::Pop(level) => self.pop(*level),
+            Line::Differ(literal) => self.differ(*literal),
             Line::Check { full } => self.check(*full),
         }
     }
@@ -204,7 +205,7 @@ impl Session {
     fn equate(&mut self, literal: u32) -> Result<Answer, Refusal> {
         let literal = self.literal(literal)?;
         let atom = self.atoms.atom(literal.var());
-        ensure(literal.is_positive() && self.operation(atom) == Op::Builtin(BuiltinOp::Eq), 8)?;
+        ensure(literal.is_positive() && self.is_equation(atom), 8)?;
         let (t, u) = (self.arguments(atom)[0], self.arguments(atom)[1]);
         self.merge(t, u, EqJust::Asserted(literal));
         Ok(Answer::Ok)
@@ -265,6 +266,13 @@ impl Session {
             None => Answer::Ok,
             Some(leaves) => Answer::Conflict(first_occurrences(&leaves)),
         })
+    }
+
+    /// The published Rust has no such line, so it answers only those that are refused.
+    fn differ(&self, literal: u32) -> Result<Answer, Refusal> {
+        let literal = self.literal(literal)?;
+        ensure(!literal.is_positive() && self.is_equation(self.atoms.atom(literal.var())), 13)?;
+        panic!("unequal terms were given to the published Rust");
     }
 
     fn push(&mut self) -> Result<Answer, Refusal> {
@@ -342,6 +350,10 @@ impl Session {
             TermNode::App { op, .. } => *op,
             TermNode::Const { .. } => unreachable!("a script has no constants"),
         }
+    }
+
+    fn is_equation(&self, t: TermId) -> bool {
+        self.operation(t) == Op::Builtin(BuiltinOp::Eq)
     }
 
     fn is_tester(&self, t: TermId) -> bool {

@@ -10,9 +10,11 @@ use shinri_core::{TermId, TheoryJust};
 use shinri_theory::types::{EqJust, EqLeaf};
 use shinri_theory::EqualityEngine;
 use std::collections::{BTreeMap, BTreeSet};
+use unequal::{cited_unequal, Said};
 
 mod closing;
 mod details;
+mod unequal;
 
 /// How often each thing was met, and in how many scripts.
 #[derive(Default)]
@@ -96,6 +98,9 @@ struct Watcher {
     /// Testers asserted so far, and atoms that collapse has handed out.
     asserted: BTreeSet<usize>,
     collapsed: BTreeSet<usize>,
+    /// The literals that `differ` lines said, and the negative ones of equations that were asserted.
+    said: BTreeMap<u32, Said>,
+    denied_equations: BTreeSet<u32>,
     /// Whether the explanation just followed goes through a pair after the first of a congruence.
     later_pair: bool,
 }
@@ -137,9 +142,11 @@ impl Watcher {
             Line::Push => self.labels.push(),
             Line::Pop(level) => self.go_back(level as usize),
             Line::Assert(literal) => self.see_assert(session, literal, answer),
+            Line::Differ(literal) => self.see_differ(session, literal),
             Line::Check { full: true } => self.see_check(session, answer),
             _ => {}
         }
+        self.note_equal_sides(session);
     }
 
     fn count(&mut self, name: impl Into<String>) {
@@ -150,6 +157,9 @@ impl Watcher {
         self.count(format!("refused {question:>2}"));
         if question == 10 {
             self.see_refused_close(session);
+        }
+        if let (13, Some(Line::Differ(literal))) = (question, script::read(line)) {
+            self.see_refused_differ(session, literal);
         }
         if script::read(line).is_some() {
             self.count(format!("refused {question:>2} {}", key(line)));
@@ -178,6 +188,7 @@ impl Watcher {
         if level < self.labels.level() {
             self.labels.pop(level);
             self.went_back = true;
+            self.go_back_unequal(level);
         }
     }
 
@@ -203,6 +214,8 @@ impl Watcher {
     fn see_assert(&mut self, session: &Session, literal: u32, answer: &Answer) {
         if literal % 2 == 0 {
             self.asserted.insert(session.atom_of(literal / 2));
+        } else if session.is_equation(literal) {
+            self.denied_equations.insert(literal);
         }
         if let Answer::Conflict(leaves) = answer {
             self.see_conflict(leaves);
@@ -223,17 +236,12 @@ impl Watcher {
         match answer {
             Answer::Conflict(leaves) => self.see_check_conflict(session, leaves),
             Answer::Split { atoms, guards, phases } => {
-                let rule = if !guards.is_empty() {
-                    self.collect(session, atoms[0]);
-                    "instantiation"
-                } else if !phases.is_empty() {
-                    "exhaustiveness"
-                } else if session.symbol_of(atoms[0]).is_none() {
-                    self.see_collapse(session, atoms[0]);
-                    "collapse"
-                } else {
-                    "tester lemma"
-                };
+                let rule = rule_of_split(session, atoms, guards, phases);
+                match rule {
+                    "instantiation" => self.collect(session, atoms[0]),
+                    "collapse" => self.see_collapse(session, atoms[0]),
+                    _ => {}
+                }
                 self.count(format!("rule {rule}"));
             }
             Answer::Unknown => self.count("rule unknown"),
@@ -262,15 +270,22 @@ impl Watcher {
                 self.count("rule negative tester in check");
                 self.see_negative(session, literal);
                 self.see_negative_clash(session);
+                self.see_clash_before_unequal(session, "negative tester");
             } else {
                 self.count("rule tester clash");
                 self.see_tester_clash(session, leaves);
+                self.see_clash_before_unequal(session, "tester clash");
             };
+        }
+        if let Some(literal) = cited_unequal(session, leaves) {
+            return self.see_unequal(session, leaves, literal);
         }
         if let Some((p, q)) = self.clash(session) {
             self.count("rule constructor clash");
             self.see_clashing_classes(session);
-            return self.see_depth(&[(p, q)]);
+            self.see_clash_before_unequal(session, "constructor clash");
+            self.see_depth(&[(p, q)]);
+            return;
         }
         self.count("rule ring");
         let ring = self.ring(session).expect("a conflict that is no clash is a ring");
@@ -351,7 +366,8 @@ impl Watcher {
         None
     }
 
-    fn see_depth(&mut self, pairs: &[(usize, usize)]) {
+    /// Counts how deep an explanation goes, and returns it.
+    fn see_depth(&mut self, pairs: &[(usize, usize)]) -> usize {
         let mut seen = BTreeSet::new();
         self.later_pair = false;
         let depth = pairs.iter().map(|&(t, u)| self.depth(t, u, &mut seen)).max().unwrap_or(0);
@@ -363,6 +379,7 @@ impl Watcher {
         if self.later_pair {
             self.count("conflict through a later pair of a congruence");
         }
+        depth
     }
 
     /// How many congruences lie one within the other in the explanation of a pair.
@@ -391,6 +408,19 @@ impl Watcher {
 fn key(line: &[u8]) -> String {
     let key = line.split(|&byte| byte == b'=').next().unwrap_or_default();
     String::from_utf8_lossy(key).into_owned()
+}
+
+/// The rule that hands out a lemma of this form.
+fn rule_of_split(session: &Session, atoms: &[usize], guards: &[u32], phases: &[Option<bool>]) -> &'static str {
+    if !guards.is_empty() {
+        "instantiation"
+    } else if !phases.is_empty() {
+        "exhaustiveness"
+    } else if session.symbol_of(atoms[0]).is_none() {
+        "collapse"
+    } else {
+        "tester lemma"
+    }
 }
 
 /// The literal of a tester, which a tester's conflict cites first and no other does.

@@ -30,12 +30,12 @@ impl Measured {
     }
 }
 
-/// Panics unless both give the script the same answers, and if it has a negative tester, which the published Rust is not
-/// given. Returns how many lines were answered.
+/// Panics unless both give the script the same answers, and if it has a negative tester or unequal terms, which the
+/// published Rust is not given. Returns how many lines were answered.
 pub fn hold_to_the_rust(name: &str, script: &[u8]) -> usize {
     let mut lent = Lent::new(run::MOST_OUTPUT);
     let Right { run: expected, source, .. } = run::right(script, run::MOST_OUTPUT);
-    assert!(source == Source::Rust, "{name}: a negative tester is asserted");
+    assert!(source == Source::Rust, "{name}: the published Rust is not given this");
     let ran = library::run(script, &mut lent);
     let same = ran.result == expected.result
         && ran.lines == expected.lines

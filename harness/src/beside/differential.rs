@@ -1,6 +1,6 @@
 //! Generated scripts through the proved library and the published solver: answer bytes, result, counts, the output
-//! past the last answer and the work tables are compared. Scripts with a negative tester are held to the definition
-//! alone; on the others the definition is held to the published solver too.
+//! past the last answer and the work tables are compared. Scripts with a negative tester or unequal terms are held to the
+//! definition alone; on the others the definition is held to the published solver too.
 
 use crate::library::{self, Lent, Ran, TABLE_WORDS};
 use oracle::generate::{self, Kind};
@@ -155,8 +155,8 @@ impl Found {
 #[derive(Default)]
 struct Tally {
     scripts: u64,
-    /// How many of them have a negative tester.
-    negative: u64,
+    /// How many of them have a negative tester or unequal terms.
+    defined: u64,
     lines: usize,
     bytes: usize,
     results: [u64; 13],
@@ -167,7 +167,7 @@ impl Tally {
     fn add(&mut self, script: &[u8], right: &Right) {
         let Right { run, source, .. } = right;
         self.scripts += 1;
-        self.negative += u64::from(*source == Source::Definition);
+        self.defined += u64::from(*source == Source::Definition);
         self.lines += run.lines;
         self.bytes += run.output.len();
         self.results[run.result as usize] += 1;
@@ -176,7 +176,7 @@ impl Tally {
 
     fn join(&mut self, other: Tally) {
         self.scripts += other.scripts;
-        self.negative += other.negative;
+        self.defined += other.defined;
         self.lines += other.lines;
         self.bytes += other.bytes;
         for (all, &count) in self.results.iter_mut().zip(&other.results) {
@@ -189,8 +189,8 @@ impl Tally {
         let results: Vec<String> = [0, 1, 2, 12].map(|n| format!("{} with result {n}", self.results[n])).to_vec();
         let results = results.join(", ");
         println!("{} scripts ({results}), {} lines, {} bytes: no difference", self.scripts, self.lines, self.bytes);
-        println!("{} held to the published Rust and the definition", self.scripts - self.negative);
-        println!("{} with a negative tester held to the definition alone", self.negative);
+        println!("{} held to the published Rust and the definition", self.scripts - self.defined);
+        println!("{} with a negative tester or unequal terms held to the definition alone", self.defined);
         println!("{} minutes {} seconds; met by whole runs of these scripts:", seconds / 60, seconds % 60);
         self.met.print();
     }

@@ -1,6 +1,6 @@
 //! The scripts of the benchmark, by family. Each is within the limits of the scope document 01 unless its family is
-//! about what is refused. None has a negative tester: the published Rust is not given one, and both sides have to give
-//! the same answers.
+//! about what is refused. None has a negative tester or unequal terms: the published Rust is not given those, and both
+//! sides have to give the same answers.
 
 use crate::shapes::Shape;
 use oracle::generate::{self, Kind};
@@ -71,10 +71,10 @@ fn lines_of(bytes: &[u8]) -> usize {
     oracle::script::lines(bytes).count()
 }
 
-/// The first generated scripts of a kind that fit and have no negative tester.
+/// The first generated scripts of a kind that fit and that the published Rust is given.
 fn generated(kind: Kind, count: usize, fits: impl Fn(&[u8]) -> bool) -> Vec<Script> {
     let named = |seed| script(format!("seed {seed}"), generate::script(kind, seed));
-    let chosen = |made: &Script| fits(&made.bytes) && !run::has_negative_tester(&made.bytes);
+    let chosen = |made: &Script| fits(&made.bytes) && !run::beyond_rust(&made.bytes).any();
     (1..).map(named).filter(chosen).take(count).collect()
 }
 

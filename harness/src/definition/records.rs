@@ -1,9 +1,9 @@
-//! Records.antt: collection, the records of testers, and `assert`.
+//! Records.antt: collection, the records by level, `assert` and `differ`.
 
 use super::atom;
 use super::context::{Context, CtorApp, TesterApp};
 use super::eq_engine::firsts;
-use super::state::{insert, AssertedTester, State};
+use super::state::{insert, AssertedAtom, State};
 use crate::answer::Leaf;
 
 /// Constructor, selector and tester applications and datatype terms.
@@ -24,14 +24,14 @@ fn collect(cx: &Context, t: usize, seen: &mut Vec<usize>) {
 }
 
 /// The entries of a record and, unless the atom has one, an entry for it.
-fn enter(record: &mut Vec<AssertedTester>, entry: AssertedTester) {
+fn enter(record: &mut Vec<AssertedAtom>, entry: AssertedAtom) {
     if !record.iter().any(|e| e.atom == entry.atom) {
         record.push(entry);
     }
 }
 
 /// The entries of level k or lower.
-pub fn pop_testers(k: usize, record: &mut Vec<AssertedTester>) {
+pub fn pop_entries(k: usize, record: &mut Vec<AssertedAtom>) {
     record.retain(|e| e.level <= k);
 }
 
@@ -49,17 +49,30 @@ impl State {
     /// A positive tester goes into the lasting record and into the level record.
     fn record_tester(&mut self, atom: usize, lit: u32) {
         insert(&mut self.dt.lasting, atom);
-        enter(&mut self.dt.level_record, AssertedTester { atom, lit, level: self.level });
+        enter(&mut self.dt.level_record, AssertedAtom { atom, lit, level: self.level });
     }
 
     /// A negative tester goes into a record of its own.
     fn record_negative(&mut self, atom: usize, lit: u32) {
-        enter(&mut self.dt.negative_record, AssertedTester { atom, lit, level: self.level });
+        enter(&mut self.dt.negative_record, AssertedAtom { atom, lit, level: self.level });
+    }
+
+    /// A negative equation literal goes into a record of its own, once per literal.
+    pub fn differ(&mut self, lit: u32) {
+        let (record, atom) = (&mut self.dt.disequalities, atom::atom(&self.atoms, lit as usize / 2));
+        if !record.iter().any(|e| e.lit == lit) {
+            record.push(AssertedAtom { atom, lit, level: self.level });
+        }
+    }
+
+    /// A literal, then one term explained to another.
+    fn literal_leaves(&self, lit: u32, t: usize, u: usize) -> Vec<Leaf> {
+        firsts([vec![Leaf::Literal(lit)], self.eq.explain(t, u)].concat())
     }
 
     /// The literal, then the term explained to the application.
     fn tester_leaves(&self, lit: u32, t: usize, c: &CtorApp) -> Vec<Leaf> {
-        firsts([vec![Leaf::Literal(lit)], self.eq.explain(t, c.app)].concat())
+        self.literal_leaves(lit, t, c.app)
     }
 
     /// The conflict of a tester with the lowest marked constructor application of its term's class.
@@ -76,6 +89,13 @@ impl State {
     /// The conflict of a negative tester with that application.
     pub fn negative_conflict(&self, lit: u32, x: &TesterApp) -> Option<Vec<Leaf>> {
         self.own_app(x).map(|c| self.tester_leaves(lit, x.arg, &c))
+    }
+
+    /// The conflict of a negative equation literal: the literal, then the first side explained to the second.
+    pub fn disequality_conflict(&self, lit: u32, atom: usize) -> Option<Vec<Leaf>> {
+        let sides = self.terms.children(atom);
+        let (a, b) = (sides[0], sides[1]);
+        self.equal(a, b).then(|| self.literal_leaves(lit, a, b))
     }
 
     /// The tester application that a literal is about, if it is about one.

@@ -4,7 +4,7 @@
 use super::atom::var_of_atom;
 use super::context::{Context, CtorApp, SelApp, TesterApp};
 use super::eq_engine::firsts;
-use super::state::{insert, mem, AssertedTester, State};
+use super::state::{insert, mem, AssertedAtom, State};
 use crate::answer::{Answer, Leaf};
 
 /// Each element with each later one, by the earlier and then the later.
@@ -23,7 +23,7 @@ impl State {
     /// The first conflict of a record's entries.
     fn clash_of(
         &self,
-        record: &[AssertedTester],
+        record: &[AssertedAtom],
         conflict: impl Fn(&State, u32, &TesterApp) -> Option<Vec<Leaf>>,
     ) -> Option<Answer> {
         record.iter().find_map(|e| conflict(self, e.lit, &self.terms.tester_app(e.atom)?)).map(Answer::Conflict)
@@ -35,6 +35,11 @@ impl State {
 
     fn negative_clash(&self) -> Option<Answer> {
         self.clash_of(&self.dt.negative_record, State::negative_conflict)
+    }
+
+    /// The first entry of the record whose sides are equal now.
+    fn disequality_clash(&self) -> Option<Answer> {
+        self.dt.disequalities.iter().find_map(|e| self.disequality_conflict(e.lit, e.atom)).map(Answer::Conflict)
     }
 
     fn instantiate_injectivity_selectors(&mut self) {
@@ -132,7 +137,11 @@ impl State {
     }
 
     fn before_ring(&mut self) -> Option<Answer> {
-        let clash = self.constructor_clash().or_else(|| self.tester_clash()).or_else(|| self.negative_clash());
+        let clash = self
+            .constructor_clash()
+            .or_else(|| self.tester_clash())
+            .or_else(|| self.negative_clash())
+            .or_else(|| self.disequality_clash());
         if clash.is_some() {
             return clash;
         }

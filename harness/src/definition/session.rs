@@ -1,9 +1,9 @@
-//! Session.antt: the questions 4 to 11 in order, what an accepted line does, and one step.
+//! Session.antt: the questions 4 to 11 and 13 in order, what an accepted line does, and one step.
 
 use super::atom::{self, Registered};
 use super::context::{Op, Role, SortNode};
-use super::eq_engine::EqJust;
-use super::records::{is_positive, pop_testers};
+use super::eq_engine::{firsts, EqJust};
+use super::records::{is_positive, pop_entries};
 use super::state::State;
 use crate::answer::{Answer, Leaf};
 use crate::run::Answers;
@@ -14,8 +14,23 @@ use crate::session::{MOST_LEVELS, MOST_PAIRS, MOST_PLACES, MOST_SORTS, MOST_SYMB
 pub struct Session {
     state: State,
     closed: bool,
-    /// No part of the definition: whether a negative literal of a tester application was asserted, by a line accepted.
-    has_negative_tester: bool,
+    /// No part of the definition.
+    beyond: Beyond,
+}
+
+/// What the lines accepted so far have that the published Rust is not given.
+#[derive(Clone, Copy, Default)]
+pub struct Beyond {
+    /// A negative literal of a tester application was asserted.
+    pub negative_tester: bool,
+    /// A `differ` line was accepted.
+    pub unequal_terms: bool,
+}
+
+impl Beyond {
+    pub fn any(self) -> bool {
+        self.negative_tester || self.unequal_terms
+    }
 }
 
 /// The number of the question that was answered with no.
@@ -64,12 +79,11 @@ impl Answers for Session {
 
 impl Session {
     pub fn new() -> Session {
-        Session { state: State::empty(), closed: false, has_negative_tester: false }
+        Session { state: State::empty(), closed: false, beyond: Beyond::default() }
     }
 
-    /// Whether a negative literal whose atom is a tester application was asserted, by a line accepted.
-    pub fn has_negative_tester(&self) -> bool {
-        self.has_negative_tester
+    pub fn beyond(&self) -> Beyond {
+        self.beyond
     }
 
     fn sort_exists(&self, x: u32) -> bool {
@@ -122,7 +136,12 @@ impl Session {
 
     /// 8. For `equate`: is L positive and its atom an equation?
     fn equation(&self, lit: u32) -> Result<(), Refusal> {
-        ask(is_positive(lit) && self.op(self.atom_of(lit / 2)) == Op::Eq, 8)
+        ask(is_positive(lit) && self.is_equation(lit), 8)
+    }
+
+    /// 13, asked after 8. For `differ`: is L negative and its atom an equation?
+    fn disequality(&self, lit: u32) -> Result<(), Refusal> {
+        ask(!is_positive(lit) && self.is_equation(lit), 13)
     }
 
     /// 9. For `cong`: same operation, and each argument pair equal now?
@@ -136,7 +155,7 @@ impl Session {
         ask(self.state.terms.all_grounded(), 10)
     }
 
-    /// The questions 4 to 10 that concern a line, in order.
+    /// The questions 4 to 10 and 13 that concern a line, in order.
     fn questions(&self, line: &Line) -> Result<(), Refusal> {
         match line {
             Line::Sort { .. } => self.before_close(),
@@ -189,6 +208,11 @@ impl Session {
                 self.after_close()?;
                 exist(self.var_exists(*lit))
             }
+            Line::Differ(lit) => {
+                self.after_close()?;
+                exist(self.var_exists(*lit))?;
+                self.disequality(*lit)
+            }
             Line::Push | Line::Pop(_) | Line::Check { .. } => self.after_close(),
         }
     }
@@ -204,8 +228,14 @@ impl Session {
     }
 
     fn assert(&mut self, lit: u32) -> Answer {
-        self.has_negative_tester |= self.is_negative_tester(lit);
+        self.beyond.negative_tester |= self.is_negative_tester(lit);
         self.state.assert(lit).map_or(Answer::Ok, Answer::Conflict)
+    }
+
+    fn differ(&mut self, lit: u32) -> Answer {
+        self.beyond.unequal_terms = true;
+        self.state.differ(lit);
+        Answer::Ok
     }
 
     /// K at or above the level count changes nothing.
@@ -214,8 +244,9 @@ impl Session {
         if k < state.level {
             state.level = k;
             state.eq.pop_merges(k);
-            pop_testers(k, &mut state.dt.level_record);
-            pop_testers(k, &mut state.dt.negative_record);
+            pop_entries(k, &mut state.dt.level_record);
+            pop_entries(k, &mut state.dt.negative_record);
+            pop_entries(k, &mut state.dt.disequalities);
         }
         Answer::Ok
     }
@@ -249,6 +280,7 @@ impl Session {
             Line::Assert(lit) => return self.assert(*lit),
             Line::Push => state.level += 1,
             Line::Pop(k) => return self.pop_to(*k as usize),
+            Line::Differ(lit) => return self.differ(*lit),
             Line::Check { full } => return state.check(*full),
         }
         Answer::Ok
@@ -337,6 +369,29 @@ impl Session {
 
     pub fn has_negative_record(&self) -> bool {
         !self.state.dt.negative_record.is_empty()
+    }
+
+    /// The literals in the record of unequal terms, in order of the lines.
+    pub fn unequal_literals(&self) -> Vec<u32> {
+        self.state.dt.disequalities.iter().map(|e| e.lit).collect()
+    }
+
+    /// The session after a full check that is given no unequal terms, and its answer.
+    pub fn check_without_unequal(&self) -> (Session, Answer) {
+        let mut after = self.clone();
+        after.state.dt.disequalities.clear();
+        let answer = after.state.check(true);
+        (after, answer)
+    }
+
+    /// Why two equal terms are equal.
+    pub fn explain(&self, t: usize, u: usize) -> Vec<Leaf> {
+        firsts(self.state.eq.explain(t, u))
+    }
+
+    /// Whether a literal's atom is an equation.
+    pub fn is_equation(&self, literal: u32) -> bool {
+        self.op(self.atom_of(literal / 2)) == Op::Eq
     }
 
     /// Whether a literal says of a term that it is not of a constructor.

@@ -4,9 +4,9 @@ use super::atom::Registered;
 use super::context::{Context, CtorApp, Op, SelApp, TesterApp};
 use super::eq_engine::EqEngine;
 
-/// An entry of a record of testers: a tester atom, the literal that first asserted it, the level it came at.
+/// An entry of a record: an atom, the literal of it that a line put in force, the level it came at.
 #[derive(Clone, Copy)]
-pub struct AssertedTester {
+pub struct AssertedAtom {
     pub atom: usize,
     pub lit: u32,
     pub level: usize,
@@ -16,9 +16,11 @@ pub struct AssertedTester {
 #[derive(Clone, Default)]
 pub struct DtSolver {
     pub marks: Vec<usize>,
-    pub level_record: Vec<AssertedTester>,
+    pub level_record: Vec<AssertedAtom>,
     /// The record of negative testers, in order of assertion.
-    pub negative_record: Vec<AssertedTester>,
+    pub negative_record: Vec<AssertedAtom>,
+    /// The record of unequal terms, in order of the lines.
+    pub disequalities: Vec<AssertedAtom>,
     pub lasting: Vec<usize>,
     /// Atoms handed out by collapse, tester lemma and instantiation.
     pub emitted: Vec<usize>,

@@ -92,6 +92,7 @@ impl Watcher {
         if session.has_negative_record() {
             self.count("check past negative testers");
         }
+        self.see_past_unequal(session);
         let crowds = self.crowds();
         if crowds.values().any(|crowd| crowd.len() > 2) {
             self.count("check with three applications in a class");
