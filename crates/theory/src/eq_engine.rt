@@ -79,10 +79,7 @@ const KIND_UNIT: usize = 65536;
 
 const LEVEL_UNIT: usize = 262144;
 
-// The marks of one explanation: for each argument pair in force whether it has been expanded.
-const MARKS: usize = 0;
-
-// So many marks are enough for most explanations.
+// An explanation has a mark of one byte for each argument pair in force: whether it has been expanded. So many are enough for most.
 const FEW: usize = 64;
 
 // ---- classes
@@ -577,7 +574,7 @@ fn forest_nca(t: &[u32], a: usize, b: usize) -> usize
 
 // Marks the argument pairs in force that are the pair of a and b: all of them have one first pair. The index may have pairs behind those in
 // force, and a first pair among them may have no mark.
-fn mark_pairs(t: &[u32], a: usize, b: usize, marks: &mut [u32])
+fn mark_pairs(t: &[u32], a: usize, b: usize, marks: &mut [u8])
     requires { ⌜ EngineSound (now t) × IsNode a × IsNode b × (pairs-in-force (merges (now t)) ≤ length (now marks)) ⌝ }
     ensures { λ _. ⌜ MarksPair (now (t .entry)) a b (now (marks .entry)) (now (marks .exit)) ⌝ }
 {
@@ -589,20 +586,20 @@ fn mark_pairs(t: &[u32], a: usize, b: usize, marks: &mut [u32])
     if marks.len() <= first {
         return;
     }
-    put_at(marks, MARKS, first, 1);
+    marks[first] = 1;
 }
 
 // Has argument pair j been expanded? Its first pair has the mark.
-fn is_expanded(t: &[u32], j: usize, marks: &[u32]) -> bool
+fn is_expanded(t: &[u32], j: usize, marks: &[u8]) -> bool
     requires { ⌜ EngineSound (now t) × (j < pairs-in-force (merges (now t))) × (pairs-in-force (merges (now t)) ≤ length (now marks)) ⌝ }
     ensures { λ r. ⌜ r ≡ mark-of (now (t .entry)) (now (marks .entry)) j ⌝ }
 {
     let first = get_at(t, LEFT, j) / MAX_TERMS;
-    get_at(marks, MARKS, first) != 0
+    marks[first] != 0
 }
 
 // Explains two equal nodes whose pair has not been expanded yet: the first up to the nearest common ancestor, then the second.
-fn explain_rec(t: &[u32], a: usize, b: usize, marks: &mut [u32], out: &mut [u32])
+fn explain_rec(t: &[u32], a: usize, b: usize, marks: &mut [u8], out: &mut [u32])
     requires { ⌜ Explaining (now t) (now marks) (now out) × EqualNodes (now t) a b ⌝ }
     ensures { λ _. ⌜ Goes (now (t .entry)) (now (marks .entry)) (now (out .entry)) (now (marks .exit)) (now (out .exit))
         (NewPair a b) ⌝ }
@@ -617,7 +614,7 @@ fn explain_rec(t: &[u32], a: usize, b: usize, marks: &mut [u32], out: &mut [u32]
 }
 
 // Expands the edges from a node up to one above it.
-fn expand_way(t: &[u32], node: usize, top: usize, marks: &mut [u32], out: &mut [u32])
+fn expand_way(t: &[u32], node: usize, top: usize, marks: &mut [u8], out: &mut [u32])
     requires { ⌜ Explaining (now t) (now marks) (now out) × Upward (now t) node top ⌝ }
     ensures { λ _. ⌜ Goes (now (t .entry)) (now (marks .entry)) (now (out .entry)) (now (marks .exit)) (now (out .exit))
         (Way (up-to (now (t .entry)) node top)) ⌝ }
@@ -630,7 +627,7 @@ fn expand_way(t: &[u32], node: usize, top: usize, marks: &mut [u32], out: &mut [
 }
 
 // Expands the label of merge i: its leaf, or the pairs of a congruence.
-fn expand_edge(t: &[u32], i: usize, marks: &mut [u32], out: &mut [u32])
+fn expand_edge(t: &[u32], i: usize, marks: &mut [u8], out: &mut [u32])
     requires { ⌜ Explaining (now t) (now marks) (now out) × (i < merges# (now t)) ⌝ }
     ensures { λ _. ⌜ Goes (now (t .entry)) (now (marks .entry)) (now (out .entry)) (now (marks .exit)) (now (out .exit))
         (Label (just-at (now (t .entry)) i)) ⌝ }
@@ -654,7 +651,7 @@ fn expand_edge(t: &[u32], i: usize, marks: &mut [u32], out: &mut [u32])
 }
 
 // Explains the argument pairs from one number up to another in turn.
-fn expand_pairs(t: &[u32], from: usize, to: usize, marks: &mut [u32], out: &mut [u32])
+fn expand_pairs(t: &[u32], from: usize, to: usize, marks: &mut [u8], out: &mut [u32])
     requires { ⌜ Explaining (now t) (now marks) (now out) × PairsEqual (now t) from to ⌝ }
     ensures { λ _. ⌜ Goes (now (t .entry)) (now (marks .entry)) (now (out .entry)) (now (marks .exit)) (now (out .exit))
         (Pairs (pairs-from (now (t .entry)) from to)) ⌝ }
@@ -667,7 +664,7 @@ fn expand_pairs(t: &[u32], from: usize, to: usize, marks: &mut [u32], out: &mut 
 }
 
 // Explains argument pair j, unless it has been expanded.
-fn expand_pair(t: &[u32], j: usize, marks: &mut [u32], out: &mut [u32])
+fn expand_pair(t: &[u32], j: usize, marks: &mut [u8], out: &mut [u32])
     requires { ⌜ Explaining (now t) (now marks) (now out) × EqualPair (now t) j ⌝ }
     ensures { λ _. ⌜ Goes (now (t .entry)) (now (marks .entry)) (now (out .entry)) (now (marks .exit)) (now (out .exit))
         (Pairs (pair-at (now (t .entry)) j ∷ [])) ⌝ }
@@ -682,7 +679,7 @@ fn explain_few(t: &[u32], a: usize, b: usize, out: &mut [u32])
     requires { ⌜ Explainable (now t) a b (now out) × (pairs-in-force (merges (now t)) ≤ few) ⌝ }
     ensures { λ _. ⌜ Explains (now (t .entry)) a b (now (out .entry)) (now (out .exit)) ⌝ }
 {
-    let mut marks = [0u32; FEW];
+    let mut marks = [0u8; FEW];
     explain_rec(t, a, b, &mut marks, out);
 }
 
@@ -691,7 +688,7 @@ fn explain_many(t: &[u32], a: usize, b: usize, out: &mut [u32])
     requires { ⌜ Explainable (now t) a b (now out) ⌝ }
     ensures { λ _. ⌜ Explains (now (t .entry)) a b (now (out .entry)) (now (out .exit)) ⌝ }
 {
-    let mut marks = [0u32; MAX_PAIRS];
+    let mut marks = [0u8; MAX_PAIRS];
     explain_rec(t, a, b, &mut marks, out);
 }
 

@@ -1,5 +1,5 @@
 -- The marks of the argument pairs that an explanation has expanded.
-use Rattle.core.proofs.Kit.{ℕ, _+_, _/_, _≤_, _<_, _≡_, refl, sym, ap, ap₂, _∙_, Bool, true, false, cond, not, _&&_, _||_, zero, suc, true≢false, List, arith, eq-eqb, ne-eqb, eqb, length, getD-set-same}
+use Rattle.core.proofs.Kit.{ℕ, _+_, _/_, _≤_, _<_, _≡_, refl, sym, ap, ap₂, _∙_, Bool, true, false, cond, not, _&&_, _||_, zero, suc, true≢false, List, arith, zero-add, eq-eqb, ne-eqb, eqb, length, getD, set, getD-set-same}
 use Rattle.core.specs.Limits.{max-terms, max-pairs}
 use Rattle.core.specs.Memory.Words.{at, put}
 use Rattle.core.proofs.Memory.Stores.{other-place}
@@ -29,6 +29,15 @@ same-pair-other x y a b r s p q e = e ∙ sym (ap (λ (u : Bool). u || (eqb x b 
 pub tested : (t : List ℕ) (a b j : ℕ) {x y : ℕ} {r : Bool} → x ≡ left-word t j → y ≡ right-word t j → r ≡ same-pair x y (a, b) →
     r ≡ is-pair t j (a, b)
 tested t a b j p q e = e ∙ ap₂ (λ (u v : ℕ). same-pair u v (a, b)) p q
+
+-- the marks are a whole list, so a place of their region is a place of the list
+getD-at : (ks : List ℕ) (i : ℕ) → getD ks i 0 ≡ at ks MARKS i
+unfolding at
+getD-at ks i = ap (λ (x : ℕ). getD ks x 0) (sym (zero-add i))
+
+set-put : (ks : List ℕ) (i : ℕ) → set ks i 1 ≡ put ks MARKS i 1
+unfolding put
+set-put ks i = ap (λ (x : ℕ). set ks x 1) (sym (zero-add i))
 
 -- The pair of a and b is expanded: the first of the pairs of these nodes is marked, if there is one.
 module _ {t : List ℕ} {a b k n : ℕ} (z : EngineSound t) (w : FindsPair t a b k) (e : n ≡ indexed# t) where
@@ -65,9 +74,8 @@ module _ {t : List ℕ} {a b k n : ℕ} (z : EngineSound t) (w : FindsPair t a b
             ap (λ (u : List ℕ). marked (at u MARKS (first-word t j))) h
             ∙ ap marked (other-place ks MARKS f (first-word t j) 1 (λ q. apart-firsts j l o (q ∙ g)))
 
-    pub mark-one : {v : ℕ} {ks ls : List ℕ} → v / max-terms < length ks → v ≡ at t LEFT k → ls ≡ put ks MARKS (v / max-terms) 1 →
-        MarksPair t a b ks ls
-    mark-one m r h = mark-first m (ap (λ (w : ℕ). w / max-terms) r) h
+    pub mark-one : {v : ℕ} {ks : List ℕ} → v / max-terms < length ks → v ≡ at t LEFT k → MarksPair t a b ks (set ks (v / max-terms) 1)
+    mark-one {v} {ks} m r = mark-first m (ap (λ (w : ℕ). w / max-terms) r) (set-put ks (v / max-terms))
 
     -- the first pair has no mark: it is not in force, so no pair of these nodes is
     pub mark-behind : {v : ℕ} {ks : List ℕ} → pairs-in-force (merges t) ≤ length ks → v ≡ at t LEFT k → length ks ≤ v / max-terms →
@@ -95,11 +103,11 @@ module _ {t : List ℕ} {j : ℕ} (z : EngineSound t) (l : j < pairs-in-force (m
       let f = z .indexed .fit in
       (omega arith, omega arith)
 
--- by the words v and m that were read
-pub mark-read : (t ks : List ℕ) (j : ℕ) {v m : ℕ} → v ≡ at t LEFT j → m ≡ at ks MARKS (v / max-terms) → not (eqb m 0) ≡ mark-of t ks j
+-- by the word v that was read, and the mark at the place that it names
+pub mark-read : (t ks : List ℕ) (j : ℕ) {v : ℕ} → v ≡ at t LEFT j → not (eqb (getD ks (v / max-terms) 0) 0) ≡ mark-of t ks j
 unfolding marked
-mark-read t ks j {v} {m} e f =
-    go m ∙ ap marked (f ∙ ap (λ (w : ℕ). at ks MARKS (w / max-terms)) e)
+mark-read t ks j {v} e =
+    go (getD ks (v / max-terms) 0) ∙ ap marked (getD-at ks (v / max-terms) ∙ ap (λ (w : ℕ). at ks MARKS (w / max-terms)) e)
   where
     go : (n : ℕ) → not (eqb n 0) ≡ marked n
     go zero = refl

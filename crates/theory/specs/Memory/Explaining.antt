@@ -86,7 +86,7 @@ MARKS = 0
 abbrev pub few : ℕ
 few = 64
 
--- a mark is any word but 0
+-- a mark is any number but 0
 unfoldable pub marked : ℕ → Bool
 marked zero = false
 marked (suc n) = true

@@ -7,10 +7,10 @@ use Rattle.theory.proofs.eq_engine.is_expanded.Tie as tie
 get-at-requires : tie.Need-get-at-requires
 get-at-requires c κs = let p = c .before .before .pre in omega (arith, mark-in (p .0) (p .1) .0, p .0 .long)
 
-get-at-requires-2 : tie.Need-get-at-requires-2
-get-at-requires-2 c κs =
-    let p = c .before .before .before .pre in
-    omega (arith, mark-in (p .0) (p .1) .1, p .2, c .get-at .ensures .0)
+mark-there : tie.Need-shared-slice-read-result
+mark-there c =
+    let p = c .before .before .before .before .pre in
+    omega (arith, mark-in (p .0) (p .1) .1, p .2, c .before .get-at .ensures .0)
 
 pub is-expanded-spec : {M : Type 1} → statement M
-is-expanded-spec = tie.close (tie.spec get-at-requires get-at-requires-2 (λ c. search mark-read))
+is-expanded-spec = tie.close (tie.spec get-at-requires mark-there (λ c. search mark-read))

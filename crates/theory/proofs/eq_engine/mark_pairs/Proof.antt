@@ -18,4 +18,4 @@ pub mark-pairs-spec : {M : Type 1} → statement M
 mark-pairs-spec =
     tie.close
     (tie.spec (λ c κs. search needs) (λ c κs. search needs) (λ c. search mark-none) (λ c κs. search needs) returns-2
-    (λ c κs. search needs) (λ c. search needs) (λ c. search mark-one))
+    (λ c. search needs) (λ c. search needs) (λ c. search mark-one))
