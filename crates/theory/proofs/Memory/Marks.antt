@@ -30,7 +30,7 @@ pub tested : (t : List ℕ) (a b j : ℕ) {x y : ℕ} {r : Bool} → x ≡ left-
     r ≡ is-pair t j (a, b)
 tested t a b j p q e = e ∙ ap₂ (λ (u v : ℕ). same-pair u v (a, b)) p q
 
--- the marks are a whole list, so a place of their region is a place of the list
+-- the region of the marks begins at 0, so a place of it is a place of the list
 getD-at : (ks : List ℕ) (i : ℕ) → getD ks i 0 ≡ at ks MARKS i
 unfolding at
 getD-at ks i = ap (λ (x : ℕ). getD ks x 0) (sym (zero-add i))
