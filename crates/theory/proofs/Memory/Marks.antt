@@ -35,9 +35,9 @@ getD-at : (ks : List ℕ) (i : ℕ) → getD ks i 0 ≡ at ks MARKS i
 unfolding at
 getD-at ks i = ap (λ (x : ℕ). getD ks x 0) (sym (zero-add i))
 
-set-put : (ks : List ℕ) (i : ℕ) → set ks i 1 ≡ put ks MARKS i 1
+set-put : (ks : List ℕ) (i v : ℕ) → set ks i v ≡ put ks MARKS i v
 unfolding put
-set-put ks i = ap (λ (x : ℕ). set ks x 1) (sym (zero-add i))
+set-put ks i v = ap (λ (x : ℕ). set ks x v) (sym (zero-add i))
 
 -- The pair of a and b is expanded: the first of the pairs of these nodes is marked, if there is one.
 module _ {t : List ℕ} {a b k n : ℕ} (z : EngineSound t) (w : FindsPair t a b k) (e : n ≡ indexed# t) where
@@ -60,22 +60,26 @@ module _ {t : List ℕ} {a b k n : ℕ} (z : EngineSound t) (w : FindsPair t a b
     one-first : (j : ℕ) → j < indexed# t → is-pair t j (a, b) ≡ true → first-word t j ≡ first-word t k
     one-first j l o = alike-first a b z j k l found o (w .found found)
 
-    mark-first : {f : ℕ} {ks ls : List ℕ} → f < length ks → f ≡ first-word t k → ls ≡ put ks MARKS f 1 → MarksPair t a b ks ls
-    unfolding marked at put
-    mark-first {f} {ks} {ls} m g h =
+    -- with any number that is a mark
+    mark-first : {f : ℕ} (v : ℕ) {ks ls : List ℕ} → f < length ks → f ≡ first-word t k → marked v ≡ true → ls ≡ put ks MARKS f v →
+        MarksPair t a b ks ls
+    unfolding at put
+    mark-first {f} v {ks} {ls} m g s h =
         record { each = λ j l. let c = z .covers in go j (omega arith) (is-pair t j (a, b)) refl }
       where
         go : (j : ℕ) → j < indexed# t → (r : Bool) → is-pair t j (a, b) ≡ r → mark-of t ls j ≡ cond r true (mark-of t ks j)
         go j l true o =
             ap (λ (u : List ℕ). marked (at u MARKS (first-word t j))) h
-            ∙ ap (λ (x : ℕ). marked (at (put ks MARKS f 1) MARKS x)) (one-first j l o ∙ sym g)
-            ∙ ap marked (getD-set-same ks (MARKS + f) 1 0 (omega arith))
+            ∙ ap (λ (x : ℕ). marked (at (put ks MARKS f v) MARKS x)) (one-first j l o ∙ sym g)
+            ∙ ap marked (getD-set-same ks (MARKS + f) v 0 (omega arith))
+            ∙ s
         go j l false o =
             ap (λ (u : List ℕ). marked (at u MARKS (first-word t j))) h
-            ∙ ap marked (other-place ks MARKS f (first-word t j) 1 (λ q. apart-firsts j l o (q ∙ g)))
+            ∙ ap marked (other-place ks MARKS f (first-word t j) v (λ q. apart-firsts j l o (q ∙ g)))
 
-    pub mark-one : {v : ℕ} {ks : List ℕ} → v / max-terms < length ks → v ≡ at t LEFT k → MarksPair t a b ks (set ks (v / max-terms) 1)
-    mark-one {v} {ks} m r = mark-first m (ap (λ (w : ℕ). w / max-terms) r) (set-put ks (v / max-terms))
+    pub mark-one : {u : ℕ} (v : ℕ) {ks : List ℕ} → u / max-terms < length ks → u ≡ at t LEFT k → marked v ≡ true →
+        MarksPair t a b ks (set ks (u / max-terms) v)
+    mark-one {u} v {ks} m r s = mark-first v m (ap (λ (x : ℕ). x / max-terms) r) s (set-put ks (u / max-terms) v)
 
     -- the first pair has no mark: it is not in force, so no pair of these nodes is
     pub mark-behind : {v : ℕ} {ks : List ℕ} → pairs-in-force (merges t) ≤ length ks → v ≡ at t LEFT k → length ks ≤ v / max-terms →
