@@ -17,3 +17,4 @@ pub mod Claim
 pub mod RunClaim
 -- Memory: lemmas about the lent tables.
 pub mod Memory
+pub mod KeptRuns

@@ -21,3 +21,4 @@ pub mod Levels
 pub mod Lent
 pub mod Performing
 pub mod Running
+pub mod Keeping

@@ -10,5 +10,7 @@ pub mod Examples
 pub mod History
 pub mod Claim
 pub mod RunClaim
+pub mod Kept
+pub mod Library
 -- How lent tables hold it, and what the functions on them promise one another.
 pub mod Memory

@@ -8,3 +8,4 @@ pub mod Answers
 pub mod Questions
 pub mod Sessions
 pub mod Running
+pub mod Kept

@@ -25,7 +25,7 @@ ghost use Rattle.solver.specs.Rules.{Conflict};
 ghost use Rattle.solver.specs.Memory.Answer.{phase-meaning, split-of, SplitSound};
 ghost use Rattle.session.specs.Text.{decimal};
 ghost use Rattle.session.specs.Answer.{question, leaf-text, phase-text, check-text, answer-text};
-ghost use Rattle.session.specs.Memory.Answers.{refusal-meaning, answer-meaning, Printable, Room, Written, parting, leaves-text, atoms-text, guards-text, phases-text, line-text};
+ghost use Rattle.session.specs.Memory.Answers.{refusal-meaning, answer-meaning, Printable, Room, Written, parting, leaves-text, atoms-text, guards-text, phases-text, line-text, longest-answer};
 
 // A no to one of the questions of a line.
 pub enum Refusal {
@@ -341,7 +341,7 @@ fn unended_length(a: Answer, o: &[u32]) -> usize
 // The answer line, with its LF: so many bytes, known before the first is written.
 pub fn line_length(a: Answer, o: &[u32]) -> usize
     requires { ⌜ Printable a (now o) ⌝ }
-    ensures { λ r. ⌜ r ≡ length (line-text a (now (o .entry))) ⌝ }
+    ensures { λ r. ⌜ (r ≡ length (line-text a (now (o .entry)))) × (r ≤ longest-answer) ⌝ }
 {
     unended_length(a, o) + 1
 }

@@ -14,7 +14,7 @@ ghost use lib.ListN.{length};
 ghost use Rattle.session.specs.Run.{result-number, zeros};
 ghost use Rattle.session.specs.Promise.{ending-meaning, Runs};
 ghost use Rattle.session.specs.Memory.Sessions.{beside};
-ghost use Rattle.session.specs.Memory.Answers.{Printable, line-text};
+ghost use Rattle.session.specs.Memory.Answers.{Printable, line-text, longest-answer};
 ghost use Rattle.session.specs.Memory.Running.{TablesLong, EmptyTables, Puts, Answerable, AnswersLine, MayRun, RunsLines, MayStart, Zeroed, RunsStarted};
 
 // How a run ends.
@@ -39,14 +39,14 @@ pub struct Ran {
 }
 
 // Words of a work table, or more.
-const TABLE_WORDS: usize = 16384;
+pub const TABLE_WORDS: usize = 16384;
 
-const MAX_SCRIPT: usize = 65536;
+pub const MAX_SCRIPT: usize = 65536;
 
-const MAX_NUMBERS: usize = 17;
+pub const MAX_NUMBERS: usize = 17;
 
 // Words of an answer table.
-const ANSWER_SIZE: usize = 3324;
+pub const ANSWER_SIZE: usize = 3324;
 
 impl Ending {
     // The number of the question that was answered no, or 0.
@@ -67,7 +67,8 @@ impl Ending {
 // The length of an answer line is known before its first byte is written: one that does not fit leaves the output as it was.
 fn put_answer(a: Answer, answer: &[u32], output: &mut [u8], written: usize) -> Placed
     requires { ⌜ Printable a (now answer) × (written ≤ length (now output)) ⌝ }
-    ensures { λ r. ⌜ Puts r (now (output .entry)) written (line-text a (now (answer .entry))) (now (output .exit)) ⌝ }
+    ensures { λ r. ⌜ Puts r (now (output .entry)) written (line-text a (now (answer .entry))) (now (output .exit))
+        × (length (line-text a (now (answer .entry))) ≤ longest-answer) ⌝ }
 {
     if line_length(a, answer) > output.len() - written {
         return Placed::Full;
@@ -76,7 +77,7 @@ fn put_answer(a: Answer, answer: &[u32], output: &mut [u8], written: usize) -> P
 }
 
 // Answers a line; its answer line goes to the output at a place, if it fits.
-fn answer_line(
+pub fn answer_line(
     c: &mut [u32],
     e: &mut [u32],
     s: &mut [u32],
@@ -144,7 +145,7 @@ fn run_lines(script: &[u8], c: &mut [u32], e: &mut [u32], s: &mut [u32], output:
 // ---- lent memory
 
 // Whatever the tables held, they are now those of an empty session.
-fn clear_all(c: &mut [u32], e: &mut [u32], s: &mut [u32])
+pub fn clear_all(c: &mut [u32], e: &mut [u32], s: &mut [u32])
     requires { ⌜ TablesLong (now c) (now e) (now s) ⌝ }
     ensures { λ _. ⌜ EmptyTables (now (c .exit)) (now (e .exit)) (now (s .exit)) ⌝ }
 {
@@ -153,7 +154,7 @@ fn clear_all(c: &mut [u32], e: &mut [u32], s: &mut [u32])
     records::clear(s);
 }
 
-fn zero(t: &mut [u32])
+pub fn zero(t: &mut [u32])
     ensures { λ _. ⌜ now (t .exit) ≡ zeros (now (t .entry)) ⌝ }
 {
     let mut i = 0;
@@ -164,7 +165,7 @@ fn zero(t: &mut [u32])
 }
 
 // The work tables are all zero at the end, also the words that no session uses.
-fn zero_all(c: &mut [u32], e: &mut [u32], s: &mut [u32])
+pub fn zero_all(c: &mut [u32], e: &mut [u32], s: &mut [u32])
     ensures { λ _. ⌜ Zeroed (now (c .entry)) (now (e .entry)) (now (s .entry)) (now (c .exit)) (now (e .exit)) (now (s .exit)) ⌝ }
 {
     zero(c);

@@ -1,6 +1,9 @@
 // Runs each script of the fixed list on lent memory of nine sizes and contents, and compares all that a run answers and leaves with what
 // the list has (harness/fixed/README.md). Prints how much was compared, and the first difference if there is one. The list begins with
 // the examples of the scope document.
+mod lines;
+
+use crate::lines::run_by_lines;
 use libc::STDOUT_FILENO;
 use session::run::Ran;
 use session::run::run;
@@ -204,6 +207,48 @@ fn try_run(
     compare(ran, want, answers, w, c, e, s, out)
 }
 
+// The same line by line: a session is opened, sent the script's lines and closed.
+fn try_lines(
+    script: &[u8],
+    answers: &[u8],
+    want: Want,
+    w: u32,
+    c: &mut [u32],
+    e: &mut [u32],
+    s: &mut [u32],
+    out: &mut [u8],
+) -> Found
+    requires { ⌜ (length (now script) ≤ 99999) × (length (now out) ≤ 99999) ⌝ }
+{
+    let mut kept = [7u32; 66];
+    fill(w, c, e, s, out);
+    let ran = run_by_lines(script, c, e, s, &mut kept, out);
+    compare(ran, want, answers, w, c, e, s, out)
+}
+
+// Both; question 2 is asked of whole scripts alone.
+fn try_both(
+    script: &[u8],
+    answers: &[u8],
+    want: Want,
+    w: u32,
+    c: &mut [u32],
+    e: &mut [u32],
+    s: &mut [u32],
+    out: &mut [u8],
+) -> Found
+    requires { ⌜ (length (now script) ≤ 99999) × (length (now out) ≤ 99999) ⌝ }
+{
+    let found = try_run(script, answers, want, w, c, e, s, out);
+    let Found::Nothing = found else {
+        return found;
+    };
+    if want.result == 2 {
+        return found;
+    }
+    try_lines(script, answers, want, w, c, e, s, out)
+}
+
 // A run that answers no to question 1 or 2.
 fn refused(question: usize) -> Want
     ensures { λ r. ⌜ r .written ≡ 0 ⌝ }
@@ -304,7 +349,8 @@ fn lend(
     out: &mut [u8],
 ) -> Found
     requires { ⌜ (l .0 ≤ length (now script)) × (l .1 ≤ length (now c)) × (l .2 ≤ length (now e)) × (l .3 ≤ length (now s))
-        × (l .4 ≤ length (now out)) × (l .6 .written ≤ length (now answers)) ⌝ }
+        × (l .4 ≤ length (now out)) × (l .6 .written ≤ length (now answers)) × (length (now script) ≡ 99999)
+        × (length (now out) ≡ 99999) ⌝ }
 {
     let n = l.0;
     let i = l.1;
@@ -313,7 +359,7 @@ fn lend(
     let o = l.4;
     let want = l.6;
     let m = want.written;
-    try_run(
+    try_both(
         &script[..n],
         &answers[..m],
         want,

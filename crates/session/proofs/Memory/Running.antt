@@ -15,7 +15,7 @@ use Rattle.session.specs.Session.{Performed, empty-session, step}
 use Rattle.session.specs.Run.{Complete, Full, Ran, answers-none, one-more, answer-line, run-lines, tables-suffice, run, output-after, zeros, table-after}
 use Rattle.session.specs.Promise.{ending-meaning, lent, Gives, Runs}
 use Rattle.session.specs.Memory.Lines.{LineEnd}
-use Rattle.session.specs.Memory.Answers.{Written, line-text}
+use Rattle.session.specs.Memory.Answers.{Written, line-text, longest-answer}
 use Rattle.session.specs.Memory.Sessions.{Beside, level-marks, beside, session, after, Steps}
 use Rattle.session.specs.Memory.Running.{TablesLong, EmptyTables, Puts, Answerable, AnsweredBy, RunsLines, MayStart, Zeroed, RunsStarted}
 use Rattle.session.specs.declared.answer.Answer as GivenAnswer
@@ -29,7 +29,7 @@ use Rattle.session.proofs.Memory.Printing.{written-nothing, written-len
 -- ---- words set to 0
 
 -- only the length counts
-zeros-same : (t u : List ℕ) → length t ≡ length u → zeros t ≡ zeros u
+pub zeros-same : (t u : List ℕ) → length t ≡ length u → zeros t ≡ zeros u
 unfolding zeros
 zeros-same [] [] e = refl
 zeros-same [] (x ∷ u) e = absurd (omega arith)
@@ -62,11 +62,11 @@ zero-done {t₀} {t} z h =
 -- ---- an empty session
 
 module _ {c e s : List ℕ} (n : List ℕ) (z : EmptyTables c e s) where
-  empty-is : empty-session ≡ session c e s (beside e n false)
+  pub empty-is : empty-session ≡ session c e s (beside e n false)
   unfolding session empty-session
   empty-is = rw (cleared-state (z .core) (z .no-terms) (z .engine) (z .solver) (entry-level (level-marks e n)))
 
-  empty-answerable : Answerable c e s (beside e n false)
+  pub empty-answerable : Answerable c e s (beside e n false)
   unfolding after Context.empty-context
   empty-answerable = record {
     sound = record {
@@ -81,7 +81,7 @@ module _ {c e s : List ℕ} (n : List ℕ) (z : EmptyTables c e s) where
 -- ---- a line
 
 -- a text at the start of a table of bytes
-written-front : {b xs b′ : List ℕ} {r : ℕ} → Written b 0 xs b′ r → b′ ≡ xs ++ drop (length xs) b
+pub written-front : {b xs b′ : List ℕ} {r : ℕ} → Written b 0 xs b′ r → b′ ≡ xs ++ drop (length xs) b
 written-front {b} {xs} w =
     let ends = w .ends in
     let within = w .within in
@@ -93,26 +93,27 @@ written-within w = let kept = written-length w in let within = w .within in omeg
 -- what the step answers is put as the definition's answer line
 pub answered-by : {line c e s ns : List ℕ} {b : Bool} {a : GivenAnswer.Answer} {c′ e′ s′ ns′ : List ℕ} {b′ : Bool}
     {t o o′ : List ℕ} {start : ℕ} {d : Placed.Placed} → Steps line c e s (beside e ns b) a c′ e′ s′ (beside e′ ns′ b′) t →
-    Puts d o start (line-text a t) o′ →
+    Puts d o start (line-text a t) o′ × (length (line-text a t) ≤ longest-answer) →
     AnsweredBy (step (session c e s (beside e ns b)) line) d c′ e′ s′ (beside e′ ns′ b′) o start o′
 unfolding answer-line
 answered-by {o = o} {o′} {start} {d} z w = record {
   answerable = record { sound = z .sound; reached = z .reached };
   after = ap (λ (p : Performed). p .session) (z .stepped);
-  line = subst⁻¹ (λ (p : Performed). Puts d o start (answer-line p) o′) (z .stepped) w;
+  line = subst⁻¹ (λ (p : Performed). Puts d o start (answer-line p) o′) (z .stepped) (w .0);
+  short = subst⁻¹ (λ (p : Performed). length (answer-line p) ≤ longest-answer) (z .stepped) (w .1);
 }
 
-puts-as : {d k : Placed.Placed} (o : List ℕ) (start : ℕ) (text o′ : List ℕ) → d ≡ k → Puts d o start text o′ → Puts k o start text o′
+pub puts-as : {d k : Placed.Placed} (o : List ℕ) (start : ℕ) (text o′ : List ℕ) → d ≡ k → Puts d o start text o′ → Puts k o start text o′
 puts-as o start text o′ = subst (λ (x : Placed.Placed). Puts x o start text o′)
 
 module _ (room : ℕ) (s : Session.Session) (l : List ℕ) (ls : List (List ℕ)) where
-  line-fits : length (answer-line (step s l)) ≤ room →
+  pub line-fits : length (answer-line (step s l)) ≤ room →
       run-lines room s (l ∷ ls)
       ≡ one-more (answer-line (step s l)) (run-lines (room - length (answer-line (step s l))) (step s l .session) ls)
   unfolding run-lines
   line-fits h = rw (le-leb (length (answer-line (step s l))) room h)
 
-  line-full : room < length (answer-line (step s l)) → run-lines room s (l ∷ ls) ≡ answers-none Full
+  pub line-full : room < length (answer-line (step s l)) → run-lines room s (l ∷ ls) ≡ answers-none Full
   unfolding run-lines
   line-full h = rw (lt-leb (length (answer-line (step s l))) room h)
 

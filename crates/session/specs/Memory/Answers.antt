@@ -1,9 +1,10 @@
 -- What the code's answers mean, beside the answer table, and what printing one promises.
-use Prim.Native.Nat.{ℕ, zero, suc, _+_, _≤_}
+use Prim.Native.Nat.{ℕ, zero, suc, _+_, _*_, _≤_}
 use mathlib.Core.Path.{_≡_}
 use mathlib.Core.List.{List, [], _∷_, _++_, map}
 use lib.ListN.{length}
 use lib.Seq.{sets}
+use Rattle.core.specs.Limits.{max-terms}
 use Rattle.theory.specs.Memory.Answer.{leaves, LeavesSound}
 use Rattle.solver.specs.Rules as Rules
 use Rattle.solver.specs.Memory.Answer.{split-atoms, split-guard, split-phases, listed, split-of, SplitSound}
@@ -71,6 +72,10 @@ guards-text o = joined comma (map decimal (listed (split-guard o)))
 
 abbrev pub phases-text : List ℕ → List ℕ
 phases-text o = joined comma (map phase-text (split-phases o))
+
+-- no answer line is longer: that of a conflict with as many leaves as there are merges at most
+abbrev pub longest-answer : ℕ
+longest-answer = 10 + 23 * max-terms
 
 -- the answer line, with its LF
 abbrev pub line-text : Given.Answer → List ℕ → List ℕ

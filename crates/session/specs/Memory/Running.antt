@@ -13,7 +13,7 @@ use Rattle.session.specs.Session.{Performed, empty-session, step}
 use Rattle.session.specs.Run.{answer-line, run-lines, zeros}
 use Rattle.session.specs.Promise.{Gives}
 use Rattle.session.specs.Memory.Sessions.{Beside, session, Reached, SessionSound}
-use Rattle.session.specs.Memory.Answers.{Written}
+use Rattle.session.specs.Memory.Answers.{Written, longest-answer}
 use Rattle.session.specs.declared.run.Placed as Placed
 use Rattle.session.specs.declared.run.Ran.{Ran}
 
@@ -52,6 +52,7 @@ pub record AnsweredBy (p : Performed) (d : Placed.Placed) (c e s : List ℕ) (m 
     pub answerable : Answerable c e s m
     pub after : p .session ≡ session c e s m
     pub line : Puts d o start (answer-line p) o′
+    pub short : length (answer-line p) ≤ longest-answer
 
 abbrev pub AnswersLine :
     List ℕ → List ℕ → List ℕ → List ℕ → Beside → Placed.Placed → List ℕ → List ℕ → List ℕ → Beside → List ℕ → ℕ → List ℕ → Type 0

@@ -10,7 +10,7 @@ returns : tie.Need-returns
 returns c =
     let start = c .before .before in
     let text = answer-text (answer-meaning (start .args .a) (start .args .o .now)) in
-    omega (arith, length-append text (LF ∷ []))
+    (omega (arith, length-append text (LF ∷ [])), omega arith)
 
 pub line-length-spec : {M : Type 1} → statement M
 line-length-spec = tie.close (tie.spec (λ c κs. search needs) (λ c. search needs) returns)
