@@ -4,17 +4,21 @@
  *   - robinlocker_run answers a whole script.
  *   - robinlocker_open, robinlocker_line and robinlocker_close keep a session open and answer one line at a time.
  * Line by line a session writes the bytes that robinlocker_run writes for the script of these lines, with the same result and
- * counts. Proved: Keeps in crates/session/specs/Kept.antt, and of the answers what Claim says in crates/session/specs/Claim.antt.
+ * counts: KeptRuns in crates/session/specs/Kept.antt, proved. What is proved of the answers is Claim in
+ * crates/session/specs/Claim.antt; KeptHolds says that it holds of a session kept open.
  *
- * The library allocates nothing, keeps nothing of its own between calls, and calls no other code: all it works on is lent.
- * Hence calls on different memory may run at the same time in different threads.
+ * The library allocates nothing, keeps nothing of its own between calls, and calls nothing but C's memcpy and memset: all it works
+ * on is lent, or stands on the stack. Hence calls on different memory may run at the same time in different threads.
+ *
+ * Stack: robinlocker_run takes up to about 310 KiB, robinlocker_line 192 KiB more (docs/PERFORMANCE.md).
  *
  * What every call asks of its caller:
  *   - A pointer and the length behind it name memory of that length that is the caller's: words of 32 bits, or bytes. A length of
  *     zero may go with any pointer, a null pointer too. Tables are aligned as uint32_t asks.
  *   - No two of the areas lent to one call overlap.
  *   - The pointers behind which a count is left (`answered`, `written`) are not null.
- * Nothing is asked of what the memory holds, but for one rule of robinlocker_line, which is said there.
+ * Nothing is asked of what the memory holds, but for one rule of robinlocker_line, which is said there. Where several things are
+ * wrong at once, the result is the first in this order: SHORT_TABLE, NOT_OPEN or LONG_SCRIPT, FULL.
  *
  * Lines, answers and questions are described in README.md.
  */
@@ -70,6 +74,7 @@ uint32_t robinlocker_limit(uint32_t name);
 
 /* ---- results ---- */
 
+/* "Nothing was touched" speaks of tables and output; the counts are set to 0. */
 #define ROBINLOCKER_DONE 0         /* all was done */
 #define ROBINLOCKER_SHORT_TABLE 1  /* a table has too few words: nothing was touched */
 #define ROBINLOCKER_LONG_SCRIPT 2  /* the script has too many bytes: nothing was touched */
@@ -93,7 +98,8 @@ uint32_t robinlocker_run(const uint8_t *script, size_t script_bytes,
 
 /* Opens an empty session on four tables, whatever they hold: a session that was open there is lost.
  * DONE, or SHORT_TABLE: one of the first three has fewer than ROBINLOCKER_TABLE_WORDS words, or the fourth has fewer than
- * ROBINLOCKER_KEPT_WORDS. */
+ * ROBINLOCKER_KEPT_WORDS. Of longer tables a session uses the first words: those behind them are left alone, but the fourth table is
+ * set to 0 whole before it is marked as open. */
 uint32_t robinlocker_open(uint32_t *core, size_t core_words,
                           uint32_t *theory, size_t theory_words,
                           uint32_t *solver, size_t solver_words,
@@ -104,14 +110,14 @@ uint32_t robinlocker_open(uint32_t *core, size_t core_words,
  *
  * DONE: behind `written` is the length of the answer line; output past it is untouched.
  * FULL: the answer line does not fit the output. The line is not performed: tables and output are as they were, and the line may
- *   be sent again with more output. With ROBINLOCKER_ANSWER_BYTES of output this never happens; with less, each call first
- *   copies the tables (192 KiB of stack), so it is also faster to lend as much.
+ *   be sent again with more output. With ROBINLOCKER_ANSWER_BYTES of output this never happens (proved); with less, each call
+ *   works on copies of the tables, so it is also faster to lend as much.
  * SHORT_TABLE: as for robinlocker_open. NOT_OPEN: no session is open on these tables, as after robinlocker_close.
  * But for DONE, 0 is left behind `written` and nothing else is touched.
  *
- * The one rule: between the calls on a session nobody else writes to the four tables, and each call is lent all four, at any
- * address. A fourth table that robinlocker_open has not opened must not begin with the word that marks an open one
- * (1,380,732,747); memory that is zero, as from calloc, never does. */
+ * The one rule: if the fourth table begins with the word that marks an open session (1,380,732,747), then the four tables hold what
+ * the last call on a session left in them, at any address and of any lengths that suffice. A copy of all four is a session of its
+ * own. Memory that is zero, as from calloc, is never marked. */
 uint32_t robinlocker_line(const uint8_t *line, size_t line_bytes,
                           uint32_t *core, size_t core_words,
                           uint32_t *theory, size_t theory_words,

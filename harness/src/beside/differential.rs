@@ -1,8 +1,9 @@
 //! Generated scripts through the proved library and the published solver: answer bytes, result, counts, the output
 //! past the last answer and the work tables are compared. Scripts with a negative tester or unequal terms are held to the
-//! definition alone; on the others the definition is held to the published solver too.
+//! definition alone; on the others the definition is held to the published solver too. The library is sent each script whole
+//! and line by line.
 
-use crate::library::{self, Lent, Ran, TABLE_WORDS};
+use crate::library::{self, Lent, Ran, Way, TABLE_WORDS};
 use oracle::generate::{self, Kind};
 use oracle::rng::Rng;
 use oracle::run::{self, Right, Run, Source, MOST_OUTPUT};
@@ -92,11 +93,15 @@ fn difference(right: &Right, loan: &Loan, lent: &Lent, ran: Ran) -> Option<&'sta
     parts.iter().find(|(_, equal)| !equal).map(|&(what, _)| what)
 }
 
-fn compare(script: &[u8], loan: &Loan) -> (Right, Option<&'static str>) {
+/// What differs, and how the script was sent. Question 2 is asked of whole scripts alone.
+fn compare(script: &[u8], loan: &Loan) -> (Right, Option<(Way, &'static str)>) {
     let right = right_run(script, loan);
-    let mut lent = loan.lend();
-    let ran = library::run(script, &mut lent);
-    let found = difference(&right, loan, &lent, ran);
+    let ways: &[Way] = if right.run.result == 2 { &[Way::Whole] } else { &[Way::Whole, Way::LineByLine] };
+    let found = ways.iter().find_map(|&way| {
+        let mut lent = loan.lend();
+        let ran = library::answer(way, script, &mut lent);
+        difference(&right, loan, &lent, ran).map(|what| (way, what))
+    });
     (right, found)
 }
 
@@ -133,6 +138,7 @@ struct Found {
     seed: u64,
     loan: Loan,
     script: Vec<u8>,
+    way: Way,
     what: &'static str,
 }
 
@@ -141,9 +147,10 @@ impl Found {
         let smallest = smallest(&self.script, &self.loan);
         let (right, what) = compare(&smallest, &self.loan);
         let mut lent = self.loan.lend();
-        let ran = library::run(&smallest, &mut lent);
-        println!("{:?} {} differs in {}, with {:?}", self.kind, self.seed, self.what, self.loan);
-        println!("the smallest script, which differs in {}:", what.unwrap_or("nothing"));
+        let (way, what) = what.unwrap_or((self.way, "nothing"));
+        let ran = library::answer(way, &smallest, &mut lent);
+        println!("{:?} {} sent {:?} differs in {}, with {:?}", self.kind, self.seed, self.way, self.what, self.loan);
+        println!("the smallest script, which sent {way:?} differs in {what}:");
         println!("{}", String::from_utf8_lossy(&smallest));
         println!("right by {:?}: result {}, {} lines", right.source, right.run.result, right.run.lines);
         println!("{}", String::from_utf8_lossy(&right.run.output));
@@ -189,6 +196,7 @@ impl Tally {
         let results: Vec<String> = [0, 1, 2, 12].map(|n| format!("{} with result {n}", self.results[n])).to_vec();
         let results = results.join(", ");
         println!("{} scripts ({results}), {} lines, {} bytes: no difference", self.scripts, self.lines, self.bytes);
+        println!("each sent whole and, but for those with result 2, line by line");
         println!("{} held to the published Rust and the definition", self.scripts - self.defined);
         println!("{} with a negative tester or unequal terms held to the definition alone", self.defined);
         println!("{} minutes {} seconds; met by whole runs of these scripts:", seconds / 60, seconds % 60);
@@ -218,9 +226,9 @@ impl Shared {
             let script = generate::script(kind, seed);
             let loan = Loan::any(&mut Rng::new(!seed));
             let (right, found) = compare(&script, &loan);
-            if let Some(what) = found {
+            if let Some((way, what)) = found {
                 self.stop.store(true, Ordering::Relaxed);
-                return Err(Found { kind, seed, loan, script, what });
+                return Err(Found { kind, seed, loan, script, way, what });
             }
             tally.add(&script, &right);
         }

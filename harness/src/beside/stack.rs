@@ -1,7 +1,7 @@
 //! The deepest use of the stack by the library: the stack below a call is filled with a pattern, and what the call
 //! has overwritten is looked for afterwards.
 
-use crate::library::{self, Lent};
+use crate::library::{self, Lent, Way};
 use crate::shapes::Shape;
 use oracle::generate::{self, Kind};
 use oracle::run;
@@ -25,19 +25,24 @@ pub fn stack() -> bool {
         ("a ring of 330 with a leaf for each join", ring()),
         ("a chain of 480 constants with a leaf for each join", chain()),
     ];
-    println!("| script | bytes of stack |\n|---|---:|");
+    println!("| script | bytes of stack, sent whole | line by line |\n|---|---:|---:|");
     for (name, script) in rows {
-        println!("| {name} | {} |", used_by(vec![script]));
+        print_row(name, &[script]);
     }
-    let generated = (0..GENERATED).map(|seed| generate::script(Kind::Any, seed)).collect();
-    println!("| {GENERATED} generated scripts, the most | {} |", used_by(generated));
+    let generated: Vec<Vec<u8>> = (0..GENERATED).map(|seed| generate::script(Kind::Any, seed)).collect();
+    print_row(&format!("{GENERATED} generated scripts, the most"), &generated);
     true
 }
 
-fn used_by(scripts: Vec<Vec<u8>>) -> usize {
+fn print_row(name: &str, scripts: &[Vec<u8>]) {
+    let [whole, line_by_line] = [Way::Whole, Way::LineByLine].map(|way| used_by(way, scripts.to_vec()));
+    println!("| {name} | {whole} | {line_by_line} |");
+}
+
+fn used_by(way: Way, scripts: Vec<Vec<u8>>) -> usize {
     let measuring = move || {
         let mut lent = Lent::new(run::MOST_OUTPUT);
-        scripts.iter().map(|script| used_by_run(script, &mut lent)).max().unwrap_or(0)
+        scripts.iter().map(|script| used_by_run(way, script, &mut lent)).max().unwrap_or(0)
     };
     let thread = std::thread::Builder::new().stack_size(STACK).spawn(measuring).expect("a thread");
     thread.join().expect("the measuring thread")
@@ -45,11 +50,11 @@ fn used_by(scripts: Vec<Vec<u8>>) -> usize {
 
 /// The bytes between this function's frame and the deepest that the run has written.
 #[inline(never)]
-fn used_by_run(script: &[u8], lent: &mut Lent) -> usize {
+fn used_by_run(way: Way, script: &[u8], lent: &mut Lent) -> usize {
     let here = std::hint::black_box(0u8);
     let top = std::ptr::from_ref(&here).addr();
     fill(top);
-    std::hint::black_box(library::run(script, lent));
+    std::hint::black_box(library::answer(way, script, lent));
     top - lowest_changed(top)
 }
 
