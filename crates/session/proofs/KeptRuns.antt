@@ -1,24 +1,23 @@
--- The lines of a script by one call each are the run's lines: each call does what one turn of the run does, on the tables and the output that
--- the calls before it left.
-use Rattle.core.proofs.Kit.{ℕ, suc, _+_, _-_, _≤_, _<_, _≡_, refl, sym, ap, subst, _∙_, _⊎_, inl, inr, Bool, true, false, false≢true, cond, _&&_, leb, List, [], _∷_, _++_, append-assoc, append-nil, arith, le-leb, length, length-append, length-drop, take, drop}
+-- The lines of a script by one call each are the run's lines: each call does what one turn of the run does, on the tables and the output
+-- that the calls before it left.
+use Rattle.core.proofs.Kit.{ℕ, suc, _+_, _-_, _≤_, _<_, _≡_, refl, sym, ap, _∙_, _⊎_, inl, inr, Bool, true, false, false≢true, cond, _&&_, leb, List, [], _∷_, _++_, append-assoc, arith, le-leb, eqb, eqb-true, eqb-false, length, length-append, length-drop, take, drop}
+use mathlib.Core.Logic.{_≢_}
 use lib.Seq.{take-at, drop-at, drop-drop}
 use borrow.Author.Tests.{leb-true, leb-false}
 use Rattle.core.specs.Limits.{table-words, max-script}
 use Rattle.session.specs.Text.{lines}
 use Rattle.session.specs.Session as Session
-use Rattle.session.specs.Session.{empty-session, Performed, step}
+use Rattle.session.specs.Session.{empty-session, step}
 use Rattle.session.specs.Run as Run
-use Rattle.session.specs.Run.{Ran, result-number, answers-none, one-more, answer-line, run-lines, output-after, zeros}
-use Rattle.session.specs.Promise.{ending-meaning, Gives, Reports}
+use Rattle.session.specs.Run.{Ran, result-number, answers-none, one-more, answer-line, run-lines, output-after}
+use Rattle.session.specs.Promise.{ending-meaning, Reports}
 use Rattle.session.specs.RunClaim.{answers, answer-lines}
 use Rattle.session.specs.Memory.Running.{TablesLong, Zeroed}
 use Rattle.session.specs.Memory.Kept.{Tables, SameLengths, kept-words, Open, suffice, held, KeptSound}
 use Rattle.session.specs.Kept as Kept
-use Rattle.session.specs.Kept.{Replied, unanswered, answer-held, answer-in, reply-number, reply-meaning, Opens, OpensBy, Answered, Replies, Closes, Call, Sent, Stopped, GoesOn, Calls, Sends, Refuses, KeptRuns, SentUntil, KeptClaim, KeptHolds}
+use Rattle.session.specs.Kept.{Replied, unanswered, answer-held, answer-in, reply-number, OpensBy, Replies, Call, Sent, Stopped, GoesOn, Calls, Sends, Refuses, KeptRuns, Row, KeptHolds}
 use Rattle.session.specs.declared.run.Ending as Given
-use Rattle.session.specs.declared.run.Ran as GivenRan
 use Rattle.session.proofs.Claim.{claim}
-use Rattle.session.proofs.RunClaim.{Writes, Stops, run-writes, run-stops}
 use Rattle.session.proofs.Memory.Running.{zeros-same, line-fits, line-full, run-short, run-started}
 use Rattle.session.proofs.Memory.Keeping.{suffices}
 
@@ -94,6 +93,10 @@ module _ (s : Session.Session) (l : List ℕ) (t : Tables) (o : List ℕ) (h : s
       full-number : n ≡ 12
       unfolding reply-number unanswered
       full-number = number-is ∙ rw (call-is false e)
+
+      full-held : held t₁ ≡ Open s
+      unfolding unanswered
+      full-held = r .answers .held ∙ rw (call-is false e)
 
       full-output : o₁ ≡ o
       unfolding unanswered
@@ -178,24 +181,59 @@ calls-run s (l ∷ ls) t t′ o o′ z h q (c, r, w) =
     (λ rest o₂ h₁ q₁ more. calls-run (step s l .session) ls (c .tables) t′ (drop (c .written) (c .output)) o₂ rest h₁ q₁ more)
     (leb (length (answer-line (step s l))) (length o)) refl w
 
+-- ---- calls with outputs of their own
+
+-- one call of such a row, given what holds of the rest
+module _ (calls : List (List ℕ × List ℕ)) (s : Session.Session) (l o : List ℕ) (t t′ : Tables) (ls : List (List ℕ)) (bytes : List ℕ)
+    (c : Call) (h : suffice t ≡ true) (q : held t ≡ Open s) (r : Replies l t o (c .number) (c .written) (c .tables) (c .output))
+    (on : (u : Session.Session) (ls₁ : List (List ℕ)) (bytes₁ : List ℕ) → suffice (c .tables) ≡ true → held (c .tables) ≡ Open u →
+    Row calls (c .tables) ls₁ bytes₁ t′ → bytes₁ ≡ answer-lines (answers u ls₁)) where
+  abbrev line-text : List ℕ
+  line-text = answer-line (step s l)
+
+  still-long : suffice (c .tables) ≡ true
+  still-long = still-suffice t (c .tables) (r .answers .lengths) h
+
+  row-turn : (b : Bool) → leb (length line-text) (length o) ≡ b →
+      ((c .number ≡ 0) × ((ls₁ : List (List ℕ)) × (bytes₁ : List ℕ) × Row calls (c .tables) ls₁ bytes₁ t′
+      × (ls ≡ l ∷ ls₁) × (bytes ≡ take (c .written) (c .output) ++ bytes₁)))
+      ⊎ ((c .number ≢ 0) × Row calls (c .tables) ls bytes t′) →
+      bytes ≡ answer-lines (answers s ls)
+  unfolding answers answer-lines answer-line
+  row-turn true e (inl (n, (ls₁, bytes₁, more, p, b))) =
+      let w = fits-written s l t o h q r e in
+      let out = fits-output s l t o h q r e in
+      let front : take (c .written) (c .output) ≡ line-text =
+      rw (w, out) (take-at line-text (drop (length line-text) o) (length line-text) refl) in
+      b ∙ rw (front, p, on (step s l .session) ls₁ bytes₁ still-long (fits-held s l t o h q r e) more)
+  row-turn true e (inr (n, more)) = absurd (n (fits-number s l t o h q r e))
+  row-turn false e (inl (n, (ls₁, bytes₁, more, p, b))) = let full = full-number s l t o h q r e in absurd (omega arith)
+  row-turn false e (inr (n, more)) = on s ls bytes still-long (full-held s l t o h q r e) more
+
 -- ---- opened and closed
 
+was-opened : {t opened : Tables} (w : OpensBy t 0 opened) → w .opened ≡ true
+unfolding reply-number
+was-opened w = go (w .opened) (w .number)
+  where
+    go : (b : Bool) → 0 ≡ cond b (reply-number Kept.Done) (reply-number Kept.ShortTable) → b ≡ true
+    go true e = refl
+    go false e = absurd (omega (arith, e))
+
+module _ {t opened : Tables} (w : OpensBy t 0 opened) where
+  long-tables : suffice t ≡ true
+  long-tables = sym (w .opens .told) ∙ was-opened w
+
+  opened-long : suffice opened ≡ true
+  opened-long = still-suffice t opened (w .opens .lengths) long-tables
+
+  opened-empty : held opened ≡ Open empty-session
+  opened-empty = w .opens .opened (was-opened w)
+
 module _ {ls : List (List ℕ)} {t t′ : Tables} {o o′ : List ℕ} {z : Sent} (w : Sends ls t o z t′ o′) where
-  was-opened : w .opens .opened ≡ true
-  unfolding reply-number
-  was-opened = go (w .opens .opened) (w .opens .number)
-    where
-      go : (b : Bool) → 0 ≡ cond b (reply-number Kept.Done) (reply-number Kept.ShortTable) → b ≡ true
-      go true e = refl
-      go false e = absurd (omega (arith, e))
-
-  long : suffice t ≡ true
-  long = sym (w .opens .opens .told) ∙ was-opened
-
   sent-run : AsRun (run-lines (length o) empty-session ls) (w .opened) o z (w .left) o′
   sent-run =
-      calls-run empty-session ls (w .opened) (w .left) o o′ z (still-suffice t (w .opened) (w .opens .opens .lengths) long)
-      (w .opens .opens .opened was-opened) (w .calls)
+      calls-run empty-session ls (w .opened) (w .left) o o′ z (opened-long (w .opens)) (opened-empty (w .opens)) (w .calls)
 
   left-zeroed : Zeroed (t .core) (t .theory) (t .solver) (t′ .core) (t′ .theory) (t′ .solver)
   left-zeroed =
@@ -228,7 +266,7 @@ sent-reports : (script : List ℕ) (t t′ : Tables) (o o′ : List ℕ) (z : Se
 sent-reports script t t′ o o′ z short w =
     let d = run-lines (length o) empty-session (lines script) in
     let as-run = sent-run w in
-    let suffices = suffices (long w) in
+    let suffices = suffices (long-tables (w .opens)) in
     let tables : TablesLong (t .core) (t .theory) (t .solver) =
     record { core = suffices .core; theory = suffices .theory; solver = suffices .solver } in
     record {
@@ -299,22 +337,49 @@ kept-runs script t t′ o o′ z short k (inr w) = refused-reports script t t′
 
 -- ---- the claim
 
--- all lines are answered, or the next answer line does not fit
-until : (ls : List (List ℕ)) (o : List ℕ) (z : Sent) (d : Ran) → z .number ≡ result-number (d .ending) → z .answered ≡ d .answered →
-    Stops (length o) empty-session ls d → SentUntil ls o z
-unfolding result-number reply-number
-until ls o z d n a (inl (p, q)) = inl (n ∙ rw p, a ∙ q)
-until ls o z d n a (inr (p, q, r)) = inr (n ∙ rw p, rw a q, rw a r)
+-- The answers of a row are the definition's, from the session that the tables hold.
+row-answers : (calls : List (List ℕ × List ℕ)) (s : Session.Session) (t t′ : Tables) (ls : List (List ℕ)) (bytes : List ℕ) →
+    suffice t ≡ true → held t ≡ Open s → Row calls t ls bytes t′ → bytes ≡ answer-lines (answers s ls)
+unfolding answers answer-lines
+row-answers [] s t t′ ls bytes h q (p, b, same) = rw (p, b)
+row-answers ((l, o) ∷ calls) s t t′ ls bytes h q (c, r, w) =
+    row-turn calls s l o t t′ ls bytes c h q r
+    (λ u ls₁ bytes₁ h₁ q₁ on. row-answers calls u (c .tables) t′ ls₁ bytes₁ h₁ q₁ on) (leb (length (answer-line (step s l))) (length o)) refl w
 
 pub kept-claim : KeptHolds
-unfolding output-after
-kept-claim ls t t′ o o′ z w =
-    let d = run-lines (length o) empty-session ls in
-    let as-run = sent-run w in
-    record {
-      ended = until ls o z d (as-run .number) (as-run .answered) (run-stops (length o) empty-session ls);
-      written =
-          rw (as-run .written, as-run .output, as-run .answered)
-          (take-at (d .written) (drop (length (d .written)) o) (length (d .written)) refl ∙ run-writes (length o) empty-session ls);
-      claim = claim (take (z .answered) ls);
-    }
+kept-claim calls t opened t′ ls bytes w row = record {
+  written = row-answers calls empty-session opened t′ ls bytes (opened-long w) (opened-empty w) row;
+  claim = claim ls;
+}
+
+-- ---- there are such rows
+
+-- what is sent to a function that answers lines as promised, on tables as a call left them
+abbrev Answering : Type 0
+Answering =
+    (l : List ℕ) (t : Tables) (o : List ℕ) → KeptSound t → (r : Call) × Replies l t o (r .number) (r .written) (r .tables) (r .output)
+
+-- a first call and, if it answered its line, a row behind it
+joined-calls : (l : List ℕ) (ls : List (List ℕ)) (t : Tables) (o : List ℕ) (r : Call) →
+    Replies l t o (r .number) (r .written) (r .tables) (r .output) →
+    ((z : Sent) × (t′ : Tables) × (o₂ : List ℕ) × Calls ls (r .tables) (drop (r .written) (r .output)) z t′ o₂) →
+    (b : Bool) → eqb (r .number) 0 ≡ b → (z : Sent) × (t′ : Tables) × (o′ : List ℕ) × Calls (l ∷ ls) t o z t′ o′
+joined-calls l ls t o r p (rest, t′, o₂, more) true e =
+    let z : Sent = record { number = rest .number; answered = suc (rest .answered); written = r .written + rest .written } in
+    let on : GoesOn r rest o₂ z (take (r .written) (r .output) ++ o₂) =
+    record { done = eqb-true (r .number) 0 e; sent = refl; output = refl } in
+    (z, t′, take (r .written) (r .output) ++ o₂, (r, p, inr (rest, o₂, on, more)))
+joined-calls l ls t o r p more false e =
+    let z : Sent = record { number = r .number; answered = 0; written = 0 } in
+    let stop : Stopped r z (r .tables) (r .output) =
+    record { unanswered = eqb-false (r .number) 0 e; sent = refl; tables = refl; output = refl } in
+    (z, r .tables, r .output, (r, p, inl stop))
+
+-- whatever the lines: so the hypotheses of the theorem can be met
+pub calls-exist : Answering → (ls : List (List ℕ)) (t : Tables) (o : List ℕ) → KeptSound t →
+    (z : Sent) × (t′ : Tables) × (o′ : List ℕ) × Calls ls t o z t′ o′
+calls-exist f [] t o k = (record { number = 0; answered = 0; written = 0 }, t, o, (refl, refl, refl))
+calls-exist f (l ∷ ls) t o k =
+    let x = f l t o k in
+    joined-calls l ls t o (x .0) (x .1) (calls-exist f ls (x .0 .tables) (drop (x .0 .written) (x .0 .output)) (x .1 .answers .sound))
+    (eqb (x .0 .number) 0) refl

@@ -1,6 +1,6 @@
 -- A session kept open: a call opens it on lent tables, a call answers one line, a call closes it. What each call promises, and the theorem
 -- that the lines of a script, sent by one call each, are answered as by `run`, so that the claim holds of a session kept open.
-use Prim.Native.Nat.{ℕ, suc, _+_, _≤_, _<_}
+use Prim.Native.Nat.{ℕ, suc, _+_, _≤_}
 use mathlib.Core.Path.{_≡_}
 use mathlib.Core.Logic.{_⊎_, _≢_}
 use mathlib.Core.Bool.{Bool, true, false, cond}
@@ -9,12 +9,13 @@ use lib.Dec.{leb}
 use lib.ListN.{length, take, drop}
 use Rattle.core.specs.Limits.{max-script}
 use Rattle.session.specs.Text.{lines}
-use Rattle.session.specs.Session.{Session, empty-session, step}
+use Rattle.session.specs.Session.{empty-session, step}
 use Rattle.session.specs.Run.{answer-line, zeros}
 use Rattle.session.specs.Promise.{Reports}
 use Rattle.session.specs.Claim.{Claim}
 use Rattle.session.specs.RunClaim.{answers, answer-lines}
-use Rattle.session.specs.Memory.Kept.{kept-words, Held, Closed, Open, Tables, SameLengths, suffice, held, KeptSound}
+use Rattle.session.specs.Memory.Answers.{longest-answer}
+use Rattle.session.specs.Memory.Kept.{kept-words, Held, Closed, Open, Tables, SameLengths, SameBehind, suffice, held, KeptSound}
 use Rattle.session.specs.declared.kept.Reply as Given
 use Rattle.session.specs.declared.kept.Replied as GivenReplied
 
@@ -69,6 +70,7 @@ pub record Opens (t : Tables) (r : Bool) (t′ : Tables) : Type 0 where
   pub untouched : r ≡ false → t′ ≡ t
   pub sound : KeptSound t′
   pub lengths : SameLengths t t′
+  pub behind : SameBehind t t′
 
 -- A line was answered as d says; the output was o and is o′.
 pub record Answered (d : Replied) (t : Tables) (o : List ℕ) (r : GivenReplied.Replied) (t′ : Tables) (o′ : List ℕ) : Type 0 where
@@ -78,14 +80,18 @@ pub record Answered (d : Replied) (t : Tables) (o : List ℕ) (r : GivenReplied.
   pub output : o′ ≡ d .written ++ drop (length (d .written)) o
   pub fits : length (d .written) ≤ length o
   pub held : held t′ ≡ d .held
+  -- unless it was answered, the tables are as they were
   pub untouched : (d .reply ≡ Done) ⊎ (t′ ≡ t)
+  -- the output is never too short where the longest answer line fits it
+  pub room : longest-answer ≤ length o → d .reply ≢ Full
   pub sound : KeptSound t′
   pub lengths : SameLengths t t′
+  pub behind : SameBehind t t′
 
 abbrev pub AnswersHeld : List ℕ → Tables → List ℕ → GivenReplied.Replied → Tables → List ℕ → Type 0
 AnswersHeld line t o r t′ o′ = Answered (answer-in t (length o) line) t o r t′ o′
 
--- All words of the tables are 0, and no session is open on them.
+-- All words of the tables are 0, so no session is open on them.
 pub record Closes (t t′ : Tables) : Type 0 where
   pub core : t′ .core ≡ zeros (t .core)
   pub theory : t′ .theory ≡ zeros (t .theory)
@@ -168,19 +174,24 @@ KeptRuns =
     Sends (lines script) t o z t′ o′ ⊎ Refuses t o z t′ o′ →
     Reports script (t .core) (t .theory) (t .solver) o (z .number) (z .answered) (z .written) (t′ .core) (t′ .theory) (t′ .solver) o′
 
--- a row of calls ends when all lines are answered, or when the next answer line does not fit the output left
-abbrev pub SentUntil : List (List ℕ) → List ℕ → Sent → Type 0
-SentUntil ls o z =
-    ((z .number ≡ reply-number Done) × (z .answered ≡ length ls))
-    ⊎ ((z .number ≡ reply-number Full) × (z .answered < length ls)
-    × (length o < length (answer-lines (answers empty-session (take (suc (z .answered)) ls)))))
+-- Calls in a row, each with a line and an output of its own, on the tables that the call before left: ls are the lines that were answered,
+-- bytes their answer lines one after another. A line that was not answered may be sent again, or another one.
+abbrev pub Row : List (List ℕ × List ℕ) → Tables → List (List ℕ) → List ℕ → Tables → Type 0
+Row [] t ls bytes t′ = (ls ≡ []) × (bytes ≡ []) × (t′ ≡ t)
+Row ((l, o) ∷ calls) t ls bytes t′ =
+    (r : Call) × Replies l t o (r .number) (r .written) (r .tables) (r .output)
+    × (((r .number ≡ 0) × ((ls₁ : List (List ℕ)) × (bytes₁ : List ℕ) × Row calls (r .tables) ls₁ bytes₁ t′
+    × (ls ≡ l ∷ ls₁) × (bytes ≡ take (r .written) (r .output) ++ bytes₁)))
+    ⊎ ((r .number ≢ 0) × Row calls (r .tables) ls bytes t′))
 
--- The claim over whole scripts holds of a session kept open, for every list of lines, however long: the bytes written are the answer lines
--- of the lines answered, and the claim holds of these lines and answers.
-pub record KeptClaim (ls : List (List ℕ)) (o : List ℕ) (z : Sent) (o′ : List ℕ) : Type 1 where
-  pub ended : SentUntil ls o z
-  pub written : take (z .written) o′ ≡ answer-lines (answers empty-session (take (z .answered) ls))
-  pub claim : Claim (take (z .answered) ls)
+-- The claim over whole scripts holds of a session kept open, however many lines it is sent and whatever outputs are lent: the bytes written
+-- are the definition's answers to the lines answered, each working on the session that the one before left, and the claim holds of these
+-- lines and answers.
+pub record KeptClaim (ls : List (List ℕ)) (bytes : List ℕ) : Type 1 where
+  pub written : bytes ≡ answer-lines (answers empty-session ls)
+  pub claim : Claim ls
 
 abbrev pub KeptHolds : Type 1
-KeptHolds = (ls : List (List ℕ)) (t t′ : Tables) (o o′ : List ℕ) (z : Sent) → Sends ls t o z t′ o′ → KeptClaim ls o z o′
+KeptHolds =
+    (calls : List (List ℕ × List ℕ)) (t opened t′ : Tables) (ls : List (List ℕ)) (bytes : List ℕ) → OpensBy t 0 opened →
+    Row calls opened ls bytes t′ → KeptClaim ls bytes

@@ -1,10 +1,11 @@
-// Runs each script of the fixed list on lent memory of nine sizes and contents, and compares all that a run answers and leaves with what
-// the list has (harness/fixed/README.md). Prints how much was compared, and the first difference if there is one. The list begins with
-// the examples of the scope document.
+// Runs each script of the fixed list on lent memory of nine sizes and contents, whole and line by line, and compares all that a run answers
+// and leaves with what the list has (harness/fixed/README.md). Prints how much was compared, and the first difference if there is one. The
+// list begins with the examples of the scope document.
 mod lines;
 
 use crate::lines::run_by_lines;
 use libc::STDOUT_FILENO;
+use session::kept::KEPT_WORDS;
 use session::run::Ran;
 use session::run::run;
 use std::num::wrapping_add_usize;
@@ -15,7 +16,7 @@ ghost use lib.ListN.{length};
 // The byte that lent output is full of before a run.
 const OLD: u8 = b'#';
 
-// Each script is run so often.
+// Each script is lent so many times.
 const RUNS: usize = 5;
 
 // No list has more.
@@ -220,7 +221,7 @@ fn try_lines(
 ) -> Found
     requires { ⌜ (length (now script) ≤ 99999) × (length (now out) ≤ 99999) ⌝ }
 {
-    let mut kept = [7u32; 66];
+    let mut kept = [7u32; KEPT_WORDS];
     fill(w, c, e, s, out);
     let ran = run_by_lines(script, c, e, s, &mut kept, out);
     compare(ran, want, answers, w, c, e, s, out)

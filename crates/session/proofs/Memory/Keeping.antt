@@ -1,5 +1,5 @@
 -- A session kept open: words copied, what the fourth table holds, an opened session, a line, and what a call promises.
-use Rattle.core.proofs.Kit.{ℕ, _+_, _-_, _≤_, _<_, _≡_, refl, sym, ap, subst, subst⁻¹, _∙_, _⊎_, inl, inr, Bool, true, false, false≢true, cond, _&&_, eqb, leb, List, [], _∷_, _++_, map, below-more, arith, le-leb, lt-leb, eq-eqb, ne-eqb, length, getD, take, drop, set, length-set, ext-getD, getD-set-same, getD-set-other, length-map, length-take-le, length-drop, getD-take, not}
+use Rattle.core.proofs.Kit.{ℕ, _+_, _≤_, _<_, _≡_, refl, sym, ap, subst, subst⁻¹, _∙_, _⊎_, inl, inr, Bool, true, false, false≢true, _&&_, eqb, leb, List, _++_, below-more, arith, le-leb, lt-leb, eq-eqb, ne-eqb, length, getD, take, drop, set, length-set, ext-getD, getD-set-same, getD-set-other, length-map, length-take-le, length-drop, getD-take, not}
 use lib.ListN.{List·getD-map, take-append-drop}
 use lib.Seq.{take-at, drop-at, length-front}
 use mir.Val.{boolByte}
@@ -8,13 +8,13 @@ use borrow.Author.Tests.{leb-true}
 use Rattle.core.proofs.Lists.{and-no}
 use Rattle.core.specs.Limits.{table-words, max-levels}
 use Rattle.session.specs.Session as Session
-use Rattle.session.specs.Session.{Performed, empty-session, step}
+use Rattle.session.specs.Session.{Performed, step}
 use Rattle.session.specs.Run.{answer-line, zeros}
-use Rattle.session.specs.Kept.{Done, Replied, unanswered, answer-held, answer-in, reply-number, reply-meaning, Opens, OpensBy, Answered, Closes}
+use Rattle.session.specs.Kept.{Reply, Done, ShortTable, Full, NotOpen, Replied, unanswered, answer-held, answer-in, reply-number, reply-meaning, Opens, OpensBy, Answered, Closes}
 use Rattle.session.specs.Memory.Answers.{longest-answer}
 use Rattle.session.specs.Memory.Sessions.{Beside, beside, session}
-use Rattle.session.specs.Memory.Running.{TablesLong, EmptyTables, Puts, Answerable, AnsweredBy, AnswersLine, Zeroed}
-use Rattle.session.specs.Memory.Kept.{Tables, tables, SameLengths, MARK, CLOSED, COUNTS, kept-words, open-mark, is-open, close-accepted, mark-counts, Closed, Open, suffice, part, beside-in, session-in, held, KeptSound, Exact, Tried, Holding, Keeps, Unfit, TriedOpen, AnswersOpen}
+use Rattle.session.specs.Memory.Running.{TablesLong, EmptyTables, Answerable, AnsweredBy, Zeroed}
+use Rattle.session.specs.Memory.Kept.{Tables, tables, SameLengths, SameBehind, MARK, CLOSED, COUNTS, kept-words, open-mark, is-open, close-accepted, mark-counts, Closed, Open, suffice, part, beside-in, session-in, held, KeptSound, Exact, Tried, Holding, Keeps, TriedOpen, AnswersOpen}
 use Rattle.session.specs.declared.run.Placed as Placed
 use Rattle.session.specs.declared.kept.Reply as Given
 use Rattle.session.proofs.Memory.Running.{empty-is, empty-answerable, written-front, puts-as}
@@ -158,6 +158,7 @@ refused t h = record {
   untouched = λ q. refl;
   sound = λ l. absurd (false≢true (h ∙ l));
   lengths = record { core = refl; theory = refl; solver = refl; kept = refl };
+  behind = record { core = refl; theory = refl; solver = refl };
 }
 
 -- the work tables' parts came back as these
@@ -184,6 +185,13 @@ module _ (t : Tables) (c₁ e₁ s₁ : List ℕ) (h : suffice t ≡ true) (lc :
     kept = l;
   }
 
+  back-behind : (k : List ℕ) → SameBehind t (back k)
+  back-behind k = record {
+    core = drop-at c₁ (drop table-words (t .core)) table-words (lc ∙ length-take-le table-words (t .core) (suffices h .core));
+    theory = drop-at e₁ (drop table-words (t .theory)) table-words (le ∙ length-take-le table-words (t .theory) (suffices h .theory));
+    solver = drop-at s₁ (drop table-words (t .solver)) table-words (ls ∙ length-take-le table-words (t .solver) (suffices h .solver));
+  }
+
   back-held : (k : List ℕ) {b : Bool} {x : Session.Session} → is-open k ≡ true → close-accepted k ≡ b →
       session c₁ e₁ s₁ (beside e₁ (mark-counts k) b) ≡ x → held (back k) ≡ Open x
   back-held k o f e = held-open (back k) o (session-parts (back k) core-part theory-part solver-part f ∙ e)
@@ -206,6 +214,7 @@ opens t {c₁} {e₁} {s₁} h z q lc le ls =
       untouched = λ f. absurd (false≢true (sym f));
       sound = back-sound t c₁ e₁ s₁ h lc le ls k no-close (empty-answerable (mark-counts k) z);
       lengths = back-lengths t c₁ e₁ s₁ h lc le ls k (length-set (zeros (t .kept)) MARK open-mark ∙ zeros-length (t .kept));
+      behind = back-behind t c₁ e₁ s₁ h lc le ls k;
     }
 
 -- by numbers
@@ -281,10 +290,11 @@ module _ {p p₂ : Performed} {d : Placed.Placed} {c e s c₃ e₃ s₃ n₃ : L
   aside-full g =
       let put = puts-as o 0 (answer-line p₂) o₃ g (f .line) in
       let longer = put .1 in
+      let short = f .short in
       let same = ap (λ (x : Performed). length (answer-line x)) own in
       record {
         answered = λ n q. absurd (full-ends q);
-        unfit = λ _. record { core = refl; theory = refl; solver = refl; output = put .0; long = omega arith };
+        unfit = λ _. record { core = refl; theory = refl; solver = refl; output = put .0; long = omega arith; few = omega arith };
       }
 
   pub aside-done : {k : ℕ} {c₄ e₄ s₄ : List ℕ} → d ≡ Placed.the-variants.Ends k → c₄ ≡ c₃ → e₄ ≡ e₃ → s₄ ≡ s₃ →
@@ -335,20 +345,40 @@ module _ {p p₁ : Performed} {d : Placed.Placed} {c e s k c₁ e₁ s₁ n₁ :
 all-same : (t : Tables) → SameLengths t t
 all-same t = record { core = refl; theory = refl; solver = refl; kept = refl }
 
+abbrev pub is-full : Reply → Type 0
+is-full Done = ⊥
+is-full ShortTable = ⊥
+is-full Full = Unit {0}
+is-full NotOpen = ⊥
+
 -- a line that is not answered
-pub not-answered : {d : Replied} (t : Tables) (o : List ℕ) (g : Given.Reply) → d ≡ unanswered (reply-meaning g) (held t) → KeptSound t →
+pub not-answered : {d : Replied} (t : Tables) (o : List ℕ) (g : Given.Reply) → d ≡ unanswered (reply-meaning g) (held t) →
+    (longest-answer ≤ length o → is-full (reply-meaning g) → ⊥) → KeptSound t →
     Answered d t o (record { reply = g; written = 0 }) t o
 unfolding unanswered
-not-answered t o g e z = record {
+not-answered t o g e other z = record {
   reply = rw e;
   written = rw e;
   output = rw e;
   fits = rw e (omega arith);
   held = rw e;
   untouched = inr refl;
+  room = λ l. rw e (λ q. other l (subst⁻¹ is-full q tt));
   sound = z;
   lengths = all-same t;
+  behind = record { core = refl; theory = refl; solver = refl };
 }
+
+-- no session is open on the tables, or they are too short
+pub not-open : {d : Replied} (t : Tables) (o : List ℕ) → d ≡ unanswered (reply-meaning Given.the-variants.NotOpen) (held t) → KeptSound t →
+    Answered d t o (record { reply = Given.the-variants.NotOpen; written = 0 }) t o
+unfolding reply-meaning
+not-open t o e z = not-answered t o Given.the-variants.NotOpen e (λ l f. f) z
+
+pub too-short : {d : Replied} (t : Tables) (o : List ℕ) → d ≡ unanswered (reply-meaning Given.the-variants.ShortTable) (held t) →
+    KeptSound t → Answered d t o (record { reply = Given.the-variants.ShortTable; written = 0 }) t o
+unfolding reply-meaning
+too-short t o e z = not-answered t o Given.the-variants.ShortTable e (λ l f. f) z
 
 module _ (t : Tables) (room : ℕ) (line : List ℕ) where
   pub call-short : false ≡ suffice t → answer-in t room line ≡ unanswered (reply-meaning Given.the-variants.ShortTable) (held t)
@@ -420,8 +450,9 @@ module _ (t : Tables) (line : List ℕ) {d : Placed.Placed} {c₁ e₁ s₁ k₁
         take-append-drop table-words (t .theory),
         take-append-drop table-words (t .solver),
       ) in
+      let few = w .few in
       rw (same, w .output)
-      (not-answered t o Given.the-variants.Full (call-full t (length o) line h opened (w .long)) z)
+      (not-answered t o Given.the-variants.Full (call-full t (length o) line h opened (w .long)) (λ l f. absurd (omega arith)) z)
 
   pub done-call : {n : ℕ} → d ≡ Placed.the-variants.Ends n → length c₁ ≡ length (take table-words (t .core)) →
       length e₁ ≡ length (take table-words (t .theory)) → length s₁ ≡ length (take table-words (t .solver)) →
@@ -440,6 +471,8 @@ module _ (t : Tables) (line : List ℕ) {d : Placed.Placed} {c₁ e₁ s₁ k₁
         fits = rw d-is (omega arith);
         held = rw d-is (back-held t c₁ e₁ s₁ h lc le ls k₁ (f .mark ∙ opened) refl (sym (a .after)));
         untouched = inl (rw d-is);
+        room = λ l. rw d-is (λ q. subst⁻¹ is-full q tt);
         sound = back-sound t c₁ e₁ s₁ h lc le ls k₁ refl (a .answerable);
         lengths = back-lengths t c₁ e₁ s₁ h lc le ls k₁ lk;
+        behind = back-behind t c₁ e₁ s₁ h lc le ls k₁;
       }

@@ -9,6 +9,7 @@ use lib.ListN.{length, getD, take, drop}
 use Rattle.core.specs.Limits.{table-words, max-levels}
 use Rattle.session.specs.Session.{Session, Performed, step}
 use Rattle.session.specs.Run.{answer-line}
+use Rattle.session.specs.Memory.Answers.{longest-answer}
 use Rattle.session.specs.Memory.Sessions.{Beside, beside, session}
 use Rattle.session.specs.Memory.Running.{Answerable, AnsweredBy}
 use Rattle.session.specs.declared.run.Placed as Placed
@@ -63,7 +64,7 @@ suffice t =
     leb table-words (length (t .core)) && leb table-words (length (t .theory)) && leb table-words (length (t .solver))
     && leb kept-words (length (t .kept))
 
--- the words that a session uses; those past them are never touched
+-- the words that a session uses
 abbrev pub part : List ℕ → List ℕ
 part t = take table-words t
 
@@ -87,6 +88,12 @@ pub record SameLengths (t t′ : Tables) : Type 0 where
   pub solver : length (t′ .solver) ≡ length (t .solver)
   pub kept : length (t′ .kept) ≡ length (t .kept)
 
+-- the words behind those that a session uses are as they were
+pub record SameBehind (t t′ : Tables) : Type 0 where
+  pub core : drop table-words (t′ .core) ≡ drop table-words (t .core)
+  pub theory : drop table-words (t′ .theory) ≡ drop table-words (t .theory)
+  pub solver : drop table-words (t′ .solver) ≡ drop table-words (t .solver)
+
 -- ---- a line
 
 -- work tables of just so many words
@@ -102,6 +109,7 @@ pub record Unfit (p : Performed) (c e s c′ e′ s′ o o′ : List ℕ) : Type
   pub solver : s′ ≡ s
   pub output : o′ ≡ o
   pub long : length o < length (answer-line p)
+  pub few : length o < longest-answer
 
 -- a line was answered by the step p, or its answer line does not fit
 pub record Tried (p : Performed) (d : Placed.Placed) (c e s c′ e′ s′ : List ℕ) (m′ : Beside) (o o′ : List ℕ) : Type 0 where

@@ -24,18 +24,21 @@ full c =
 core-fits : tie.Need-copy-requires-4
 core-fits c κs =
     let at-line = c .before .before .before .before .before .before .before .before .before .before in
-    let at-core = at-line .before .before .before .before .before .before .before .before .before .before .before .before .before .before .before .before .before .before in
+    let at-theory = at-line .before .before .before .before .before .before .before .before .before .before .before .before .before .before in
+    let at-core = at-theory .before .before .before .before in
     at-line .answer-line .kept .0 ∙ ap length (at-core .copy .ensures)
 
 theory-fits : tie.Need-copy-requires-5
 theory-fits c κs =
-    let at-line = c .before .before .before .before .before .before .before .before .before .before .before .before .before .before .before in
+    let core-back = c .before .before .before .before .before in
+    let at-line = core-back .before .before .before .before .before .before .before .before .before .before in
     let at-theory = at-line .before .before .before .before .before .before .before .before .before .before .before .before .before .before in
     at-line .answer-line .kept .1 .0 ∙ ap length (at-theory .copy2 .ensures)
 
 solver-fits : tie.Need-copy-requires-6
 solver-fits c κs =
-    let at-line = c .before .before .before .before .before .before .before .before .before .before .before .before .before .before .before .before .before .before .before .before in
+    let core-back = c .before .before .before .before .before .before .before .before .before .before in
+    let at-line = core-back .before .before .before .before .before .before .before .before .before .before in
     let at-solver = at-line .before .before .before .before .before .before .before .before .before .before in
     at-line .answer-line .kept .1 .1 .0 ∙ ap length (at-solver .copy3 .ensures)
 

@@ -19,7 +19,10 @@ full c =
     open-full (at-try .try-line .ensures) (rw (at-copy .copy .ensures)) (c .enum-told .given .1)
 
 keepable : tie.Need-keep-requires
-keepable c κs = c .before .before .before .before .before .before .before .before .before .before .before .before .before .before .before .before .before .before .before .before .before .before .before .before .before .before .before .before .before .before .before .before .pre .long
+keepable c κs =
+    let at-try = c .before .before .before .before .before .before .before .before .before .before .before .before .before in
+    let at-copy = at-try .before .before .before .before .before .before .before .before .before in
+    at-copy .before .before .before .before .before .before .before .before .before .before .pre .long
 
 answered : tie.Need-returns-2
 unfolding mark-counts close-accepted

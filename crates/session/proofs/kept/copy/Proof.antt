@@ -1,5 +1,5 @@
 -- The words below i are copied.
-use Rattle.core.proofs.Kit.{_-_, sym, needs, length}
+use Rattle.core.proofs.Kit.{_-_, needs, length}
 use Rattle.session.proofs.Memory.Keeping.{Copying, copy-first, copy-next, copy-done}
 use Rattle.session.proofs.kept.copy.Statement.{statement}
 use Rattle.session.proofs.kept.copy.Tie as tie
