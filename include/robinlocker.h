@@ -3,20 +3,22 @@
  * Two ways to use it:
  *   - robinlocker_run answers a whole script.
  *   - robinlocker_open, robinlocker_line and robinlocker_close keep a session open and answer one line at a time.
- * Line by line a session writes the bytes that robinlocker_run writes for the script of these lines, with the same result and
- * counts: KeptRuns in crates/session/specs/Kept.antt, proved. What is proved of the answers is Claim in
- * crates/session/specs/Claim.antt; KeptHolds says that it holds of a session kept open.
+ * Sent line by line into one output, each answer behind the one before, until one does not fit, the lines of a script of at most
+ * ROBINLOCKER_SCRIPT_BYTES are answered as by robinlocker_run: the same bytes, the same last result, as many lines and bytes. This is
+ * KeptRuns in crates/session/specs/Kept.antt, proved. What is proved of the answers is Claim in crates/session/specs/Claim.antt;
+ * KeptHolds says that it holds of a session kept open, whatever outputs are lent and however many lines are sent.
  *
  * The library allocates nothing, keeps nothing of its own between calls, and calls nothing but C's memcpy and memset: all it works
  * on is lent, or stands on the stack. Hence calls on different memory may run at the same time in different threads.
  *
- * Stack: robinlocker_run takes up to about 310 KiB, robinlocker_line 192 KiB more (docs/PERFORMANCE.md).
+ * Stack, as measured: robinlocker_run up to 304 KiB, robinlocker_line 192 KiB more; 1 MiB is enough for both
+ * (docs/PERFORMANCE.md).
  *
  * What every call asks of its caller:
  *   - A pointer and the length behind it name memory of that length that is the caller's: words of 32 bits, or bytes. A length of
  *     zero may go with any pointer, a null pointer too. Tables are aligned as uint32_t asks.
  *   - No two of the areas lent to one call overlap.
- *   - The pointers behind which a count is left (`answered`, `written`) are not null.
+ *   - The pointers behind which a count is left (`answered`, `written`) point to a size_t of the caller's, aligned as it asks.
  * Nothing is asked of what the memory holds, but for one rule of robinlocker_line, which is said there. Where several things are
  * wrong at once, the result is the first in this order: SHORT_TABLE, NOT_OPEN or LONG_SCRIPT, FULL.
  *
@@ -98,8 +100,8 @@ uint32_t robinlocker_run(const uint8_t *script, size_t script_bytes,
 
 /* Opens an empty session on four tables, whatever they hold: a session that was open there is lost.
  * DONE, or SHORT_TABLE: one of the first three has fewer than ROBINLOCKER_TABLE_WORDS words, or the fourth has fewer than
- * ROBINLOCKER_KEPT_WORDS. Of longer tables a session uses the first words: those behind them are left alone, but the fourth table is
- * set to 0 whole before it is marked as open. */
+ * ROBINLOCKER_KEPT_WORDS. Of longer work tables the words behind the first ROBINLOCKER_TABLE_WORDS are left alone by this call and by
+ * robinlocker_line. All of the fourth table is the library's. */
 uint32_t robinlocker_open(uint32_t *core, size_t core_words,
                           uint32_t *theory, size_t theory_words,
                           uint32_t *solver, size_t solver_words,
@@ -117,7 +119,8 @@ uint32_t robinlocker_open(uint32_t *core, size_t core_words,
  *
  * The one rule: if the fourth table begins with the word that marks an open session (1,380,732,747), then the four tables hold what
  * the last call on a session left in them, at any address and of any lengths that suffice. A copy of all four is a session of its
- * own. Memory that is zero, as from calloc, is never marked. */
+ * own. Memory that is zero, as from calloc, is never marked. So robinlocker_run must not be lent the work tables of an open session:
+ * it sets them to 0, and the mark stays. */
 uint32_t robinlocker_line(const uint8_t *line, size_t line_bytes,
                           uint32_t *core, size_t core_words,
                           uint32_t *theory, size_t theory_words,

@@ -73,7 +73,7 @@ guards-text o = joined comma (map decimal (listed (split-guard o)))
 abbrev pub phases-text : List ℕ → List ℕ
 phases-text o = joined comma (map phase-text (split-phases o))
 
--- no answer line is longer: that of a conflict with as many leaves as there are merges at most
+-- no answer line is longer: `conflict=`, 1,024 leaves of at most 22 bytes with a comma each, LF
 abbrev pub longest-answer : ℕ
 longest-answer = 10 + 23 * max-terms
 
