@@ -73,7 +73,7 @@ def of_term(session, _, answer):
     return f"t{number} is {session.table.text(number)}"
 
 
-def of_var(_, values, __):
+def of_var(_, values, _answer):
     return f"variable {values[0]} is t{values[1]}: literal {2 * values[0]} says it, literal {2 * values[0] + 1} denies it"
 
 
@@ -81,11 +81,11 @@ def of_equate(session, values, _):
     return joined(session.sides("equate", values), f"literal {values[0]}")
 
 
-def of_cong(_, values, __):
+def of_cong(_, values, _answer):
     return joined(values, "their arguments are")
 
 
-def of_iface(_, values, __):
+def of_iface(_, values, _answer):
     return joined(values[:2], f"theory {values[2]}, tag {values[3]}")
 
 
