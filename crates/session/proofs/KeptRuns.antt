@@ -19,7 +19,7 @@ use Rattle.session.specs.Kept.{Replied, unanswered, answer-held, answer-
 use Rattle.session.specs.declared.run.Ending as Given
 use Rattle.session.proofs.Claim.{claim}
 use Rattle.session.proofs.Memory.Running.{zeros-same, line-fits, line-full, run-short, run-started}
-use Rattle.session.proofs.Memory.Keeping.{suffices}
+use Rattle.session.proofs.Memory.Keeping.{suffices, all-same}
 
 -- ---- a row of calls
 
@@ -30,9 +30,6 @@ pub record AsRun (d : Ran) (t : Tables) (o : List ℕ) (z : Sent) (t′ : Tables
   pub written : z .written ≡ length (d .written)
   pub output : o′ ≡ output-after o d
   pub lengths : SameLengths t t′
-
-same-tables : (t : Tables) → SameLengths t t
-same-tables t = record { core = refl; theory = refl; solver = refl; kept = refl }
 
 lengths-on : {t u v : Tables} → SameLengths t u → SameLengths u v → SameLengths t v
 lengths-on a b = record {
@@ -51,7 +48,7 @@ none-left : (s : Session.Session) (t t′ : Tables) (o o′ : List ℕ) (z : Sen
     AsRun (run-lines (length o) s []) t o z t′ o′
 unfolding run-lines result-number output-after
 none-left s t t′ o o′ z w =
-    rw (w .0, w .1, w .2) (record { number = refl; answered = refl; written = refl; output = refl; lengths = same-tables t })
+    rw (w .0, w .1, w .2) (record { number = refl; answered = refl; written = refl; output = refl; lengths = all-same t })
 
 -- ---- a call of the row
 

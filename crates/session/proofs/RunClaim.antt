@@ -11,7 +11,7 @@ use Rattle.session.proofs.Claim.{claim}
 -- ---- lines
 
 -- the bytes of a run from s on are the answers of the lines that it answers
-abbrev pub Writes : Session → List (List ℕ) → Ran → Type 0
+abbrev Writes : Session → List (List ℕ) → Ran → Type 0
 Writes s ls d = d .written ≡ answer-lines (answers s (take (d .answered) ls))
 
 line-writes : (b : Bool) (s : Session) (l : List ℕ) (ls : List (List ℕ)) (d : Ran) → Writes (step s l .session) ls d →
@@ -20,7 +20,7 @@ unfolding one-more answers-none answers answer-lines answer-line
 line-writes true s l ls d w = rw w
 line-writes false s l ls d w = refl
 
-pub run-writes : (room : ℕ) (s : Session) (ls : List (List ℕ)) → Writes s ls (run-lines room s ls)
+run-writes : (room : ℕ) (s : Session) (ls : List (List ℕ)) → Writes s ls (run-lines room s ls)
 unfolding run-lines answers answer-lines
 run-writes room s [] = refl
 run-writes room s (l ∷ ls) =

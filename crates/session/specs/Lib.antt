@@ -1,5 +1,5 @@
 -- What is right in the session: reading a line, the questions, the answers, the run and what it promises; and the claim over whole
--- scripts and about the run.
+-- scripts and about the run; a session kept open, and what the library says of itself.
 pub mod Text
 pub mod Line
 pub mod Answer

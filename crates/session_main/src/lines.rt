@@ -3,14 +3,19 @@ use session::kept::close;
 use session::kept::line;
 use session::kept::open;
 use session::reader::line_end;
-use session::run::Ending;
-use session::run::Ran;
 use std::num::wrapping_add_usize;
 ghost use Prim.Native.Nat.{_≤_};
 ghost use lib.ListN.{length};
 ghost use Rattle.session.specs.Memory.Kept.{tables, KeptSound};
 
-// Until all lines are sent or one is not answered, which can only be for want of room.
+// What a run or a row of calls answers besides the bytes: the number of its result, the lines answered, the bytes written.
+pub struct Said {
+    pub result: u32,
+    pub answered: usize,
+    pub written: usize,
+}
+
+// Until all lines are sent or one is not answered.
 fn send_lines(
     script: &[u8],
     c: &mut [u32],
@@ -18,7 +23,7 @@ fn send_lines(
     s: &mut [u32],
     k: &mut [u32],
     out: &mut [u8],
-) -> Ran
+) -> Said
     requires { ⌜ KeptSound (tables (now c) (now e) (now s) (now k)) × (length (now script) ≤ 99999) × (length (now out) ≤ 99999) ⌝ }
 {
     let mut at = 0;
@@ -28,9 +33,10 @@ fn send_lines(
         let end = line_end(script, at);
         let replied = line(&script[at..end], c, e, s, k, &mut out[written..]);
         let reply = replied.reply;
-        if reply.number() != 0 {
-            return Ran {
-                ending: Ending::Full,
+        let result = reply.number();
+        if result != 0 {
+            return Said {
+                result,
                 answered,
                 written,
             };
@@ -39,8 +45,8 @@ fn send_lines(
         answered = wrapping_add_usize(answered, 1);
         at = end + 1;
     }
-    Ran {
-        ending: Ending::Complete,
+    Said {
+        result: 0,
         answered,
         written,
     }
@@ -54,17 +60,17 @@ pub fn run_by_lines(
     s: &mut [u32],
     k: &mut [u32],
     out: &mut [u8],
-) -> Ran
+) -> Said
     requires { ⌜ (length (now script) ≤ 99999) × (length (now out) ≤ 99999) ⌝ }
 {
     if !open(c, e, s, k) {
-        return Ran {
-            ending: Ending::ShortTable,
+        return Said {
+            result: 1,
             answered: 0,
             written: 0,
         };
     }
-    let ran = send_lines(script, c, e, s, k, out);
+    let said = send_lines(script, c, e, s, k, out);
     close(c, e, s, k);
-    ran
+    said
 }

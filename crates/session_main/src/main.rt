@@ -3,6 +3,7 @@
 // list begins with the examples of the scope document.
 mod lines;
 
+use crate::lines::Said;
 use crate::lines::run_by_lines;
 use libc::STDOUT_FILENO;
 use session::kept::KEPT_WORDS;
@@ -112,17 +113,25 @@ fn first_unlike(a: &[u8], b: &[u8]) -> usize {
     i
 }
 
-fn compare_numbers(ran: Ran, want: Want) -> Found {
+fn numbers_of(ran: Ran) -> Said {
     let ending = ran.ending;
-    let result = ending.number() as usize;
+    Said {
+        result: ending.number(),
+        answered: ran.answered,
+        written: ran.written,
+    }
+}
+
+fn compare_numbers(said: Said, want: Want) -> Found {
+    let result = said.result as usize;
     if result != want.result {
         return Found::Result(result);
     }
-    if ran.answered != want.answered {
-        return Found::Answered(ran.answered);
+    if said.answered != want.answered {
+        return Found::Answered(said.answered);
     }
-    if ran.written != want.written {
-        return Found::Written(ran.written);
+    if said.written != want.written {
+        return Found::Written(said.written);
     }
     Found::Nothing
 }
@@ -165,7 +174,7 @@ fn word_after(result: usize, w: u32) -> u32 {
 
 // What differs first. The answers are those wanted; the tables were full of w, the output of OLD.
 fn compare(
-    ran: Ran,
+    said: Said,
     want: Want,
     answers: &[u8],
     w: u32,
@@ -174,7 +183,7 @@ fn compare(
     s: &[u32],
     out: &[u8],
 ) -> Found {
-    let numbers = compare_numbers(ran, want);
+    let numbers = compare_numbers(said, want);
     let Found::Nothing = numbers else {
         return numbers;
     };
@@ -205,7 +214,7 @@ fn try_run(
 ) -> Found {
     fill(w, c, e, s, out);
     let ran = run(script, c, e, s, out);
-    compare(ran, want, answers, w, c, e, s, out)
+    compare(numbers_of(ran), want, answers, w, c, e, s, out)
 }
 
 // The same line by line: a session is opened, sent the script's lines and closed.
@@ -223,8 +232,8 @@ fn try_lines(
 {
     let mut kept = [7u32; KEPT_WORDS];
     fill(w, c, e, s, out);
-    let ran = run_by_lines(script, c, e, s, &mut kept, out);
-    compare(ran, want, answers, w, c, e, s, out)
+    let said = run_by_lines(script, c, e, s, &mut kept, out);
+    compare(said, want, answers, w, c, e, s, out)
 }
 
 // Both; question 2 is asked of whole scripts alone.

@@ -151,14 +151,20 @@ unclosed : (k : List ℕ) → close-accepted (set (zeros k) MARK open-mark) ≡ 
 unfolding close-accepted
 unclosed k = rw (getD-set-other (zeros k) MARK CLOSED open-mark 0 (omega arith), zero-word k CLOSED)
 
+pub all-same : (t : Tables) → SameLengths t t
+all-same t = record { core = refl; theory = refl; solver = refl; kept = refl }
+
+same-behind : (t : Tables) → SameBehind t t
+same-behind t = record { core = refl; theory = refl; solver = refl }
+
 pub refused : (t : Tables) → false ≡ suffice t → Opens t false t
 refused t h = record {
   told = h;
   opened = λ q. absurd (false≢true q);
   untouched = λ q. refl;
   sound = λ l. absurd (false≢true (h ∙ l));
-  lengths = record { core = refl; theory = refl; solver = refl; kept = refl };
-  behind = record { core = refl; theory = refl; solver = refl };
+  lengths = all-same t;
+  behind = same-behind t;
 }
 
 -- the work tables' parts came back as these
@@ -342,9 +348,6 @@ module _ {p p₁ : Performed} {d : Placed.Placed} {c e s k c₁ e₁ s₁ n₁ :
 
 -- ---- a call
 
-all-same : (t : Tables) → SameLengths t t
-all-same t = record { core = refl; theory = refl; solver = refl; kept = refl }
-
 abbrev pub is-full : Reply → Type 0
 is-full Done = ⊥
 is-full ShortTable = ⊥
@@ -366,7 +369,7 @@ not-answered t o g e other z = record {
   room = λ l. rw e (λ q. other l (subst⁻¹ is-full q tt));
   sound = z;
   lengths = all-same t;
-  behind = record { core = refl; theory = refl; solver = refl };
+  behind = same-behind t;
 }
 
 -- no session is open on the tables, or they are too short
