@@ -5,13 +5,14 @@
  *   - robinlocker_open, robinlocker_line and robinlocker_close keep a session open and answer one line at a time.
  * Sent line by line into one output, each answer behind the one before, until one does not fit, the lines of a script of at most
  * ROBINLOCKER_SCRIPT_BYTES are answered as by robinlocker_run: the same bytes, the same last result, as many lines and bytes. This is
- * KeptRuns in crates/kept/specs/Kept.antt, proved. What is proved of the answers is Claim in crates/session/specs/Claim.antt;
+ * KeptRuns in crates/session/specs/Kept.antt, proved. What is proved of the answers is Claim in crates/session/specs/Claim.antt;
  * KeptHolds says that it holds of a session kept open, whatever outputs are lent and however many lines are sent.
  *
  * The library allocates nothing, keeps nothing of its own between calls, and calls nothing but C's memcpy and memset: all it works
  * on is lent, or stands on the stack. Hence calls on different memory may run at the same time in different threads.
  *
- * Stack, as measured: robinlocker_run and robinlocker_line up to 304 KiB each; 512 KiB are enough (docs/PERFORMANCE.md).
+ * Stack, as measured: robinlocker_run up to 304 KiB, robinlocker_line 192 KiB more; 1 MiB is enough for both
+ * (docs/PERFORMANCE.md).
  *
  * What every call asks of its caller:
  *   - A pointer and the length behind it name memory of that length that is the caller's: words of 32 bits, or bytes. A length of
@@ -39,8 +40,7 @@ extern "C" {
 /* ---- limits ---- */
 
 #define ROBINLOCKER_TABLE_WORDS 16384  /* words of each of the three work tables, or more */
-#define ROBINLOCKER_KEPT_WORDS 52542   /* words of the fourth table of a session kept open, or more */
-#define ROBINLOCKER_HELD_WORDS 66      /* as many of its first words mean something between calls */
+#define ROBINLOCKER_KEPT_WORDS 66      /* words of the fourth table of a session kept open, or more */
 #define ROBINLOCKER_SCRIPT_BYTES 65536 /* bytes of a script of robinlocker_run at most */
 #define ROBINLOCKER_ANSWER_BYTES 23562 /* no answer line has more bytes, its line feed among them */
 #define ROBINLOCKER_SORTS 64           /* sorts at most, Bool among them */
@@ -101,8 +101,7 @@ uint32_t robinlocker_run(const uint8_t *script, size_t script_bytes,
 /* Opens an empty session on four tables, whatever they hold: a session that was open there is lost.
  * DONE, or SHORT_TABLE: one of the first three has fewer than ROBINLOCKER_TABLE_WORDS words, or the fourth has fewer than
  * ROBINLOCKER_KEPT_WORDS. Of longer work tables the words behind the first ROBINLOCKER_TABLE_WORDS are left alone by this call and by
- * robinlocker_line. All of the fourth table is the library's: its first ROBINLOCKER_HELD_WORDS words keep what a session has beside the work
- * tables, the others are room for a call and mean nothing between calls. */
+ * robinlocker_line. All of the fourth table is the library's. */
 uint32_t robinlocker_open(uint32_t *core, size_t core_words,
                           uint32_t *theory, size_t theory_words,
                           uint32_t *solver, size_t solver_words,
@@ -112,18 +111,16 @@ uint32_t robinlocker_open(uint32_t *core, size_t core_words,
  * Any bytes are answered; a line that does not read, as one with a line feed in it, is answered `refused=3`.
  *
  * DONE: behind `written` is the length of the answer line; output past it is untouched.
- * FULL: the answer line does not fit the output. The line is not performed: the output, the work tables and the first
- *   ROBINLOCKER_HELD_WORDS words of the fourth table are as they were, and the line may be sent again with more output. With ROBINLOCKER_ANSWER_BYTES of output this
- *   never happens (proved); with less, each call copies the work tables first, so it is also faster to lend as much.
- * SHORT_TABLE: as for robinlocker_open. NOT_OPEN: no session is open on these tables, as after robinlocker_close. Tables and output
- *   are untouched.
- * But for DONE, 0 is left behind `written`.
+ * FULL: the answer line does not fit the output. The line is not performed: tables and output are as they were, and the line may
+ *   be sent again with more output. With ROBINLOCKER_ANSWER_BYTES of output this never happens (proved); with less, each call
+ *   works on copies of the tables, so it is also faster to lend as much.
+ * SHORT_TABLE: as for robinlocker_open. NOT_OPEN: no session is open on these tables, as after robinlocker_close.
+ * But for DONE, 0 is left behind `written` and nothing else is touched.
  *
- * The one rule: if the fourth table begins with the word that marks an open session (1,380,732,747), then the first
- * ROBINLOCKER_TABLE_WORDS words of each work table and the first ROBINLOCKER_HELD_WORDS words of the fourth hold what the last call on a
- * session left in them, at any address. A copy of these words, in tables that are long enough, is a session of its own. Memory that is
- * zero, as from calloc, is never marked. So robinlocker_run must not be lent the work tables of an open session: it sets them to 0, and
- * the mark stays. */
+ * The one rule: if the fourth table begins with the word that marks an open session (1,380,732,747), then the four tables hold what
+ * the last call on a session left in them, at any address and of any lengths that suffice. A copy of all four is a session of its
+ * own. Memory that is zero, as from calloc, is never marked. So robinlocker_run must not be lent the work tables of an open session:
+ * it sets them to 0, and the mark stays. */
 uint32_t robinlocker_line(const uint8_t *line, size_t line_bytes,
                           uint32_t *core, size_t core_words,
                           uint32_t *theory, size_t theory_words,

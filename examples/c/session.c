@@ -2,9 +2,9 @@
  *
  *   session [--compare] < script
  *
- * Built at the top of the repository, once `tools/library` has made the library:
+ * Built at the top of the repository, once `rt staticlib session` has made the library:
  *
- *   cc -std=c11 -I include examples/c/session.c target/staticlib/librobinlocker.a -o session
+ *   cc -std=c11 -I include examples/c/session.c target/staticlib/libsession.a -o session
  *
  * Standard output has the answer lines, standard error the library's version and limits. With --compare the whole script goes to
  * robinlocker_run too, and the last line of standard error says whether answers and counts are the same. The status is 0, or 1 if
@@ -17,7 +17,7 @@
 
 #include "robinlocker.h"
 
-/* The memory of a session. A static variable, since some 400 KiB are much for a stack. */
+/* The memory of a session. A static variable, since 192 KiB are much for a stack. */
 static struct {
     uint32_t core[ROBINLOCKER_TABLE_WORDS];
     uint32_t theory[ROBINLOCKER_TABLE_WORDS];

@@ -16,7 +16,6 @@
 
 enum {
     TABLES = 4,
-    WORK_TABLES = 3,
     MORE_WORDS = 100,      /* words lent past those that are needed */
     OUTPUT_BYTES = 65536,  /* as much output as the program lends */
     LEFT_AS_IT_WAS = 4711, /* stands behind `answered` and `written` before a call */
@@ -108,24 +107,6 @@ static int same_tables(const struct session *one, const struct session *other)
         }
     }
     return 1;
-}
-
-/* Do both hold one session, word by word? The fourth table may have been worked on. */
-static int same_session(const struct session *one, const struct session *other)
-{
-    for (int which = 0; which < WORK_TABLES; which++) {
-        if (!same_bytes(one->table[which], other->table[which], (needed_words[which] + MORE_WORDS) * sizeof(uint32_t))) {
-            return 0;
-        }
-    }
-    return same_bytes(one->table[WORK_TABLES], other->table[WORK_TABLES], ROBINLOCKER_HELD_WORDS * sizeof(uint32_t));
-}
-
-/* Other words in the room for a call. */
-static void fill_room(struct session *session, uint32_t seed)
-{
-    fill(session->table[WORK_TABLES] + ROBINLOCKER_HELD_WORDS,
-         (session->words[WORK_TABLES] - ROBINLOCKER_HELD_WORDS) * sizeof(uint32_t), seed);
 }
 
 static void copy_tables(struct session *to, const struct session *from)
@@ -315,10 +296,9 @@ static void refuse_room(struct session *session, struct session *before, struct 
 {
     uint8_t *output = by_lines + OUTPUT_BYTES - room;
     copy_tables(before, session);
-    fill_room(session, 53);
     fill_outputs(OUTPUT_BYTES);
     CHECK(is_left(send_line(session, line, output, room), ROBINLOCKER_FULL, 0, 0));
-    CHECK(same_session(session, before));
+    CHECK(same_tables(session, before));
     CHECK(same_bytes(by_lines, by_run, OUTPUT_BYTES));
 }
 
@@ -481,7 +461,7 @@ static void test_null(void)
     copy_tables(&before, &session);
     CHECK(is_left(send_line(&session, text_of("sort=d"), NULL, 0), ROBINLOCKER_FULL, 0, 0));
     CHECK(is_left(send_line(&session, none, NULL, 0), ROBINLOCKER_FULL, 0, 0));
-    CHECK(same_session(&session, &before));
+    CHECK(same_tables(&session, &before));
     CHECK(is_left(send_line(&session, text_of("sort=d"), by_lines, OUTPUT_BYTES), ROBINLOCKER_DONE, 1, 5));
 }
 
@@ -505,7 +485,7 @@ static void test_close(void)
 /* Lent words become zero however few they are; words that are not lent stay. */
 static void test_close_of_any_length(void)
 {
-    static const size_t lengths[] = {0, 1, 65, 66, 1000, ROBINLOCKER_TABLE_WORDS - 1, ROBINLOCKER_KEPT_WORDS - 1};
+    static const size_t lengths[] = {0, 1, 65, 66, 1000, ROBINLOCKER_TABLE_WORDS - 1};
     for (size_t at = 0; at < sizeof lengths / sizeof lengths[0]; at++) {
         struct session session = new_session(42), before = new_session(42);
         for (int which = 0; which < TABLES; which++) {
@@ -541,7 +521,6 @@ static void test_moved(struct text script)
         CHECK(left.result == ROBINLOCKER_DONE);
         written += left.written;
         copy_tables(&there, &here);
-        fill_room(&there, 54);
         for (int which = 0; which < TABLES; which++) {
             fill(here.table[which], here.words[which] * sizeof(uint32_t), 52);
         }

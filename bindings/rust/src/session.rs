@@ -6,10 +6,10 @@ use crate::ffi::Tables;
 use crate::{limits, Answer, Line};
 use std::fmt;
 
-/// An open session with its memory, about 420 KiB on the heap.
+/// An open session with its memory, about 220 KiB on the heap.
 ///
 /// A clone is a session of its own that has had the same lines; it costs a copy of the memory. A session may go to another thread. A
-/// line takes up to about 300 KiB of stack, so a thread of 512 KiB can send any.
+/// line takes up to about half a MiB of stack, so a thread of 1 MiB can send any.
 #[derive(Clone)]
 pub struct Session {
     tables: Tables,

@@ -2,6 +2,7 @@
 pub mod answer;
 pub mod declaring;
 pub mod export;
+pub mod kept;
 pub mod levels;
 pub mod line;
 pub mod making;

@@ -46,7 +46,7 @@ pub const MAX_SCRIPT: usize = 65536;
 pub const MAX_NUMBERS: usize = 17;
 
 // Words of an answer table.
-const ANSWER_SIZE: usize = 3324;
+pub const ANSWER_SIZE: usize = 3324;
 
 impl Ending {
     // The number of the question that was answered no, or 0.
@@ -65,7 +65,7 @@ impl Ending {
 // ---- the lines
 
 // The length of an answer line is known before its first byte is written: one that does not fit leaves the output as it was.
-pub fn put_answer(a: Answer, answer: &[u32], output: &mut [u8], written: usize) -> Placed
+fn put_answer(a: Answer, answer: &[u32], output: &mut [u8], written: usize) -> Placed
     requires { Printable a answer.now × (written ≤ length output.old) }
     ensures { Puts result output.old written (line_text a answer.now) output.new
         × (length (line_text a answer.now) ≤ longest_answer) }
@@ -77,7 +77,7 @@ pub fn put_answer(a: Answer, answer: &[u32], output: &mut [u8], written: usize) 
 }
 
 // Answers a line; its answer line goes to the output at a place, if it fits.
-fn answer_line(
+pub fn answer_line(
     c: &mut [u32],
     e: &mut [u32],
     s: &mut [u32],

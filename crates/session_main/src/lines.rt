@@ -1,8 +1,8 @@
 // A script by a session kept open: one call a line, each into the output that is left.
 ghost use Rattle.std.specs.Prelude.{◌≤◌, length};
-ghost use Rattle.kept.specs.Memory.Kept.{tables, KeptSound};
+ghost use Rattle.session.specs.Memory.Kept.{tables, KeptSound};
 
-use kept::kept::{close, line, open};
+use session::kept::{close, line, open};
 use session::reader::line_end;
 use std::num::wrapping_add_usize;
 

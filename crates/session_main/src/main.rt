@@ -6,8 +6,8 @@ mod lines;
 ghost use Rattle.std.specs.Prelude.{◌≡◌, ◌+◌, ◌≤◌, length};
 
 use crate::lines::{Said, run_by_lines};
-use kept::kept::KEPT_WORDS;
 use libc::STDOUT_FILENO;
+use session::kept::KEPT_WORDS;
 use session::run::{Ran, run};
 use std::num::wrapping_add_usize;
 

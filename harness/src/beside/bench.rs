@@ -22,8 +22,6 @@ struct Measured {
     /// Seconds for a run.
     rust: f64,
     library: f64,
-    /// Seconds for a session kept open that is sent the same lines, one a call.
-    by_lines: f64,
 }
 
 impl Measured {
@@ -61,9 +59,7 @@ fn measure(script: &Script, least: f64) -> Measured {
             std::hint::black_box(library::run(bytes, &mut lent));
         },
     );
-    let mut kept = vec![0; library::KEPT_WORDS];
-    let by_lines = clock::alone(least, || library::send_in_turn(bytes, &mut lent, &mut kept));
-    Measured { name: script.name.clone(), lines, rust, library, by_lines }
+    Measured { name: script.name.clone(), lines, rust, library }
 }
 
 struct FamilyMeasured {
@@ -91,10 +87,6 @@ impl FamilyMeasured {
         self.scripts.iter().map(|script| script.library).sum()
     }
 
-    fn by_lines(&self) -> f64 {
-        self.scripts.iter().map(|script| script.by_lines).sum()
-    }
-
     fn ratio(&self) -> f64 {
         self.rust() / self.library()
     }
@@ -107,7 +99,7 @@ impl FamilyMeasured {
         let per_line = 1e9 / self.lines() as f64;
         let lowest = self.lowest();
         format!(
-            "| {} | {} | {} | {} | {:.0} | {:.0} | {} | {} ({}) | {:.0} |",
+            "| {} | {} | {} | {} | {:.0} | {:.0} | {} | {} ({}) |",
             self.name,
             self.what,
             self.scripts.len(),
@@ -116,8 +108,7 @@ impl FamilyMeasured {
             self.library() * per_line,
             times(self.ratio()),
             times(lowest.ratio()),
-            lowest.name,
-            self.by_lines() * per_line
+            lowest.name
         )
     }
 }
@@ -217,9 +208,8 @@ fn write(folder: &Path, name: &str, text: &str) {
 
 fn report(families: &[FamilyMeasured], grown: &[growth::Growth], zeroing: f64) -> String {
     let mut text = String::from(
-        "| family | what | scripts | lines | Rust, ns a line | library, ns a line | ratio | lowest ratio, of script | \
-         line by line, ns a line |\n\
-         |---|---|---:|---:|---:|---:|---:|---|---:|\n",
+        "| family | what | scripts | lines | Rust, ns a line | library, ns a line | ratio | lowest ratio, of script |\n\
+         |---|---|---:|---:|---:|---:|---:|---|\n",
     );
     for family in families {
         let _ = writeln!(text, "{}", family.row());

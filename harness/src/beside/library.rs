@@ -1,7 +1,7 @@
 //! The proved library, called in this process.
 
 pub const TABLE_WORDS: usize = 16_384;
-pub const KEPT_WORDS: usize = 52_542;
+const KEPT_WORDS: usize = 66;
 
 /// A run of the proved library; the rest is in the memory that was lent.
 #[derive(Clone, Copy, PartialEq, Eq, Debug)]
@@ -122,13 +122,13 @@ pub fn run(script: &[u8], lent: &mut Lent) -> Ran {
 
 /// The same by a session kept open: opened on what is lent, sent one line a call into the output that is left, closed.
 fn run_by_lines(script: &[u8], lent: &mut Lent) -> Ran {
-    let mut kept = vec![u32::MAX; KEPT_WORDS];
+    let mut kept = [u32::MAX; KEPT_WORDS];
     let mut ran = Ran { result: open(lent, &mut kept), lines: 0, bytes: 0 };
     if ran.result != 0 {
         return ran;
     }
-    for line in lines(script) {
-        let (result, bytes) = send(line, lent, &mut kept, ran.bytes);
+    for line in script.split_inclusive(|&byte| byte == b'\n') {
+        let (result, bytes) = send(line.strip_suffix(b"\n").unwrap_or(line), lent, &mut kept, ran.bytes);
         if result != 0 {
             ran.result = result;
             break;
@@ -138,19 +138,6 @@ fn run_by_lines(script: &[u8], lent: &mut Lent) -> Ran {
     }
     close(lent, &mut kept);
     ran
-}
-
-/// The same as a search core does it, on tables that are long enough: the output is lent whole to each line.
-pub fn send_in_turn(script: &[u8], lent: &mut Lent, kept: &mut [u32]) {
-    open(lent, kept);
-    for line in lines(script) {
-        std::hint::black_box(send(line, lent, kept, 0));
-    }
-    close(lent, kept);
-}
-
-fn lines(script: &[u8]) -> impl Iterator<Item = &[u8]> {
-    script.split_inclusive(|&byte| byte == b'\n').map(|line| line.strip_suffix(b"\n").unwrap_or(line))
 }
 
 fn open(lent: &mut Lent, kept: &mut [u32]) -> u32 {

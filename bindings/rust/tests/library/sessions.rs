@@ -120,8 +120,8 @@ fn explain_a_tower() -> Answer {
 }
 
 #[test]
-fn a_thread_of_half_a_mebibyte_has_stack_enough() {
-    let thread = thread::Builder::new().stack_size(1 << 19).spawn(explain_a_tower).expect("the thread starts");
+fn a_thread_of_one_mebibyte_has_stack_enough() {
+    let thread = thread::Builder::new().stack_size(1 << 20).spawn(explain_a_tower).expect("the thread starts");
     let leaves = [1, 0, 2].map(|tag| Leaf::Interface { theory: 0, tag });
     assert_eq!(thread.join().expect("the thread ends well"), Answer::Conflict(leaves.to_vec()));
 }

@@ -1,7 +1,7 @@
 -- The tables stay those of an open session, and the bytes written stay within the output.
 use Rattle.std.proofs.Common.{◌≡◌, ℕ, ◌+◌, ◌-◌, ◌≤◌, List, length, take, drop, ◌∙◌, arith, length-drop, length-take-le, rules}
 use borrow.Rule.Slice.PartMut.{put_mid, same_len_mid}
-use Rattle.kept.specs.Memory.Kept.{tables, KeptSound}
+use Rattle.session.specs.Memory.Kept.{tables, KeptSound}
 use Rattle.session_main.proofs.lines.send_lines.Statement.{statement}
 use Rattle.session_main.proofs.lines.send_lines.Tie as tie
 

@@ -1,2 +1,0 @@
--- Keeping: a session kept open.
-pub mod Keeping
