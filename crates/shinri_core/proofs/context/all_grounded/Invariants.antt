@@ -1,0 +1,10 @@
+-- Marked are inhabited datatypes; after a round that adds none they are all marked.
+use Rattle.shinri_core.proofs.Kit.{rules, sym}
+use Rattle.shinri_core.proofs.Memory.Rounds.{Finding, rounds_left, finding_first, finding_next, fewer_left, finding_done}
+use Rattle.shinri_core.proofs.context.all_grounded.Given as goal
+
+abbrev pub invariant-loop-more : goal.invariant-loop-more
+invariant-loop-more l = Finding l.t l.more l.found
+
+abbrev pub decreases-loop-more : goal.decreases-loop-more
+decreases-loop-more l = rounds_left l.more l.found

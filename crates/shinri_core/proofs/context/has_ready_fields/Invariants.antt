@@ -1,0 +1,11 @@
+-- The fields below i are ready.
+use Rattle.shinri_core.proofs.Kit.{rules, ◌-◌}
+use Rattle.shinri_core.proofs.Memory.Searching.{Searched, search_first}
+use Rattle.shinri_core.proofs.Memory.Constructors.{UnreadyField, field_ready, field_unready, fields_ready}
+use Rattle.shinri_core.proofs.context.has_ready_fields.Given as goal
+
+abbrev pub invariant-loop-i : goal.invariant-loop-i
+invariant-loop-i l = Searched (UnreadyField l.t l.found l.c) 0 l.i l.n
+
+abbrev pub decreases-loop-i : goal.decreases-loop-i
+decreases-loop-i l = l.n - l.i

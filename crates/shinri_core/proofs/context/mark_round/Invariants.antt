@@ -1,0 +1,10 @@
+-- The symbols below c were tried.
+use Rattle.shinri_core.proofs.Kit.{rules, ◌-◌, ⊎_elim, arith}
+use Rattle.shinri_core.proofs.Memory.Rounds.{Rounding, mark_fits, round_first, round_passes, round_adds, round_done}
+use Rattle.shinri_core.proofs.context.mark_round.Given as goal
+
+abbrev pub invariant-loop-c : goal.invariant-loop-c
+invariant-loop-c l = Rounding l.t l.initial.found l.c l.added l.found
+
+abbrev pub decreases-loop-c : goal.decreases-loop-c
+decreases-loop-c l = l.n - l.c

@@ -1,0 +1,10 @@
+-- The terms from i on are taken back.
+use Rattle.shinri_core.proofs.Kit.{rules}
+use Rattle.shinri_core.proofs.Memory.Declarations.{Dropping, drop_first, drop_next, drop_done}
+use Rattle.shinri_core.proofs.context.truncate.Given as goal
+
+abbrev pub invariant-loop-i : goal.invariant-loop-i
+invariant-loop-i l = Dropping l.initial.t l.n l.t l.i
+
+abbrev pub decreases-loop-i : goal.decreases-loop-i
+decreases-loop-i l = l.i
