@@ -15,7 +15,7 @@ use solver::answer::{Guard, Phase, atom_count, phase_count, split_atom, split_gu
 use theory::types::{EqLeaf, leaf, leaf_count};
 
 // A no to one of the questions of a line.
-#[derive(Drop)]
+#[derive(Clone, Copy)]
 pub enum Refusal {
     Unreadable,
     Misplaced,
@@ -30,7 +30,7 @@ pub enum Refusal {
 }
 
 // The kind of an answer; the leaves of a conflict and the atoms, guards and phases of a split stand in the answer table.
-#[derive(Drop)]
+#[derive(Clone, Copy)]
 pub enum Answer {
     Ok,
     TermIs(TermId),

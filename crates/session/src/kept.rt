@@ -12,7 +12,7 @@ use crate::run::{
 use shinri_core::limits::MAX_LEVELS;
 
 // How a call ends.
-#[derive(Drop)]
+#[derive(Clone, Copy)]
 pub enum Reply {
     Done,
     ShortTable,
@@ -21,7 +21,7 @@ pub enum Reply {
 }
 
 // How a call ended, and how many bytes it wrote.
-#[derive(Drop)]
+#[derive(Clone, Copy)]
 pub struct Replied {
     pub reply: Reply,
     pub written: usize,

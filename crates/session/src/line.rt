@@ -12,7 +12,7 @@ use theory::types::TheoryJust;
 
 // A line that reads, or that does not. Where a line has a list of numbers behind its first, it is held how many: they stand in the
 // table of numbers from its second word on.
-#[derive(Drop)]
+#[derive(Clone, Copy)]
 pub enum Command {
     Unreadable,
     DeclareSort(bool),
@@ -38,7 +38,7 @@ const KEY_ROOM: usize = 7;
 // ---- keys
 
 // The keys of one number or more.
-#[derive(Drop)]
+#[derive(Clone, Copy)]
 pub enum ListKey {
     Ctor,
     Fun,
@@ -46,7 +46,7 @@ pub enum ListKey {
 }
 
 // The keys of one number.
-#[derive(Drop)]
+#[derive(Clone, Copy)]
 pub enum OneKey {
     Close,
     Equate,
@@ -58,7 +58,7 @@ pub enum OneKey {
 }
 
 // The keys of two numbers.
-#[derive(Drop)]
+#[derive(Clone, Copy)]
 pub enum PairKey {
     Eq,
     Var,
@@ -66,7 +66,7 @@ pub enum PairKey {
 }
 
 // The fifteen keys by how many numbers they take, and a key that is not known.
-#[derive(Drop)]
+#[derive(Clone, Copy)]
 pub enum Key {
     Sort,
     List(ListKey),

@@ -9,7 +9,7 @@ use crate::reader::first_byte;
 const MAX_NUMBERS: usize = 17;
 
 // A number that reads, or a text that does not.
-#[derive(Drop)]
+#[derive(Clone, Copy)]
 pub enum Number {
     At(u32),
     Bad,

@@ -26,7 +26,7 @@ pub fn find_end(script: &[u8], at: usize) -> usize
 }
 
 // The script and a place of it together.
-#[derive(Drop)]
+#[derive(Clone, Copy)]
 pub struct Reader<'a> {
     pub script: &'a [u8],
     pub at: usize,

@@ -15,7 +15,7 @@ use solver::records as records;
 use theory::eq_engine as engine;
 
 // How a run ends.
-#[derive(Drop)]
+#[derive(Clone, Copy)]
 pub enum Ending {
     Complete,
     ShortTable,
@@ -24,14 +24,14 @@ pub enum Ending {
 }
 
 // Where an answer line ends in the output, or that it does not fit there.
-#[derive(Drop)]
+#[derive(Clone, Copy)]
 pub enum Placed {
     Ends(usize),
     Full,
 }
 
 // How a run ended, how many lines it answered, and how many bytes it wrote.
-#[derive(Drop)]
+#[derive(Clone, Copy)]
 pub struct Ran {
     pub ending: Ending,
     pub answered: usize,

@@ -15,14 +15,14 @@ use crate::table::{get_at, put_at};
 use crate::term::{DtRole, Op, op_from, role_from};
 
 // The answer to making a term.
-#[derive(Drop)]
+#[derive(Clone, Copy)]
 pub enum Made {
     At(TermId),
     NoRoom,
 }
 
 // The answer to a declaration.
-#[derive(Drop)]
+#[derive(Clone, Copy)]
 pub enum Declared {
     Done,
     NoRoom,

@@ -6,13 +6,13 @@ ghost use Rattle.shinri_core.specs.Memory.Codes.{op_meaning, role_meaning, OpBel
 
 use crate::ids::SymbolId;
 
-#[derive(Drop)]
+#[derive(Clone, Copy)]
 pub enum Op {
     Eq,
     Uninterpreted(SymbolId),
 }
 
-#[derive(Drop)]
+#[derive(Clone, Copy)]
 pub enum DtRole {
     Constructor,
     Tester(SymbolId),

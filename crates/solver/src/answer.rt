@@ -9,7 +9,7 @@ use shinri_core::ids::{Lit, TermId};
 use shinri_core::table::{get_at, put_at};
 
 // The kind of an answer; the leaves of a conflict and the atoms, guards and phases of a split stand in the answer table.
-#[derive(Drop)]
+#[derive(Clone, Copy)]
 pub enum TCheck {
     Sat,
     Conflict,
@@ -19,14 +19,14 @@ pub enum TCheck {
 }
 
 // The preferred phase of a split atom.
-#[derive(Drop)]
+#[derive(Clone, Copy)]
 pub enum Phase {
     Positive,
     NoPhase,
 }
 
 // The literal that guards a lemma, if any.
-#[derive(Drop)]
+#[derive(Clone, Copy)]
 pub enum Guard {
     At(Lit),
     Nothing,

@@ -23,7 +23,7 @@ use shinri_core::table::{get_at, put_at};
 
 // What the watched terms ask whose classes have no marked constructor application: a split on the lowest that was not split on; where
 // all were, there is no answer yet.
-#[derive(Drop)]
+#[derive(Clone, Copy)]
 pub enum Undetermined {
     Split(TermId),
     Unknown,

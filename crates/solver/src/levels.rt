@@ -10,7 +10,7 @@ use shinri_core::limits::MAX_TERMS;
 use shinri_core::table::{get_at, put_at};
 
 // How many levels are open, and for each how many entries the records had when it began.
-#[derive(Drop)]
+#[derive(Clone, Copy)]
 pub struct TesterMarks {
     pub levels: usize,
     pub counts: [u32; 64],

@@ -34,7 +34,7 @@ const ON_PATH: usize = 1;
 const FINISHED: usize = 2;
 
 // What a field leads to: an application on the path, one that was not met before and is on the path now, or nothing that is to be walked.
-#[derive(Drop)]
+#[derive(Clone, Copy)]
 pub enum Entered {
     Ring(TermId),
     New,
@@ -42,14 +42,14 @@ pub enum Entered {
 }
 
 // A step of the walk: a field leads back to an application on the path, or how long the path is now.
-#[derive(Drop)]
+#[derive(Clone, Copy)]
 pub enum Step {
     Ring(TermId, TermId),
     To(usize),
 }
 
 // A ring: the field that closes it, the application it leads back to, and how long the path is.
-#[derive(Drop)]
+#[derive(Clone, Copy)]
 pub enum Cycle {
     At(TermId, TermId, usize),
     Nothing,

@@ -30,7 +30,7 @@ pub const NEXT: usize = 3104;
 pub const WORK_SIZE: usize = 4128;
 
 // The constructor application in a term's class, if any.
-#[derive(Drop)]
+#[derive(Clone, Copy)]
 pub enum CtorOf {
     At(SymbolId, TermId),
     Nothing,

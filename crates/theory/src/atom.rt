@@ -21,7 +21,7 @@ const ATOM: usize = 1025;
 const FIRST: usize = 2049;
 
 // The first variable of an atom, if it has one.
-#[derive(Drop)]
+#[derive(Clone, Copy)]
 pub enum FirstVar {
     At(Var),
     Nothing,

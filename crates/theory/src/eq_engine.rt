@@ -268,7 +268,7 @@ fn join(t: &mut [u32], a: usize, b: usize, kind: usize, theory: usize, value: us
 }
 
 // A label without pairs, as the log holds it.
-#[derive(Drop)]
+#[derive(Clone, Copy)]
 struct LabelWords {
     kind: usize,
     theory: usize,

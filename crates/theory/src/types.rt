@@ -8,21 +8,21 @@ use shinri_core::ids::Lit;
 use shinri_core::table::{get_at, put_at};
 
 // The leaf of another theory: which one, and a tag of its own.
-#[derive(Drop)]
+#[derive(Clone, Copy)]
 pub struct TheoryJust {
     pub theory: u16,
     pub tag: u32,
 }
 
 // The label of an edge that is no congruence: a literal, or the leaf of another theory.
-#[derive(Drop)]
+#[derive(Clone, Copy)]
 pub enum EqJust {
     Asserted(Lit),
     Interface(TheoryJust),
 }
 
 // A leaf of an explanation: an input literal, or what another theory has still to explain.
-#[derive(Drop)]
+#[derive(Clone, Copy)]
 pub enum EqLeaf {
     Asserted(Lit),
     Interface(TheoryJust),

@@ -1,5 +1,5 @@
 -- Two classes joined under a given label, or one class left as it is.
-use Rattle.shinri_core.proofs.Kit.{ℕ, suc, ◌+◌, ◌-◌, ◌≤◌, ◌<◌, ◌≡◌, refl, sym, subst, ap, ap₂, ◌∙◌, inl, inr, zero, Bool, true, false, cond, true≢false, List, [], ◌∷◌, map, arith, add-zero, zero-add, lit<, length}
+use Rattle.shinri_core.proofs.Kit.{ℕ, suc, get_or, ◌+◌, ◌-◌, ◌≤◌, ◌<◌, ◌≡◌, refl, sym, subst, ap, ap₂, ◌∙◌, inl, inr, zero, Bool, true, false, cond, true≢false, List, [], ◌∷◌, map, arith, add-zero, zero-add, lit<, length}
 use Rattle.shinri_core.specs.Limits.{max_terms, max_pairs}
 use Rattle.shinri_core.specs.Lists.{In, range, zip}
 use Rattle.shinri_core.specs.Memory.Words.{at}
@@ -85,13 +85,19 @@ zip_length [] ys e = refl
 zip_length (x ∷ xs) [] e = absurd (omega arith)
 zip_length (x ∷ xs) (y ∷ ys) e = ap suc (zip_length xs ys (omega arith))
 
+at_next : (x : ℕ) (xs : List ℕ) (i : ℕ) → at xs 0 i ≡ at (x ∷ xs) 0 (suc i)
+unfolding at
+at_next x xs i = ap (λ (k : ℕ). get_or xs k 0) (zero-add i) ∙ ap (λ (k : ℕ). get_or (x ∷ xs) k 0) (sym (zero-add (suc i)))
+
 zip_in : (xs ys : List ℕ) (i : ℕ) → length xs ≡ length ys → i < length xs → In (at xs 0 i, at ys 0 i) (zip xs ys)
 unfolding zip at
 zip_in [] ys i e h = absurd (omega arith)
 zip_in (x ∷ xs) [] i e h = absurd (omega arith)
 zip_in (x ∷ xs) (y ∷ ys) zero e h = inl refl
 zip_in (x ∷ xs) (y ∷ ys) (suc i) e h =
-    inr (rw (zero-add (suc i)) (rw zero-add at (zip_in xs ys i (omega arith) (omega arith))))
+    inr
+    (subst (λ (p : ℕ × ℕ). In p (zip xs ys)) (λ k. (at_next x xs i k, at_next y ys i k))
+    (zip_in xs ys i (omega arith) (omega arith)))
 
 -- a merge whose pairs fit leaves room for them
 pub pairs_room : {t : List ℕ} {a b start : ℕ} {xs ys : List ℕ} {r : Bool} → Congruent t a b xs ys → r ≡ are_equal (merges t) a b →

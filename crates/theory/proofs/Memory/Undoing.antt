@@ -339,7 +339,9 @@ module _ {t : List ℕ} {n a r child : ℕ} (z : EngineSound t) (h : 0 < merges#
           upward = record {
             sound = z;
             is_node = subst IsNode (sym er) (root_node t (n - 1) z newest);
-            above = rw (er, ea) (top_above t (n - 1) z newest);
+            above =
+                subst (λ (x : ℕ). On x r (way (merges t) r)) (sym ea)
+                (subst (λ (k : ℕ). On (a_word t (n - 1)) k (way (merges t) k)) (sym er) (top_above t (n - 1) z newest));
           };
           kept = rw e₀ (kept_put engine_room (FPARENT ∷ []) t t FPARENT a a tt h (kept_none engine_room (FPARENT ∷ []) t));
           log = cut_log;

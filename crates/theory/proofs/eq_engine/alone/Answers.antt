@@ -1,0 +1,6 @@
+-- Straight.
+use Rattle.shinri_core.proofs.Kit.{rules}
+use Rattle.theory.proofs.eq_engine.alone.Goals as goal
+
+pub returns : goal.returns
+returns c = rw (c.put_at-3.ensures, c.put_at-2.ensures, c.put_at.ensures)

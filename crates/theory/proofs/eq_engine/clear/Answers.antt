@@ -1,0 +1,13 @@
+use Rattle.shinri_core.proofs.Kit.{◌-◌, rules}
+use Rattle.shinri_core.specs.Limits.{max_terms}
+use Rattle.theory.proofs.Memory.Clearing.{Clearing, clear_first, clear_next, clear_done}
+use Rattle.theory.proofs.eq_engine.clear.Goals as goal
+
+pub loop-n-init : goal.loop-n-init
+loop-n-init c = search clear_first
+
+pub loop-n-preserved : goal.loop-n-preserved
+loop-n-preserved c = search clear_next
+
+pub returns : goal.returns
+returns c = search clear_done

@@ -1,0 +1,13 @@
+use Rattle.shinri_core.proofs.Kit.{◌-◌, rules}
+use Rattle.theory.specs.Memory.Table.{pair_buckets}
+use Rattle.theory.proofs.Memory.PairIndex.{Emptying, empty_first, empty_next, empty_done}
+use Rattle.theory.proofs.eq_engine.clear_pairs.Goals as goal
+
+pub loop-h-init : goal.loop-h-init
+loop-h-init c = search empty_first
+
+pub loop-h-preserved : goal.loop-h-preserved
+loop-h-preserved c = search empty_next
+
+pub returns : goal.returns
+returns c = search empty_done

@@ -1,0 +1,7 @@
+-- Only the level changes.
+use Rattle.shinri_core.proofs.Kit.{rules}
+use Rattle.theory.proofs.Memory.SoundTables.{pushed}
+use Rattle.theory.proofs.eq_engine.push.Goals as goal
+
+pub returns : goal.returns
+returns c = search pushed

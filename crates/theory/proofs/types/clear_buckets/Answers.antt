@@ -1,0 +1,16 @@
+use Rattle.shinri_core.proofs.Kit.{◌-◌, rules}
+use Rattle.theory.specs.Memory.Answer.{buckets}
+use Rattle.theory.proofs.Memory.Leaves.{Clearing, clear_first, clear_next, clear_done}
+use Rattle.theory.proofs.types.clear_buckets.Goals as goal
+
+pub loop-h-init : goal.loop-h-init
+loop-h-init c = search clear_first
+
+pub loop-h-preserved : goal.loop-h-preserved
+loop-h-preserved c = search clear_next
+
+pub shape_of-out : goal.shape_of-out
+shape_of-out c = c.loop-h.invariant.same
+
+pub returns : goal.returns
+returns c = search clear_done

@@ -1,0 +1,10 @@
+-- The leaves of the bucket from k on are not the one looked for.
+use Rattle.shinri_core.proofs.Kit.{rules}
+use Rattle.theory.proofs.Memory.Leaves.{Looking, look_first, look_next, look_less, look_found, look_missing}
+use Rattle.theory.proofs.types.has_leaf.Given as goal
+
+abbrev pub invariant-loop-k : goal.invariant-loop-k
+invariant-loop-k l = Looking l.out l.kind l.value l.h l.k
+
+abbrev pub decreases-loop-k : goal.decreases-loop-k
+decreases-loop-k l = l.k
