@@ -1,4 +1,6 @@
 // The script session: reading, the questions, the answers, the run. What is right here is defined in specs/.
+#![tactic(auto)]
+
 pub mod answer;
 pub mod declaring;
 pub mod export;

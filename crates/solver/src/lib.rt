@@ -1,5 +1,7 @@
 // The datatype solver (lib.rs of shinri-dt) on a lent table: what it marks and records, and the rules of a full check. What is right
 // here is defined in specs/.
+#![tactic(auto)]
+
 pub mod answer;
 pub mod asserting;
 pub mod check;

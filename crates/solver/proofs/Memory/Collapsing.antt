@@ -387,15 +387,15 @@ module _ {c e s w : List ℕ} {x : ℕ} {o : List ℕ} (U : Underway c e s w o) 
       unfolding sel_app sel_by_op
       sel_by = rw (op_symbol c x p q, sym ρ.is)
 
-      pub sel_none : OneOf (0 ∷ 1 ∷ 3 ∷ []) (tag_of role_type d) → sel_app (context c) x ≡ none
+      pub sel_none : ((g : SymbolId) (i : ℕ) → d ≡ DtRole.TheVariants.Selector g i → ⊥) → sel_app (context c) x ≡ none
       unfolding role_meaning sel_by_role
       sel_none k = sel_by ∙ go d k
         where
-          go : (z : DtRole.DtRole) → OneOf (0 ∷ 1 ∷ 3 ∷ []) (tag_of role_type z) →
+          go : (z : DtRole.DtRole) → ((g : SymbolId) (i : ℕ) → z ≡ DtRole.TheVariants.Selector g i → ⊥) →
               sel_by_role x f.0 (role_meaning z) (children (context c) x) ≡ none
           go DtRole.TheVariants.Constructor h = refl
           go (DtRole.TheVariants.Tester g) h = refl
-          go (DtRole.TheVariants.Selector g i) h = absurd (miss (0 ∷ 1 ∷ 3 ∷ []) 2 tt h)
+          go (DtRole.TheVariants.Selector g i) h = absurd (h g i refl)
           go DtRole.TheVariants.Function h = refl
 
       module _ {g : SymbolId} {i : ℕ} (k : d ≡ DtRole.TheVariants.Selector g i) where

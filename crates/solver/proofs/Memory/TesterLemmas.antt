@@ -177,14 +177,14 @@ module _ {c e s w : List ℕ} {x : ℕ} {o : List ℕ} (U : Underway c e s w o) 
       unfolding tester_app tester_by_op
       tester_by = rw (op_symbol c x p q, sym ρ.is)
 
-      pub tester_none : OneOf (0 ∷ 2 ∷ 3 ∷ []) (tag_of role_type d) → tester_app (context c) x ≡ none
+      pub tester_none : ((g : SymbolId) → d ≡ DtRole.TheVariants.Tester g → ⊥) → tester_app (context c) x ≡ none
       unfolding role_meaning tester_by_role
       tester_none k = tester_by ∙ go d k
         where
-          go : (z : DtRole.DtRole) → OneOf (0 ∷ 2 ∷ 3 ∷ []) (tag_of role_type z) →
+          go : (z : DtRole.DtRole) → ((g : SymbolId) → z ≡ DtRole.TheVariants.Tester g → ⊥) →
               tester_by_role x f.0 (role_meaning z) (children (context c) x) ≡ none
           go DtRole.TheVariants.Constructor h = refl
-          go (DtRole.TheVariants.Tester g) h = absurd (miss (0 ∷ 2 ∷ 3 ∷ []) 1 tt h)
+          go (DtRole.TheVariants.Tester g) h = absurd (h g refl)
           go (DtRole.TheVariants.Selector g i) h = refl
           go DtRole.TheVariants.Function h = refl
 

@@ -1,0 +1,23 @@
+-- The next rule is tried if the first passes.
+use Rattle.shinri_core.proofs.Kit.{rules, arith, ap, not}
+use Rattle.solver.specs.Rules.{tester_clash}
+use Rattle.solver.specs.Memory.Checks.{from_negative_clash}
+use Rattle.solver.proofs.Memory.Unfitting.{from_negative_clash_onward}
+use Rattle.solver.proofs.Memory.Checking.{then_on, then_stop}
+use Rattle.solver.proofs.check.from_tester_clash.Goals as goal
+
+pub returns-then-not-passes : goal.returns-then-not-passes
+returns-then-not-passes c =
+    then_stop tester_clash from_negative_clash c.passes.ensures (ap not c.if-not-passes.true) from_negative_clash_onward
+    c.tester_clash-r.ensures
+
+pub from_negative_clash-requires : goal.from_negative_clash-requires
+from_negative_clash-requires c =
+    let same = c.tester_clash-r.auto.out in
+    let long = c.requires.0.long in
+    (record { check = c.tester_clash-r.ensures.sound; chain = c.requires.0.chain; long = omega arith }, c.requires.1)
+
+pub returns : goal.returns
+returns c =
+    then_on tester_clash from_negative_clash c.passes.ensures (ap not c.if-not-passes.false)
+    c.tester_clash-r.ensures c.from_negative_clash.ensures

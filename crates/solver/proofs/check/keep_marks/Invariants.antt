@@ -1,0 +1,10 @@
+-- The marks below x are copied.
+use Rattle.shinri_core.proofs.Kit.{◌-◌, rules, arith, ⊎_elim}
+use Rattle.solver.proofs.Memory.Checking.{Copying, copying_first, copying_next, copying_same, copying_done}
+use Rattle.solver.proofs.check.keep_marks.Given as goal
+
+abbrev pub invariant-loop-x : goal.invariant-loop-x
+invariant-loop-x l = Copying l.initial.s l.w l.s l.x
+
+abbrev pub decreases-loop-x : goal.decreases-loop-x
+decreases-loop-x l = l.n - l.x

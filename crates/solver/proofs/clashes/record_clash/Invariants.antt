@@ -1,0 +1,13 @@
+-- What the entries from i on give is what all of them give.
+use types.Run.{OneOf}
+use denote.Enum.Declared.{tag_of}
+use Rattle.shinri_core.proofs.Kit.{ℕ, ◌≡◌, ◌-◌, ap, ◌∙◌, inl, inr, [], ◌∷◌, rules, arith, length}
+use Rattle.solver.specs.contracts.answer.TCheck.{the_type}
+use Rattle.solver.proofs.Memory.Clashing.{Clashing, clashing_first, clashing_next, clashing_found, clashing_asks, clashing_done}
+use Rattle.solver.proofs.clashes.record_clash.Given as goal
+
+abbrev pub invariant-loop-i : goal.invariant-loop-i
+invariant-loop-i l = Clashing l.positive l.t l.e l.s l.w l.out l.n l.i × (length l.out ≡ length l.initial.out)
+
+abbrev pub decreases-loop-i : goal.decreases-loop-i
+decreases-loop-i l = l.n - l.i

@@ -1,0 +1,12 @@
+-- No term below i passes.
+use Rattle.shinri_core.proofs.Kit.{◌-◌, refl, rules, arith}
+use Rattle.shinri_core.proofs.Memory.Searching.{Searched, search_first}
+use Rattle.solver.specs.Memory.Testing.{own_at}
+use Rattle.solver.proofs.Memory.Owning.{own_asked, own_found, own_passed, own_missing}
+use Rattle.solver.proofs.clashes.search_own.Given as goal
+
+abbrev pub invariant-loop-i : goal.invariant-loop-i
+invariant-loop-i l = Searched (own_at l.t l.e l.w l.c.0 l.root.0) 0 l.i l.n
+
+abbrev pub decreases-loop-i : goal.decreases-loop-i
+decreases-loop-i l = l.n - l.i

@@ -1,0 +1,56 @@
+use Rattle.shinri_core.proofs.Kit.{rules, arith, refl, ◌≡◌, ◌<◌, ◌-◌, ◌∙◌, length}
+use Rattle.shinri_core.specs.Limits.{max_terms}
+use Rattle.shinri_core.specs.Context.{sel_app}
+use Rattle.shinri_core.specs.Memory.Table.{context}
+use Rattle.solver.specs.Rules.{collapse_at}
+use Rattle.solver.specs.Memory.Collapse.{DoneSound}
+use Rattle.solver.proofs.Memory.Growing.{old_sel_app}
+use Rattle.solver.proofs.Memory.Unfitting.{collapse_at_onward}
+use Rattle.solver.proofs.Memory.Trying.{not_sat}
+use Rattle.solver.proofs.Memory.Chains.{Listing, list_first, list_within, list_next, list_answer, list_done, still_under}
+use Rattle.solver.proofs.Memory.Collapsing.{collapse_is}
+use Rattle.solver.proofs.Memory.Once.{done_first}
+use Rattle.solver.proofs.collapse.collapse_lemma.Goals as goal
+
+pub term_count-n-requires : goal.term_count-n-requires
+term_count-n-requires c = c.requires.check.state.core
+
+pub loop-x-init : goal.loop-x-init
+loop-x-init c = (list_first collapse_at sel_app c.requires.check, done_first max_terms (omega arith), refl, refl, refl, refl)
+
+pub collapse_term-r-requires : goal.collapse_term-r-requires
+collapse_term-r-requires c =
+    let within : c.loop-x.x < length (context c.args.t.now).terms = let q = c.term_count-n.ensures.0 in
+    omega arith in
+    let listing = c.loop-x.invariant.0 in (
+      still_under c.requires listing.trying.sound listing.trying.extends c.loop-x.invariant.4,
+      c.loop-x.invariant.1,
+      list_within collapse_at sel_app listing within,
+    )
+
+pub returns-in_default : goal.returns-in_default
+returns-in_default c =
+    let within : c.loop-x.x < length (context c.args.t.now).terms = let q = c.term_count-n.ensures.0 in
+    omega arith in
+    collapse_is
+    (list_answer collapse_at sel_app old_sel_app c.loop-x.invariant.0 c.requires.check
+    within c.collapse_term-r.ensures.tried c.in_default.not-Sat collapse_at_onward)
+
+pub loop-x-preserved : goal.loop-x-preserved
+loop-x-preserved c =
+    let within : c.loop-x.x < length (context c.args.t.now).terms = let q = c.term_count-n.ensures.0 in
+    omega arith in
+    let called = c.collapse_term-r in (
+      list_next collapse_at sel_app old_sel_app c.loop-x.invariant.0 c.requires.check
+          within called.ensures.tried c.in-Sat.is,
+      called.ensures.flags c.in-Sat.is,
+      called.auto.t ∙ c.loop-x.invariant.2,
+      called.auto.s ∙ c.loop-x.invariant.3,
+      called.auto.out ∙ c.loop-x.invariant.4,
+      called.auto.done ∙ c.loop-x.invariant.5,
+    )
+
+pub returns : goal.returns
+returns c =
+    let q = c.term_count-n.ensures.0 in
+    collapse_is (list_done collapse_at sel_app c.loop-x.invariant.0 c.requires.check (omega arith))

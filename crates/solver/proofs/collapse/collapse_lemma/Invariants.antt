@@ -1,0 +1,25 @@
+-- Ascending over the terms, what is left of the rule on the present tables is the whole rule; the flags are right.
+use Rattle.shinri_core.proofs.Kit.{rules, arith, refl, ◌≡◌, ◌<◌, ◌-◌, ◌∙◌, length}
+use Rattle.shinri_core.specs.Limits.{max_terms}
+use Rattle.shinri_core.specs.Context.{sel_app}
+use Rattle.shinri_core.specs.Memory.Table.{context}
+use Rattle.solver.specs.Rules.{collapse_at}
+use Rattle.solver.specs.Memory.Collapse.{DoneSound}
+use Rattle.solver.proofs.Memory.Growing.{old_sel_app}
+use Rattle.solver.proofs.Memory.Unfitting.{collapse_at_onward}
+use Rattle.solver.proofs.Memory.Trying.{not_sat}
+use Rattle.solver.proofs.Memory.Chains.{Listing, list_first, list_within, list_next, list_answer, list_done, still_under}
+use Rattle.solver.proofs.Memory.Collapsing.{collapse_is}
+use Rattle.solver.proofs.Memory.Once.{done_first}
+use Rattle.solver.proofs.collapse.collapse_lemma.Given as goal
+
+abbrev pub invariant-loop-x : goal.invariant-loop-x
+invariant-loop-x l = Listing collapse_at sel_app l.initial.t l.e l.initial.s l.w l.t l.s l.x
+    × DoneSound l.t l.e l.s l.w l.done
+    × (length l.t ≡ length l.initial.t)
+    × (length l.s ≡ length l.initial.s)
+    × (length l.out ≡ length l.initial.out)
+    × (length l.done ≡ max_terms)
+
+abbrev pub decreases-loop-x : goal.decreases-loop-x
+decreases-loop-x l = l.n - l.x

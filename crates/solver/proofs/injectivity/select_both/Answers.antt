@@ -1,0 +1,35 @@
+use borrow.Author.Tests.{not-true}
+use Rattle.shinri_core.proofs.Kit.{rules, arith, ◌≡◌, ◌-◌, length, not-false}
+use Rattle.solver.proofs.Memory.Injecting.{applies_declared, applies_small, Each, each_first, each_asked, each_next, each_stop, each_done}
+use Rattle.solver.proofs.injectivity.select_both.Goals as goal
+
+pub overflow_cast-c : goal.overflow_cast-c
+overflow_cast-c c = omega (arith, applies_small c.requires)
+
+pub arity-n-requires : goal.arity-n-requires
+arity-n-requires c = (search rules, search applies_declared)
+
+pub loop-i-init : goal.loop-i-init
+loop-i-init c = (search each_first, search rules, search rules)
+
+pub overflow_add-c : goal.overflow_add-c
+overflow_add-c c = omega (arith, applies_small c.requires)
+
+pub overflow_add-c-in-loop-i : goal.overflow_add-c-in-loop-i
+overflow_add-c-in-loop-i c = omega (arith, applies_small c.requires)
+
+pub mint_on_both-requires : goal.mint_on_both-requires
+mint_on_both-requires c = search each_asked
+
+pub returns-then-not-mint_on_both : goal.returns-then-not-mint_on_both
+returns-then-not-mint_on_both c = each_stop c.loop-i.invariant.0 c.loop-i-test.true c.mint_on_both.ensures c.if-not-mint_on_both.true
+
+pub loop-i-preserved : goal.loop-i-preserved
+loop-i-preserved c = (
+  each_next c.loop-i.invariant.0 c.loop-i-test.true c.mint_on_both.ensures c.if-not-mint_on_both.false,
+  search rules,
+  search rules,
+)
+
+pub returns : goal.returns
+returns c = search each_done

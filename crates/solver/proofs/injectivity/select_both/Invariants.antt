@@ -1,0 +1,11 @@
+-- What is left are the selectors from i on.
+use borrow.Author.Tests.{not-true}
+use Rattle.shinri_core.proofs.Kit.{rules, arith, ◌≡◌, ◌-◌, length, not-false}
+use Rattle.solver.proofs.Memory.Injecting.{applies_declared, applies_small, Each, each_first, each_asked, each_next, each_stop, each_done}
+use Rattle.solver.proofs.injectivity.select_both.Given as goal
+
+abbrev pub invariant-loop-i : goal.invariant-loop-i
+invariant-loop-i l = Each l.c l.p l.q l.known l.initial.t l.e l.initial.w l.t l.w l.n l.i × (length l.t ≡ length l.initial.t) × (length l.w ≡ length l.initial.w)
+
+abbrev pub decreases-loop-i : goal.decreases-loop-i
+decreases-loop-i l = l.n - l.i

@@ -1,0 +1,10 @@
+-- The invariant: the flags are those of the first i entries.
+use Rattle.shinri_core.proofs.Kit.{rules}
+use Rattle.solver.proofs.Memory.Entries.{Dropping, drop_first, drop_read, drop_write, drop_next, drop_count, drop_done}
+use Rattle.solver.proofs.levels.drop_records.Given as goal
+
+abbrev pub invariant-loop-i : goal.invariant-loop-i
+invariant-loop-i l = Dropping l.initial.s l.s l.n l.i
+
+abbrev pub decreases-loop-i : goal.decreases-loop-i
+decreases-loop-i l = l.i

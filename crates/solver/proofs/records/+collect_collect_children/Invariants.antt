@@ -1,0 +1,16 @@
+-- The cycle of collection. Children have lower numbers, so twice the term's number is a measure, and one more for the term itself.
+use Rattle.shinri_core.proofs.Kit.{ℕ, ◌+◌, ◌-◌, ◌*◌, ◌<◌, arith, rules, length}
+use Rattle.solver.proofs.Memory.Collecting.{Gathering, gather_first, gather_next, gather_done, child, collect_known, collect_done}
+use Rattle.solver.proofs.records.+collect_collect_children.Given as goal
+
+abbrev pub invariant-collect_children-loop-i : goal.invariant-collect_children-loop-i
+invariant-collect_children-loop-i l = Gathering l.t l.x l.initial.s l.s l.i
+
+abbrev pub decreases-collect_children-loop-i : goal.decreases-collect_children-loop-i
+decreases-collect_children-loop-i l = length l.args - l.i
+
+abbrev pub decreases-collect : goal.decreases-collect
+decreases-collect l = l.x * 2 + 1
+
+abbrev pub decreases-collect_children : goal.decreases-collect_children
+decreases-collect_children l = l.x * 2

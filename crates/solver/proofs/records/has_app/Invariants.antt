@@ -1,0 +1,13 @@
+-- The blocks below b announce none.
+use Rattle.shinri_core.proofs.Kit.{◌-◌, sym, ◌∙◌, true≢false, arith, rules}
+use Rattle.shinri_core.specs.Memory.Words.{at}
+use Rattle.shinri_core.proofs.Memory.Searching.{Searched, search_first, search_next}
+use Rattle.solver.specs.Memory.Table.{BLOCK, blocks, is_set}
+use Rattle.solver.proofs.Memory.Flags.{unset_by}
+use Rattle.solver.proofs.records.has_app.Given as goal
+
+abbrev pub invariant-loop-b : goal.invariant-loop-b
+invariant-loop-b l = Searched (λ j. is_set (at l.s BLOCK j)) 0 l.b blocks
+
+abbrev pub decreases-loop-b : goal.decreases-loop-b
+decreases-loop-b l = blocks - l.b

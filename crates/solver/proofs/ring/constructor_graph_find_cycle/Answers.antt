@@ -1,0 +1,20 @@
+use Rattle.shinri_core.proofs.Kit.{◌-◌, rules, arith}
+use Rattle.solver.proofs.Memory.RingWalks.{Watching, watch_first, watch_ring, watch_next, watch_done}
+use Rattle.solver.proofs.ring.constructor_graph_find_cycle.Goals as goal
+
+pub loop-i-init : goal.loop-i-init
+loop-i-init c = watch_first c.requires.0 c.requires.1
+
+pub walk_term-requires : goal.walk_term-requires
+walk_term-requires c = (c.loop-i.invariant.sound, omega (arith, c.term_count-n.ensures.0, c.loop-i-test.true))
+
+pub returns-in-At : goal.returns-in-At
+returns-in-At c = watch_ring c.loop-i.invariant c.walk_term.ensures c.in-At.is
+
+pub loop-i-preserved : goal.loop-i-preserved
+loop-i-preserved c =
+    watch_next c.loop-i.invariant c.walk_term.ensures c.in-Nothing.is
+    c.walk_term.auto.r
+
+pub returns : goal.returns
+returns c = watch_done c.loop-i.invariant _ c.term_count-n.ensures.0 (omega (arith, c.loop-i-test.false))

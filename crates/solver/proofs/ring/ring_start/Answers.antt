@@ -1,0 +1,15 @@
+use Rattle.shinri_core.proofs.Kit.{rules}
+use Rattle.solver.proofs.Memory.RingLeaves.{Seeks, seek_first, seek_found, seek_next, seek_last}
+use Rattle.solver.proofs.ring.ring_start.Goals as goal
+
+pub loop-k-init : goal.loop-k-init
+loop-k-init c = search seek_first
+
+pub returns-then-get_at-app : goal.returns-then-get_at-app
+returns-then-get_at-app c = seek_found c.loop-k.invariant _ c.loop-k-test.true c.get_at.ensures.0 c.if-get_at-app.true
+
+pub loop-k-preserved : goal.loop-k-preserved
+loop-k-preserved c = seek_next c.loop-k.invariant _ c.loop-k-test.true c.get_at.ensures.0 c.if-get_at-app.false
+
+pub returns : goal.returns
+returns c = seek_last c.loop-k.invariant c.loop-k-test.false

@@ -1,0 +1,10 @@
+-- The edges passed are those behind the ring's entry.
+use Rattle.shinri_core.proofs.Kit.{rules}
+use Rattle.solver.proofs.Memory.RingLeaves.{Seeks, seek_first, seek_found, seek_next, seek_last}
+use Rattle.solver.proofs.ring.ring_start.Given as goal
+
+abbrev pub invariant-loop-k : goal.invariant-loop-k
+invariant-loop-k l = Seeks l.r l.n l.app l.k
+
+abbrev pub decreases-loop-k : goal.decreases-loop-k
+decreases-loop-k l = l.k
