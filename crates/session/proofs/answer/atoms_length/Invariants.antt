@@ -1,0 +1,12 @@
+-- The first i atoms are counted.
+use Rattle.shinri_core.proofs.Kit.{◌-◌, arith, rules}
+use Rattle.solver.specs.Memory.Answer.{split_atoms}
+use Rattle.session.specs.Text.{decimal}
+use Rattle.session.proofs.Memory.Lengths.{Counting, count_first, count_next, count_done}
+use Rattle.session.proofs.answer.atoms_length.Given as goal
+
+abbrev pub invariant-loop-i : goal.invariant-loop-i
+invariant-loop-i l = Counting decimal (split_atoms l.o) 11 l.sum l.i
+
+abbrev pub decreases-loop-i : goal.decreases-loop-i
+decreases-loop-i l = l.n - l.i

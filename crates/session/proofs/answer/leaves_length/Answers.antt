@@ -1,0 +1,19 @@
+use Rattle.shinri_core.proofs.Kit.{◌-◌, arith, rules}
+use Rattle.theory.specs.Types.{AssertedLeaf}
+use Rattle.theory.specs.Memory.Answer.{leaves}
+use Rattle.session.specs.Answer.{leaf_text}
+use Rattle.session.proofs.Memory.Lengths.{Counting, count_first, count_next, count_done}
+use Rattle.session.proofs.answer.leaves_length.Goals as goal
+
+pub loop-i-init : goal.loop-i-init
+loop-i-init c = count_first
+
+pub loop-i-preserved : goal.loop-i-preserved
+loop-i-preserved c =
+    count_next c.loop-i.invariant (AssertedLeaf 0) (omega arith) c.leaf.ensures c.parting_length.ensures.0
+    c.leaf_length.ensures.0 (omega arith)
+
+pub returns : goal.returns
+returns c =
+    let inv = c.loop-i.invariant in
+    (count_done inv (omega arith), omega arith)

@@ -1,0 +1,26 @@
+use Rattle.shinri_core.proofs.Kit.{◌-◌, arith, rules}
+use Rattle.theory.specs.Types.{AssertedLeaf}
+use Rattle.theory.specs.Memory.Answer.{leaves}
+use Rattle.session.specs.Answer.{leaf_text}
+use Rattle.session.proofs.Memory.Printing.{written_length, Listing, list_first, parting_fits, text_fits, list_next, list_done}
+use Rattle.session.proofs.answer.write_leaves.Goals as goal
+
+pub loop-i-init : goal.loop-i-init
+loop-i-init c = list_first c.requires.1
+
+pub write_parting-next-requires : goal.write_parting-next-requires
+write_parting-next-requires c = parting_fits c.loop-i.invariant (AssertedLeaf 0) (omega arith)
+
+pub write_leaf-end-requires : goal.write_leaf-end-requires
+write_leaf-end-requires c = text_fits c.loop-i.invariant c.write_parting-next.ensures (AssertedLeaf 0) (omega arith) c.leaf.ensures
+
+pub loop-i-preserved : goal.loop-i-preserved
+loop-i-preserved c =
+    list_next c.loop-i.invariant c.write_parting-next.ensures (AssertedLeaf 0) (omega arith) c.leaf.ensures
+    c.write_leaf-end.ensures
+
+pub shape_of-buf : goal.shape_of-buf
+shape_of-buf c = written_length c.loop-i.invariant.done
+
+pub returns : goal.returns
+returns c = list_done c.loop-i.invariant (omega arith)

@@ -1,0 +1,26 @@
+use Rattle.shinri_core.proofs.Kit.{◌-◌, arith, rules}
+use Rattle.solver.specs.Rules.{NoPhase}
+use Rattle.solver.specs.Memory.Answer.{split_phases}
+use Rattle.session.specs.Answer.{phase_text}
+use Rattle.session.proofs.Memory.Printing.{written_length, Listing, list_first, parting_fits, text_fits, list_next, list_done}
+use Rattle.session.proofs.answer.write_phases.Goals as goal
+
+pub loop-i-init : goal.loop-i-init
+loop-i-init c = list_first c.requires.1
+
+pub write_parting-next-requires : goal.write_parting-next-requires
+write_parting-next-requires c = parting_fits c.loop-i.invariant NoPhase (omega arith)
+
+pub write_phase-end-requires : goal.write_phase-end-requires
+write_phase-end-requires c = text_fits c.loop-i.invariant c.write_parting-next.ensures NoPhase (omega arith) c.split_phase.ensures
+
+pub loop-i-preserved : goal.loop-i-preserved
+loop-i-preserved c =
+    list_next c.loop-i.invariant c.write_parting-next.ensures NoPhase (omega arith) c.split_phase.ensures
+    c.write_phase-end.ensures
+
+pub shape_of-buf : goal.shape_of-buf
+shape_of-buf c = written_length c.loop-i.invariant.done
+
+pub returns : goal.returns
+returns c = list_done c.loop-i.invariant (omega arith)

@@ -1,0 +1,7 @@
+-- Straight.
+use Rattle.shinri_core.proofs.Kit.{rules}
+use Rattle.session.proofs.Memory.Keeping.{closes}
+use Rattle.session.proofs.kept.close.Goals as goal
+
+pub returns : goal.returns
+returns c = closes c.zero_all.ensures c.zero.ensures

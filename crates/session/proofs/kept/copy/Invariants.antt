@@ -1,0 +1,10 @@
+-- The words below i are copied.
+use Rattle.shinri_core.proofs.Kit.{◌-◌, rules, length}
+use Rattle.session.proofs.Memory.Keeping.{Copying, copy_first, copy_next, copy_done}
+use Rattle.session.proofs.kept.copy.Given as goal
+
+abbrev pub invariant-loop-i : goal.invariant-loop-i
+invariant-loop-i l = Copying l.from l.to l.i
+
+abbrev pub decreases-loop-i : goal.decreases-loop-i
+decreases-loop-i l = length l.from - l.i

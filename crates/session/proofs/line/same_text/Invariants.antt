@@ -1,0 +1,11 @@
+-- The bytes below i are the same.
+use Rattle.shinri_core.proofs.Kit.{rules, ℕ, ◌-◌, ◌≤◌, ◌<◌, ◌≡◌, sym, ap, List, below_more, arith, length, get_or}
+use Rattle.shinri_core.proofs.Lists.{same_list_not}
+use Rattle.session.proofs.Memory.Keys.{same_list_all}
+use Rattle.session.proofs.line.same_text.Given as goal
+
+abbrev pub invariant-loop-i : goal.invariant-loop-i
+invariant-loop-i l = (l.i ≤ length l.a) × ((k : ℕ) → k < l.i → get_or l.a k 0 ≡ get_or l.b k 0)
+
+abbrev pub decreases-loop-i : goal.decreases-loop-i
+decreases-loop-i l = length l.a - l.i

@@ -1,0 +1,7 @@
+-- Straight.
+use Rattle.shinri_core.proofs.Kit.{rules}
+use Rattle.session.proofs.Memory.Questions.{sorts_compared}
+use Rattle.session.proofs.questions.one_sort.Goals as goal
+
+pub returns : goal.returns
+returns c = search sorts_compared

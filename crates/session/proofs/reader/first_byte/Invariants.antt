@@ -1,0 +1,11 @@
+-- The byte is at no place from the start up to i.
+use Rattle.shinri_core.proofs.Kit.{rules, ◌-◌, ne_eqb, length, get_or, eqb}
+use Rattle.shinri_core.proofs.Memory.Searching.{Searched, search_first, search_next}
+use Rattle.session.proofs.Memory.Splitting.{found_here, found_none}
+use Rattle.session.proofs.reader.first_byte.Given as goal
+
+abbrev pub invariant-loop-i : goal.invariant-loop-i
+invariant-loop-i l = Searched (λ k. eqb (get_or l.s k 0) l.b) l.from l.i (length l.s)
+
+abbrev pub decreases-loop-i : goal.decreases-loop-i
+decreases-loop-i l = length l.s - l.i
