@@ -48,7 +48,7 @@ use Rattle.session.specs.History.{History, level, level_after, HoldsNow, IsAtom}
 use Rattle.session.specs.Claim.{AllInForce, Impossible, Valid, Ring, Cause, Against, Denied, Determined, Undetermined, Before, After, SaysConflict}
 use Rattle.session.proofs.Forces.{kind}
 use Rattle.session.proofs.Invariant.{signature, declared, kept_self, kept_extends, kept_terms, atom_one, registered_atom, line_of, of_kind, sign_of, Shape, Entry, Entries, entries_on, Inv}
-use Rattle.session.proofs.Truth.{two_terms, SaidNow, conflict_holds, lemma_holds}
+use Rattle.session.proofs.Truth.{SaidNow, conflict_holds, lemma_holds}
 use Rattle.session.proofs.Rings.{marked_ctor_in, now, lowest_stands, ring_there, there_ring}
 use Rattle.session.proofs.Causes.{determined, undetermined, cause_now}
 use Rattle.session.proofs.Steps.{plain_kept, register_kept, pop_kept}

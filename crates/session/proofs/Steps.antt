@@ -4,14 +4,12 @@ use mathlib.Core.Path.{◌≡◌, refl, sym, subst, subst⁻¹, ap, ◌∙◌}
 use mathlib.Core.Logic.{◌⊎◌, inl, inr}
 use mathlib.Core.Bool.{Bool, true, false, cond, not}
 use mathlib.Core.List.{List, [], ◌∷◌}
-use mathlib.Core.Option.{none}
 use native.Mathlib.Omega.{arith}
 use lib.Dec.{T, eqb, ltb}
 use borrow.Author.Tests.{ltb-false}
 use lib.ListN.{length}
 use Rattle.shinri_core.specs.Lists.{mem}
 use Rattle.shinri_core.specs.Ids as Ids
-use Rattle.shinri_core.specs.Term as Term
 use Rattle.shinri_core.specs.Term.{Term}
 use Rattle.shinri_core.specs.Context.{Context, empty_context, children, all_grounded}
 use Rattle.shinri_core.proofs.Lists.{In}

@@ -5,7 +5,7 @@ use Rattle.std.specs.Prelude.{ℕ, zero, suc, ◌+◌, Bool, true, false, not, �
 use Rattle.std.proofs.Math.Option.{Option, none, some}
 use Rattle.shinri_core.specs.Limits.{max_sorts, max_symbols, max_terms, max_places}
 use Rattle.shinri_core.specs.Lists.{keep, every, any, place_from, range, total, mem}
-use Rattle.shinri_core.specs.Sort.{SortNode, BoolSort, Uninterpreted, is_datatype}
+use Rattle.shinri_core.specs.Sort.{SortNode, BoolSort, is_datatype}
 use Rattle.shinri_core.specs.Term as Term
 use Rattle.shinri_core.specs.Term.{Role, Constructor, Tester, Selector, Function, Symbol, Op, Eq, Term, same_term}
 

@@ -12,7 +12,7 @@ use Rattle.shinri_core.specs.Term.{Term, Op, Eq, Role, Constructor, Tester, Sele
 use Rattle.shinri_core.specs.Context.{Context, CtorApp, SelApp, TesterApp, symbol, term, no_term, children, ctor_app, ctor_by_op, ctor_by_role, sel_app, sel_by_op, sel_by_role, tester_app, tester_by_op, tester_by_role}
 use Rattle.shinri_core.specs.Reading.{Value, Values, truth, tree, Reading, built_by, own_field, same_value, equation_value, tester_value, selector_value, symbol_value, app_value, value}
 use Rattle.solver.proofs.Basics.{none_some, some_is}
-use Rattle.solver.proofs.Terms.{Formed, app}
+use Rattle.solver.proofs.Terms.{Formed}
 use Rattle.solver.proofs.Values.{values_of, value_is}
 
 -- ---- constructor applications

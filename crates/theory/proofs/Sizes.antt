@@ -1,5 +1,5 @@
 -- Sizes of classes, and bounds: merges among N terms are fewer than N, and a class has at most one term more than there are merges.
-use Rattle.shinri_core.proofs.Kit.{ℕ, zero, suc, ◌+◌, ◌≤◌, ◌<◌, ◌≡◌, refl, sym, subst, ap, ◌∙◌, inl, inr, ⊎_elim, false, List, [], ◌∷◌, map, ℕ_discrete, arith, length, eq-eqb, ne_eqb}
+use Rattle.shinri_core.proofs.Kit.{ℕ, suc, ◌+◌, ◌≤◌, ◌<◌, ◌≡◌, refl, sym, subst, ap, ◌∙◌, inl, inr, ⊎_elim, false, List, [], ◌∷◌, map, ℕ_discrete, arith, length, eq-eqb, ne_eqb}
 use Rattle.shinri_core.specs.Lists.{range, total}
 use Rattle.shinri_core.proofs.Lists.{In, in_range, length_range}
 use Rattle.theory.specs.EqEngine.{Merge, singletons, classes, find, are_equal}

@@ -7,10 +7,9 @@ use Rattle.theory.specs.EqEngine.{pairs_in_force}
 use Rattle.theory.specs.Memory.Table.{merges, level, EngineSound}
 use Rattle.theory.proofs.Memory.Log.{in_force_few}
 use Rattle.solver.specs.State.{State}
-use Rattle.solver.specs.Memory.Table.{state, state_with, StateSound}
+use Rattle.solver.specs.Memory.Table.{state_with, StateSound}
 use Rattle.solver.proofs.Memory.Checking.{fits_now}
 use Rattle.session.specs.Line.{Command}
-use Rattle.session.specs.Answer as Answer
 use Rattle.session.specs.Session.{Asked, Performed, first_no, questions, perform, fits, asked, if_fits, refused}
 use Rattle.session.specs.declared.answer.Refusal as GivenRefusal
 use Rattle.session.specs.declared.answer.Answer as Given

@@ -2,7 +2,6 @@
 use Rattle.shinri_core.proofs.Kit.{ℕ, zero, suc, ◌<◌, ◌≡◌, refl, sym, ap, ◌∙◌, subst⁻¹, Bool, true, false, not, true≢false, List, [], ◌∷◌, map, none, inl, inr, arith, length, eqb, eqb-true, ltb, ltb-true, not-false}
 use borrow.Author.Tests.{not-true}
 use Rattle.shinri_core.specs.Term.{Op, Eq, Uninterpreted}
-use Rattle.shinri_core.specs.Context as Context
 use Rattle.shinri_core.specs.Context.{symbol, sort_of, mk_app, mk_eq, terms_fit}
 use Rattle.shinri_core.specs.Formed.{Formed, Agrees, Extends}
 use Rattle.shinri_core.specs.declared.context.Made as Made
@@ -16,7 +15,6 @@ use Rattle.solver.proofs.Basics.{by_test}
 use Rattle.solver.proofs.Terms.{Below, mk_app_makes, mk_app_formed}
 use Rattle.solver.proofs.Memory.Growing.{state_grows}
 use Rattle.session.specs.Line.{Command, MkTerm, MkEq}
-use Rattle.session.specs.Answer as Answer
 use Rattle.session.specs.Session as Session
 use Rattle.session.specs.Session.{after_close, exist, agree, symbol_exists, term_exists, questions, first_no, perform, done, numbered, Performed}
 use Rattle.session.specs.declared.answer.Refusal as GivenRefusal

@@ -21,7 +21,6 @@ use Rattle.shinri_core.specs.declared.ids.Lit.{Lit}
 use Rattle.solver.specs.State.{equal, with_eq}
 use Rattle.solver.specs.Memory.Table.{registry, state_with, StateSound}
 use Rattle.session.specs.Line.{Command, Equate, Cong, Iface}
-use Rattle.session.specs.Answer as Answer
 use Rattle.session.specs.Session as Session
 use Rattle.session.specs.Session.{after_close, exist, agree, term_exists, atom_of, argument_pairs, questions, first_no, perform, done, merged, merge_sides}
 use Rattle.session.specs.declared.answer.Refusal as GivenRefusal

@@ -5,7 +5,6 @@ use Rattle.shinri_core.specs.declared.ids.SortId.{SortId}
 use Rattle.shinri_core.specs.declared.ids.SymbolId.{SymbolId}
 use Rattle.solver.proofs.Memory.Entries.{records_sound}
 use Rattle.session.specs.Line.{Command, DeclareCtor, DeclareFun, Close, MkTerm, Check}
-use Rattle.session.specs.Answer as Answer
 use Rattle.session.specs.Session as Session
 use Rattle.session.specs.Session.{Performed, answer_read, refused, empty_session, step}
 use Rattle.session.specs.declared.line.Command as GivenCommand

@@ -3,7 +3,7 @@ use Rattle.shinri_core.proofs.Kit.{ℕ, zero, suc, ◌+◌, ◌-◌, ◌≤◌, 
 use borrow.Author.Tests.{lt-ltb, not-true}
 use Rattle.shinri_core.specs.Limits.{max_terms, max_pairs}
 use Rattle.shinri_core.specs.Ids as Ids
-use Rattle.shinri_core.specs.Lists.{In, every, first, total, zip, same_list}
+use Rattle.shinri_core.specs.Lists.{In, every, total, zip, same_list}
 use Rattle.shinri_core.specs.Term.{Op, Eq, Uninterpreted, same_op}
 use Rattle.shinri_core.specs.Context.{Context, symbol, term, children, sort_of}
 use Rattle.shinri_core.specs.Formed.{Formed, Agrees}

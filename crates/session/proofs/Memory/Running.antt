@@ -12,7 +12,7 @@ use Rattle.solver.specs.Memory.Levels.{entry_level}
 use Rattle.session.specs.Text.{lines}
 use Rattle.session.specs.Session as Session
 use Rattle.session.specs.Session.{Performed, empty_session, step}
-use Rattle.session.specs.Run.{Complete, Full, Ran, answers_none, one_more, answer_line, run_lines, tables_suffice, run, output_after, zeros, table_after}
+use Rattle.session.specs.Run.{Full, Ran, answers_none, one_more, answer_line, run_lines, tables_suffice, run, output_after, zeros, table_after}
 use Rattle.session.specs.Promise.{ending_meaning, lent, Gives, Runs}
 use Rattle.session.specs.Memory.Lines.{LineEnd}
 use Rattle.session.specs.Memory.Answers.{Written, line_text, longest_answer}

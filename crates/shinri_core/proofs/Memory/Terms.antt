@@ -3,7 +3,6 @@ use Rattle.shinri_core.proofs.Kit.{ℕ, zero, suc, ◌+◌, ◌-◌, ◌≤◌, 
 use Rattle.shinri_core.specs.Limits.{max_terms, max_places, table_words}
 use Rattle.shinri_core.specs.Lists.{same_list, range, total}
 use Rattle.shinri_core.specs.Term.{Op, Eq, Uninterpreted, Term, same_op, same_term}
-use Rattle.shinri_core.specs.Context as Context
 use Rattle.shinri_core.specs.Context.{Context, intern, mk_app, places, terms_fit}
 use Rattle.shinri_core.specs.Memory.Words.{at, put, put_all, Kept, counted, stretch}
 use Rattle.shinri_core.specs.Memory.Table.{COUNTS, TERMS, OP, OFFSET, POOL, BUCKET, LINK, core_room, sorts#, symbols#, terms#, op_of, args_at, term_at, context, buckets, bucket, bucket_of, Indexed, AllBelow, TermSound, IndexSound, ContextSound, FindsApp, MayIntern, MayApply, MayEquate, Appendable, Appended}

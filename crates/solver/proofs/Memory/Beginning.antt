@@ -1,6 +1,6 @@
 -- A check begins. The marks are copied; then one pass down the terms takes the roots and puts each marked constructor application before
 -- those of its class that stand there. At term i the words of each class are those of the applications from i on.
-use Rattle.shinri_core.proofs.Kit.{ℕ, zero, suc, ◌+◌, ◌-◌, ◌≤◌, ◌<◌, ◌≡◌, refl, sym, ap, ap₂, ◌∙◌, subst, ◌⊎◌, inl, inr, Bool, true, false, cond, ◌&&◌, true≢false, List, [], ◌∷◌, arith, add-one, ℕ_discrete, dec_lt, eqb, length, get_or, replicate}
+use Rattle.shinri_core.proofs.Kit.{ℕ, suc, ◌+◌, ◌-◌, ◌≤◌, ◌<◌, ◌≡◌, refl, sym, ap, ap₂, ◌∙◌, subst, ◌⊎◌, inl, inr, Bool, true, false, cond, ◌&&◌, true≢false, List, [], ◌∷◌, arith, add-one, ℕ_discrete, dec_lt, eqb, length, get_or, replicate}
 use lib.ListN.{length-replicate}
 use Rattle.shinri_core.proofs.Lists.{zeros}
 use Rattle.shinri_core.specs.Limits.{max_terms}

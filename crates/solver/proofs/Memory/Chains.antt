@@ -8,9 +8,9 @@ use Rattle.shinri_core.specs.Formed.{Extends}
 use Rattle.shinri_core.specs.Memory.Words.{at}
 use Rattle.shinri_core.specs.Memory.Table.{context}
 use Rattle.shinri_core.proofs.Lists.{T_true, true_T, not_true_false}
-use Rattle.theory.specs.EqEngine.{Merge, classes, find, are_equal}
+use Rattle.theory.specs.EqEngine.{Merge, classes, are_equal}
 use Rattle.theory.specs.Memory.Table.{merges}
-use Rattle.solver.specs.State.{State, ctor_apps, equal}
+use Rattle.solver.specs.State.{State, ctor_apps}
 use Rattle.solver.specs.Rules.{Ruled, pass, go_on, then, try_each}
 use Rattle.solver.specs.declared.answer.TCheck as TCheck
 use Rattle.solver.specs.Memory.Table.{is_set, flagged_from, term_kind, MarksAre, dt_with, state_with}
@@ -19,7 +19,7 @@ use Rattle.solver.specs.Memory.Answer.{Tried}
 use Rattle.solver.specs.Memory.Checks.{Underway}
 use Rattle.solver.specs.Memory.Collapse.{when, by_apps, if_marked}
 use Rattle.solver.proofs.Basics.{first_some, gather_in}
-use Rattle.solver.proofs.Terms.{app, extends_length}
+use Rattle.solver.proofs.Terms.{extends_length}
 use Rattle.solver.proofs.Apps.{ctor_app_is, app_within}
 use Rattle.solver.proofs.Memory.Flags.{has, flagged_in, flagged_step, flagged_none}
 use Rattle.solver.proofs.Memory.Roles.{ctor_kind}

@@ -1,10 +1,8 @@
 -- Collapse and the tester lemma: a term is made for a marked application of the constructor and equated or handed out.
 use Rattle.shinri_core.proofs.Kit.{ℕ, zero, suc, ◌-◌, ◌≤◌, ◌<◌, ◌≡◌, refl, sym, ap, ◌∙◌, subst, subst⁻¹, inl, inr, Bool, true, cond, List, [], ◌∷◌, none, some, Option, arith, eqb, eq-eqb, ne_eqb, ◌&&◌, ap₂, map, nil≢cons, tail-eq_of_cons-eq, length, get_or, length-map, ◌⊎◌}
 use lib.ListN.{get_elem?}
-use types.Run.{OneOf, miss}
-use denote.Enum.Declared.{tag_of}
 use Rattle.shinri_core.specs.Limits.{max_terms, max_params}
-use Rattle.shinri_core.specs.Lists.{In, first}
+use Rattle.shinri_core.specs.Lists.{In}
 use Rattle.shinri_core.specs.Context.{Context, CtorApp, SelApp, ctor_app, sel_app, sel_by_op, sel_by_role, symbol, term, children, sort_of}
 use Rattle.shinri_core.specs.Formed.{Agrees, Formed}
 use Rattle.shinri_core.specs.Memory.Words.{at}
@@ -15,7 +13,6 @@ use Rattle.shinri_core.specs.Memory.Codes.{op_meaning, role_meaning, OpAt, RoleA
 use Rattle.shinri_core.specs.declared.ids.SymbolId.{SymbolId}
 use Rattle.shinri_core.specs.declared.term.Op as Op
 use Rattle.shinri_core.specs.declared.term.DtRole as DtRole
-use Rattle.shinri_core.specs.contracts.term.DtRole.{the_type as role_type}
 use Rattle.shinri_core.specs.declared.ids.TermId.{TermId}
 use Rattle.shinri_core.specs.declared.context.Made as Made
 use Rattle.shinri_core.proofs.Lists.{and_no}

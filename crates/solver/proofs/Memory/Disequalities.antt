@@ -23,7 +23,7 @@ use Rattle.theory.proofs.Memory.Leaves.{first_sound}
 use Rattle.theory.proofs.Memory.RegistryWords.{registered_word}
 use Rattle.solver.specs.State.{AssertedAtom, with_dt, with_level_record, with_negative_record, with_disequalities, with_lasting, equal}
 use Rattle.solver.specs.Records.{has_literal, differ, literal_leaves, disequality_conflict}
-use Rattle.solver.specs.Rules.{TCheck, Conflict, disequality_clash}
+use Rattle.solver.specs.Rules.{disequality_clash}
 use Rattle.solver.specs.declared.answer.TCheck as TCheck
 use Rattle.solver.specs.Memory.Table.{COUNTS, LASTING, RECORDED, ENTRY, UNEQUAL, solver_room, records#, registry, is_set, flagged, unequal_key, of_sign, of_unequal, entry_word, entry_key, asserted, entry_of, record_of, EntryFits, dt_with, state_with, StateSound, max_lits}
 use Rattle.solver.specs.Memory.Work.{state_at, CheckSound}

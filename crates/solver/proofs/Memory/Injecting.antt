@@ -1,6 +1,6 @@
 -- Injectivity: selectors are made pair by pair of applications. Terms made are no constructor applications, so the list of those stays;
 -- and what is not in the class of an application changes nothing with it.
-use Rattle.shinri_core.proofs.Kit.{ℕ, zero, suc, ◌+◌, ◌-◌, ◌≤◌, ◌<◌, ◌%◌, ◌≡◌, refl, sym, ap, ◌∙◌, subst, subst⁻¹, ◌⊎◌, inl, inr, Bool, true, false, cond, false≢true, List, [], ◌∷◌, foldl, none, some, dec_lt, ℕ_discrete, arith, eqb, eq-eqb, ne_eqb, eqb-true, length}
+use Rattle.shinri_core.proofs.Kit.{ℕ, zero, suc, ◌+◌, ◌-◌, ◌≤◌, ◌<◌, ◌%◌, ◌≡◌, refl, sym, ap, ◌∙◌, subst, subst⁻¹, ◌⊎◌, inl, inr, Bool, true, false, cond, false≢true, List, [], ◌∷◌, foldl, some, dec_lt, ℕ_discrete, arith, eqb, eq-eqb, ne_eqb, eqb-true, length}
 use Rattle.shinri_core.specs.Limits.{max_symbols, max_terms}
 use Rattle.shinri_core.specs.Lists.{In, mem, insert, range, beside, pairs}
 use Rattle.shinri_core.specs.Term as Term
@@ -26,7 +26,7 @@ use Rattle.solver.specs.Memory.Making.{Making, Makeable, MakesTerm}
 use Rattle.solver.specs.Memory.ConstructorClash.{op_symbol, symbol_of, app_at, MarkedApp}
 use Rattle.solver.specs.Memory.Injecting.{Moves, StepOutcome, Steps, Selects, Selectable, SelectableBoth, Applies, AppliesBoth, OneClass, TwoTerms, KnownAfter, Injectable, HasSelector, AllSelected, SelectedBelow, InjectableAt, AppAsked, Covered, select_both, select_with, select_from, Injects}
 use Rattle.solver.proofs.Basics.{some_is}
-use Rattle.solver.proofs.Terms.{app, mk_app_makes, extends_self, extends_then, extends_symbol, extends_term, extends_length, extends_sort_of}
+use Rattle.solver.proofs.Terms.{mk_app_makes, extends_self, extends_then, extends_symbol, extends_term, extends_length, extends_sort_of}
 use Rattle.solver.proofs.Signature.{constructor_selector, constructor_function, selector_function, declared_role}
 use Rattle.solver.proofs.Moves.{sort_by_op}
 use Rattle.solver.proofs.Apps.{app_within}

@@ -6,7 +6,6 @@ use Rattle.shinri_core.specs.Context.{Context}
 use Rattle.shinri_core.specs.Memory.Words.{at, put, Kept}
 use Rattle.shinri_core.specs.Memory.Table.{context}
 use Rattle.shinri_core.proofs.Memory.Stores.{kept_more}
-use Rattle.theory.specs.Memory.Table.{level}
 use Rattle.solver.specs.State.{AssertedAtom, with_dt, with_level_record, with_negative_record, with_disequalities, with_lasting}
 use Rattle.solver.specs.Records.{recorded, entered, record_tester, record_negative}
 use Rattle.solver.specs.Memory.Table.{COUNTS, RECORDS, LASTING, RECORDED, ENTRY, UNEQUAL, solver_room, records#, is_set, flagged, term_kind, tester_key, of_sign, of_unequal, key_atom, entry_word, asserted, record_of, EntryFits, dt_with, state_with, state, SolverSound, StateSound, max_lits}

@@ -1,5 +1,5 @@
 -- The conflict of a ring: where on the path the ring begins, and the leaves of its edges, one after the other.
-use Rattle.shinri_core.proofs.Kit.{ℕ, zero, suc, ◌+◌, ◌-◌, ◌≤◌, ◌<◌, ◌≡◌, refl, sym, subst, ap, ◌∙◌, Bool, true, false, cond, List, [], ◌∷◌, ◌++◌, append_assoc, append-nil, arith, eq-eqb, ne_eqb, eqb, length, replicate}
+use Rattle.shinri_core.proofs.Kit.{ℕ, suc, ◌+◌, ◌-◌, ◌≤◌, ◌<◌, ◌≡◌, refl, sym, subst, ap, ◌∙◌, Bool, true, false, cond, List, [], ◌∷◌, ◌++◌, append_assoc, append-nil, arith, eq-eqb, ne_eqb, eqb, length, replicate}
 use lib.ListN.{length-replicate}
 use Rattle.shinri_core.proofs.Lists.{zeros}
 use Rattle.shinri_core.specs.Lists.{any, range}

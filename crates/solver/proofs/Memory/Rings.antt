@@ -11,7 +11,7 @@ use Rattle.shinri_core.proofs.Memory.Views.{args_fit, part_ordered, part_within,
 use Rattle.theory.proofs.Members.{apart_length}
 use Rattle.solver.specs.Ring.{Frame, on_path}
 use Rattle.solver.specs.Memory.Walking.{COLOUR, PATH_APP, PATH_VIA, PATH_LEFT, ring_size, frames, untried, opened, path, path_apps, colour, Leads, Walking, sum_below, unmet, load, pushed}
-use Rattle.solver.proofs.Memory.RingStores.{stores, long}
+use Rattle.solver.proofs.Memory.RingStores.{stores}
 
 -- ---- sums
 

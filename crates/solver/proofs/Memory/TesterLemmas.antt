@@ -1,7 +1,5 @@
 -- The tester lemma: the tester of an application's constructor on the application is made and handed out.
 use Rattle.shinri_core.proofs.Kit.{ℕ, ◌-◌, ◌<◌, ◌≡◌, refl, sym, ap, ap₂, ◌∙◌, ◌⊎◌, inl, inr, Bool, true, false, cond, ◌&&◌, List, [], ◌∷◌, none, some, Option, arith, eqb, eq-eqb, ne_eqb, length, get_or}
-use types.Run.{OneOf, miss}
-use denote.Enum.Declared.{tag_of}
 use Rattle.shinri_core.specs.Limits.{max_terms}
 use Rattle.shinri_core.specs.Term as Term
 use Rattle.shinri_core.specs.Term.{Symbol, Tester}
@@ -15,7 +13,6 @@ use Rattle.shinri_core.specs.declared.ids.SymbolId.{SymbolId}
 use Rattle.shinri_core.specs.declared.context.Made as Made
 use Rattle.shinri_core.specs.declared.term.Op as Op
 use Rattle.shinri_core.specs.declared.term.DtRole as DtRole
-use Rattle.shinri_core.specs.contracts.term.DtRole.{the_type as role_type}
 use Rattle.shinri_core.proofs.Lists.{and_no}
 use Rattle.theory.specs.EqEngine.{Merge, are_equal}
 use Rattle.theory.specs.Memory.Table.{merges}

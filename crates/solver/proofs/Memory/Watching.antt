@@ -14,7 +14,7 @@ use Rattle.solver.specs.Check.{before_ring, ring_answer}
 use Rattle.solver.specs.declared.answer.TCheck as TCheck
 use Rattle.solver.specs.declared.work.CtorOf as CtorOf
 use Rattle.solver.specs.declared.exhaustiveness.Undetermined as Undetermined
-use Rattle.solver.specs.Memory.Table.{MARK, LASTING, SPLIT, is_set, flagged, state, state_with, dt_with, StateSound}
+use Rattle.solver.specs.Memory.Table.{MARK, LASTING, SPLIT, is_set, flagged, state_with, dt_with, StateSound}
 use Rattle.solver.specs.Memory.Recording.{NoneAnnounced, NoneLasting}
 use Rattle.solver.specs.Memory.Work.{W_MARK, state_at, apps_from, first_in_class, ctor_meaning, marks_only, CtorOfClass, CheckSound}
 use Rattle.solver.specs.Memory.Answer.{answer_meaning, Outcome, Tried}

@@ -14,7 +14,6 @@ use Rattle.solver.specs.Rules.{Phase, Positive, NoPhase, Ruled, pass, answered}
 use Rattle.solver.specs.declared.answer.TCheck as TCheck
 use Rattle.solver.specs.declared.answer.Phase as GivenPhase
 use Rattle.solver.specs.declared.answer.Guard as Guard
-use Rattle.solver.specs.Memory.Table.{state}
 use Rattle.solver.specs.Memory.Work.{state_at, CheckSound}
 
 -- ---- a split

@@ -3,7 +3,7 @@ use Rattle.shinri_core.proofs.Kit.{ℕ, suc, get_or, ◌+◌, ◌-◌, ◌≤◌
 use Rattle.shinri_core.specs.Limits.{max_terms, max_pairs}
 use Rattle.shinri_core.specs.Lists.{In, range, zip}
 use Rattle.shinri_core.specs.Memory.Words.{at}
-use Rattle.theory.specs.Types.{EqJust, Asserted, Congruence, Interface}
+use Rattle.theory.specs.Types.{EqJust, Congruence}
 use Rattle.theory.specs.declared.types.EqJust as Given
 use Rattle.theory.specs.declared.eq_engine.LabelWords as LabelWords
 use Rattle.theory.specs.EqEngine.{Merge, are_equal, merge, pairs_of, pairs_in_force, way}

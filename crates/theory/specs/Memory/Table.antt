@@ -8,7 +8,7 @@ use Rattle.shinri_core.specs.Memory.Table.{Indexed}
 use Rattle.theory.specs.Types.{EqJust, Asserted, Congruence, Interface}
 use Rattle.theory.specs.declared.types.EqJust as Given
 use Rattle.theory.specs.Memory.Replay.{IsNode, child_of, parent, end, BothSides, Justified, EqualPairs}
-use Rattle.theory.specs.EqEngine.{Merge, child, root, classes, are_equal, merge, pop_merges, pairs_of, pairs_in_force, Step, way, same_pair}
+use Rattle.theory.specs.EqEngine.{Merge, classes, are_equal, merge, pop_merges, pairs_of, pairs_in_force, Step, way, same_pair}
 
 -- ---- the layout
 

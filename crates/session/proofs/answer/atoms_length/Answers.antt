@@ -1,7 +1,5 @@
-use Rattle.shinri_core.proofs.Kit.{◌-◌, arith, rules}
-use Rattle.solver.specs.Memory.Answer.{split_atoms}
-use Rattle.session.specs.Text.{decimal}
-use Rattle.session.proofs.Memory.Lengths.{Counting, count_first, count_next, count_done}
+use Rattle.shinri_core.proofs.Kit.{arith}
+use Rattle.session.proofs.Memory.Lengths.{count_first, count_next, count_done}
 use Rattle.session.proofs.answer.atoms_length.Goals as goal
 
 pub loop-i-init : goal.loop-i-init

@@ -1,8 +1,8 @@
 -- The first i atoms are counted.
-use Rattle.shinri_core.proofs.Kit.{◌-◌, arith, rules}
+use Rattle.shinri_core.proofs.Kit.{◌-◌}
 use Rattle.solver.specs.Memory.Answer.{split_atoms}
 use Rattle.session.specs.Text.{decimal}
-use Rattle.session.proofs.Memory.Lengths.{Counting, count_first, count_next, count_done}
+use Rattle.session.proofs.Memory.Lengths.{Counting}
 use Rattle.session.proofs.answer.atoms_length.Given as goal
 
 abbrev pub invariant-loop-i : goal.invariant-loop-i

@@ -1,5 +1,5 @@
 -- Straight.
-use Rattle.shinri_core.proofs.Kit.{arith, rules}
+use Rattle.shinri_core.proofs.Kit.{arith}
 use Rattle.session.proofs.Memory.Lengths.{conflict_length}
 use Rattle.session.proofs.answer.conflict_length.Goals as goal
 

@@ -1,5 +1,5 @@
 -- By the kind of the leaf.
-use Rattle.shinri_core.proofs.Kit.{ap, arith, rules, length}
+use Rattle.shinri_core.proofs.Kit.{ap, arith, length}
 use Rattle.theory.specs.declared.types.EqLeaf.{EqLeaf}
 use Rattle.theory.specs.Memory.Answer.{leaf_meaning}
 use Rattle.session.specs.Answer.{leaf_text}

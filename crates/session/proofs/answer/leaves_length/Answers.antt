@@ -1,8 +1,6 @@
-use Rattle.shinri_core.proofs.Kit.{◌-◌, arith, rules}
+use Rattle.shinri_core.proofs.Kit.{arith}
 use Rattle.theory.specs.Types.{AssertedLeaf}
-use Rattle.theory.specs.Memory.Answer.{leaves}
-use Rattle.session.specs.Answer.{leaf_text}
-use Rattle.session.proofs.Memory.Lengths.{Counting, count_first, count_next, count_done}
+use Rattle.session.proofs.Memory.Lengths.{count_first, count_next, count_done}
 use Rattle.session.proofs.answer.leaves_length.Goals as goal
 
 pub loop-i-init : goal.loop-i-init

@@ -1,9 +1,8 @@
 -- The first i leaves are counted.
-use Rattle.shinri_core.proofs.Kit.{◌-◌, arith, rules}
-use Rattle.theory.specs.Types.{AssertedLeaf}
+use Rattle.shinri_core.proofs.Kit.{◌-◌}
 use Rattle.theory.specs.Memory.Answer.{leaves}
 use Rattle.session.specs.Answer.{leaf_text}
-use Rattle.session.proofs.Memory.Lengths.{Counting, count_first, count_next, count_done}
+use Rattle.session.proofs.Memory.Lengths.{Counting}
 use Rattle.session.proofs.answer.leaves_length.Given as goal
 
 abbrev pub invariant-loop-i : goal.invariant-loop-i

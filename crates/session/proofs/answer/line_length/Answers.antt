@@ -1,5 +1,5 @@
 -- One byte more than without the LF.
-use Rattle.shinri_core.proofs.Kit.{[], ◌∷◌, arith, rules, length-append}
+use Rattle.shinri_core.proofs.Kit.{[], ◌∷◌, arith, length-append}
 use Rattle.session.specs.Text.{LF}
 use Rattle.session.specs.Answer.{answer_text}
 use Rattle.session.specs.Memory.Answers.{answer_meaning}

@@ -1,5 +1,5 @@
 -- Straight.
-use Rattle.shinri_core.proofs.Kit.{arith, rules}
+use Rattle.shinri_core.proofs.Kit.{arith}
 use Rattle.solver.specs.Memory.Answer.{split_phases}
 use Rattle.session.proofs.Memory.Lengths.{phases_length}
 use Rattle.session.proofs.answer.phases_length.Goals as goal

@@ -1,5 +1,5 @@
 -- Straight.
-use Rattle.shinri_core.proofs.Kit.{arith, rules}
+use Rattle.shinri_core.proofs.Kit.{arith}
 use Rattle.session.proofs.Memory.Lengths.{split_length}
 use Rattle.session.proofs.answer.split_length.Goals as goal
 

@@ -1,7 +1,5 @@
-use Rattle.shinri_core.proofs.Kit.{◌-◌, arith, rules}
-use Rattle.solver.specs.Memory.Answer.{split_atoms}
-use Rattle.session.specs.Text.{decimal}
-use Rattle.session.proofs.Memory.Printing.{written_length, Listing, list_first, parting_fits, text_fits, list_next, list_done}
+use Rattle.shinri_core.proofs.Kit.{arith}
+use Rattle.session.proofs.Memory.Printing.{written_length, list_first, parting_fits, text_fits, list_next, list_done}
 use Rattle.session.proofs.answer.write_atoms.Goals as goal
 
 pub loop-i-init : goal.loop-i-init

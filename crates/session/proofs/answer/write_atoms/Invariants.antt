@@ -1,8 +1,8 @@
 -- The first i atoms are written.
-use Rattle.shinri_core.proofs.Kit.{◌-◌, arith, rules}
+use Rattle.shinri_core.proofs.Kit.{◌-◌}
 use Rattle.solver.specs.Memory.Answer.{split_atoms}
 use Rattle.session.specs.Text.{decimal}
-use Rattle.session.proofs.Memory.Printing.{written_length, Listing, list_first, parting_fits, text_fits, list_next, list_done}
+use Rattle.session.proofs.Memory.Printing.{Listing}
 use Rattle.session.proofs.answer.write_atoms.Given as goal
 
 abbrev pub invariant-loop-i : goal.invariant-loop-i

@@ -1,5 +1,5 @@
 -- The leaves stand behind the name.
-use Rattle.shinri_core.proofs.Kit.{arith, rules}
+use Rattle.shinri_core.proofs.Kit.{arith}
 use Rattle.session.specs.Text.{bytes}
 use Rattle.session.specs.Answer.{check_text}
 use Rattle.session.proofs.Memory.Printing.{written_more}

@@ -1,5 +1,5 @@
 -- By whether there is a guard.
-use Rattle.shinri_core.proofs.Kit.{ap, arith, rules, length}
+use Rattle.shinri_core.proofs.Kit.{ap, arith, length}
 use Rattle.session.proofs.Memory.Printing.{written_nothing, written_as}
 use Rattle.session.proofs.Memory.Lengths.{one_guard, no_guard}
 use Rattle.session.proofs.answer.write_guards.Goals as goal

@@ -1,5 +1,5 @@
 -- Four texts, one behind the other.
-use Rattle.shinri_core.proofs.Kit.{arith, rules}
+use Rattle.shinri_core.proofs.Kit.{arith}
 use Rattle.session.specs.Text.{bytes}
 use Rattle.session.specs.Answer.{leaf_text}
 use Rattle.session.proofs.Memory.Lengths.{interface_length}

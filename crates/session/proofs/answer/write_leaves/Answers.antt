@@ -1,8 +1,6 @@
-use Rattle.shinri_core.proofs.Kit.{◌-◌, arith, rules}
+use Rattle.shinri_core.proofs.Kit.{arith}
 use Rattle.theory.specs.Types.{AssertedLeaf}
-use Rattle.theory.specs.Memory.Answer.{leaves}
-use Rattle.session.specs.Answer.{leaf_text}
-use Rattle.session.proofs.Memory.Printing.{written_length, Listing, list_first, parting_fits, text_fits, list_next, list_done}
+use Rattle.session.proofs.Memory.Printing.{written_length, list_first, parting_fits, text_fits, list_next, list_done}
 use Rattle.session.proofs.answer.write_leaves.Goals as goal
 
 pub loop-i-init : goal.loop-i-init

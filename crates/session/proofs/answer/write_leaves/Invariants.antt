@@ -1,9 +1,8 @@
 -- The first i leaves are written.
-use Rattle.shinri_core.proofs.Kit.{◌-◌, arith, rules}
-use Rattle.theory.specs.Types.{AssertedLeaf}
+use Rattle.shinri_core.proofs.Kit.{◌-◌}
 use Rattle.theory.specs.Memory.Answer.{leaves}
 use Rattle.session.specs.Answer.{leaf_text}
-use Rattle.session.proofs.Memory.Printing.{written_length, Listing, list_first, parting_fits, text_fits, list_next, list_done}
+use Rattle.session.proofs.Memory.Printing.{Listing}
 use Rattle.session.proofs.answer.write_leaves.Given as goal
 
 abbrev pub invariant-loop-i : goal.invariant-loop-i

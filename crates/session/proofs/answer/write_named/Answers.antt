@@ -1,5 +1,5 @@
 -- The number stands behind the name.
-use Rattle.shinri_core.proofs.Kit.{arith, rules, length-append}
+use Rattle.shinri_core.proofs.Kit.{arith, length-append}
 use Rattle.session.specs.Text.{decimal}
 use Rattle.session.proofs.Memory.Printing.{written_more}
 use Rattle.session.proofs.answer.write_named.Goals as goal

@@ -1,5 +1,5 @@
 -- By whether it is the first.
-use Rattle.shinri_core.proofs.Kit.{ap, arith, rules, length}
+use Rattle.shinri_core.proofs.Kit.{ap, arith, length}
 use Rattle.session.proofs.Memory.Printing.{written_nothing, written_as, parting_first, parting_later}
 use Rattle.session.proofs.answer.write_parting.Goals as goal
 

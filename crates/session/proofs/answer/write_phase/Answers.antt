@@ -1,5 +1,5 @@
 -- By the phase.
-use Rattle.shinri_core.proofs.Kit.{ap, arith, rules, length}
+use Rattle.shinri_core.proofs.Kit.{ap, arith, length}
 use Rattle.solver.specs.declared.answer.Phase.{Phase}
 use Rattle.solver.specs.Memory.Answer.{phase_meaning}
 use Rattle.session.specs.Text.{bytes}

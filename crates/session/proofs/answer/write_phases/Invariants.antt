@@ -1,9 +1,8 @@
 -- The first i phases are written.
-use Rattle.shinri_core.proofs.Kit.{◌-◌, arith, rules}
-use Rattle.solver.specs.Rules.{NoPhase}
+use Rattle.shinri_core.proofs.Kit.{◌-◌}
 use Rattle.solver.specs.Memory.Answer.{split_phases}
 use Rattle.session.specs.Answer.{phase_text}
-use Rattle.session.proofs.Memory.Printing.{written_length, Listing, list_first, parting_fits, text_fits, list_next, list_done}
+use Rattle.session.proofs.Memory.Printing.{Listing}
 use Rattle.session.proofs.answer.write_phases.Given as goal
 
 abbrev pub invariant-loop-i : goal.invariant-loop-i

@@ -1,5 +1,5 @@
 -- Six texts, one behind the other.
-use Rattle.shinri_core.proofs.Kit.{arith, rules}
+use Rattle.shinri_core.proofs.Kit.{arith}
 use Rattle.solver.specs.Memory.Answer.{split_of}
 use Rattle.session.specs.Text.{bytes}
 use Rattle.session.specs.Answer.{check_text}

@@ -1,5 +1,5 @@
 -- By the kind of the answer.
-use Rattle.shinri_core.proofs.Kit.{ℕ, sym, ap, ◌++◌, arith, rules, length}
+use Rattle.shinri_core.proofs.Kit.{ℕ, sym, ap, ◌++◌, arith, length}
 use Rattle.session.specs.Text.{bytes, decimal}
 use Rattle.session.specs.Answer.{check_text, answer_text}
 use Rattle.session.specs.Memory.Answers.{answer_meaning}

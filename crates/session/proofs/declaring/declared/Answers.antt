@@ -1,5 +1,4 @@
 -- By cases.
-use Rattle.shinri_core.proofs.Kit.{rules}
 use Rattle.session.proofs.Memory.Declaring.{declared_done, declared_full}
 use Rattle.session.proofs.declaring.declared.Goals as goal
 

@@ -1,5 +1,4 @@
 -- The questions in order.
-use Rattle.shinri_core.proofs.Kit.{rules}
 use Rattle.session.proofs.Memory.Declaring.{sorts_named, fun_late, fun_missing, fun_declared}
 use Rattle.session.proofs.declaring.fun_line.Goals as goal
 

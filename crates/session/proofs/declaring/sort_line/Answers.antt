@@ -1,5 +1,4 @@
 -- Straight.
-use Rattle.shinri_core.proofs.Kit.{rules}
 use Rattle.session.proofs.Memory.Declaring.{sort_late, sort_declared}
 use Rattle.session.proofs.declaring.sort_line.Goals as goal
 

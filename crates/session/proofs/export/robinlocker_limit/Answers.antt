@@ -1,5 +1,5 @@
 -- The names are the places of the list.
-use Rattle.shinri_core.proofs.Kit.{refl, sym, arith, rules, list_get_or_eq_default}
+use Rattle.shinri_core.proofs.Kit.{refl, sym, arith, list_get_or_eq_default}
 use Rattle.session.specs.Library.{limits, limit}
 use Rattle.session.proofs.export.robinlocker_limit.Goals as goal
 

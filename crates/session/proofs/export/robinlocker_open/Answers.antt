@@ -1,5 +1,4 @@
 -- By what was told.
-use Rattle.shinri_core.proofs.Kit.{rules}
 use Rattle.session.proofs.Memory.Keeping.{opened_by, refused_by}
 use Rattle.session.proofs.export.robinlocker_open.Goals as goal
 

@@ -1,5 +1,5 @@
 -- What holds of the copies holds of the tables, which are the same.
-use Rattle.shinri_core.proofs.Kit.{ap, ◌∙◌, arith, rules, length}
+use Rattle.shinri_core.proofs.Kit.{ap, ◌∙◌, arith, length}
 use Rattle.session.proofs.Memory.Keeping.{aside_asks, aside_full, aside_done}
 use Rattle.session.proofs.kept.answer_aside.Goals as goal
 

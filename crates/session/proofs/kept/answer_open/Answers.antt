@@ -1,5 +1,4 @@
 -- What the fourth table keeps is read, used and put back.
-use Rattle.shinri_core.proofs.Kit.{rules}
 use Rattle.session.specs.Memory.Kept.{close_accepted, mark_counts}
 use Rattle.session.proofs.Memory.Keeping.{open_asks, open_full, open_done}
 use Rattle.session.proofs.kept.answer_open.Goals as goal

@@ -1,5 +1,4 @@
 -- Straight.
-use Rattle.shinri_core.proofs.Kit.{rules}
 use Rattle.session.proofs.Memory.Keeping.{closes}
 use Rattle.session.proofs.kept.close.Goals as goal
 

@@ -1,5 +1,4 @@
-use Rattle.shinri_core.proofs.Kit.{◌-◌, rules, length}
-use Rattle.session.proofs.Memory.Keeping.{Copying, copy_first, copy_next, copy_done}
+use Rattle.session.proofs.Memory.Keeping.{copy_first, copy_next, copy_done}
 use Rattle.session.proofs.kept.copy.Goals as goal
 
 pub loop-i-init : goal.loop-i-init

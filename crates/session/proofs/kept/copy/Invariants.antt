@@ -1,6 +1,6 @@
 -- The words below i are copied.
-use Rattle.shinri_core.proofs.Kit.{◌-◌, rules, length}
-use Rattle.session.proofs.Memory.Keeping.{Copying, copy_first, copy_next, copy_done}
+use Rattle.shinri_core.proofs.Kit.{◌-◌, length}
+use Rattle.session.proofs.Memory.Keeping.{Copying}
 use Rattle.session.proofs.kept.copy.Given as goal
 
 abbrev pub invariant-loop-i : goal.invariant-loop-i

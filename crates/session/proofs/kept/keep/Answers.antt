@@ -1,5 +1,4 @@
 -- Whether a `close` was accepted, then the counts.
-use Rattle.shinri_core.proofs.Kit.{rules}
 use mir.Val.{bool_byte}
 use Rattle.session.proofs.Memory.Keeping.{keeps, kept_length}
 use Rattle.session.proofs.kept.keep.Goals as goal

@@ -1,6 +1,5 @@
 -- By the length of the tables, by the mark, by whether the answer line fits.
-use Rattle.shinri_core.proofs.Kit.{sym, ◌∙◌, arith, rules, not-false}
-use borrow.Author.Tests.{not-true}
+use Rattle.shinri_core.proofs.Kit.{sym, ◌∙◌, arith}
 use Rattle.session.proofs.Memory.Keeping.{part_long, suffices, too_short, not_open, call_short, call_closed, not_marked, marked_open, holding, full_call, done_call}
 use Rattle.session.proofs.kept.line.Goals as goal
 

@@ -1,6 +1,5 @@
 -- Tables that are too short are untouched; else each work table's part is cleared and the fourth table is marked.
-use Rattle.shinri_core.proofs.Kit.{sym, ◌∙◌, arith, rules, not-false}
-use borrow.Author.Tests.{not-true}
+use Rattle.shinri_core.proofs.Kit.{sym, ◌∙◌, arith}
 use Rattle.session.proofs.Memory.Keeping.{part_long, part_least, suffices, refused, opens}
 use Rattle.session.proofs.kept.open.Goals as goal
 

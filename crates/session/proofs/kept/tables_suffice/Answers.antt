@@ -8,11 +8,11 @@ pub returns-then-core-lt-TABLE_WORDS : goal.returns-then-core-lt-TABLE_WORDS
 returns-then-core-lt-TABLE_WORDS c =
     suffice_short _ _ _ _
     (elim c.then-core-lt-TABLE_WORDS.branch [
-      then-core-lt-TABLE_WORDS-via-then-core-lt-TABLE_WORDS w ↦ inl w.if-core-lt-TABLE_WORDS.true
+      | then-core-lt-TABLE_WORDS-via-then-core-lt-TABLE_WORDS w ↦ inl w.if-core-lt-TABLE_WORDS.true
       | then-core-lt-TABLE_WORDS-via-else-core-lt-TABLE_WORDS+then-theory-lt-TABLE_WORDS w ↦
-        inr (inl w.if-theory-lt-TABLE_WORDS.true)
+          inr (inl w.if-theory-lt-TABLE_WORDS.true)
       | then-core-lt-TABLE_WORDS-via-else-core-lt-TABLE_WORDS+else-theory-lt-TABLE_WORDS+then-solver-lt-TABLE_WORDS w ↦
-        inr (inr w.if-solver-lt-TABLE_WORDS.true)
+          inr (inr w.if-solver-lt-TABLE_WORDS.true)
     ])
 
 pub returns : goal.returns

@@ -1,5 +1,5 @@
 -- By the length of the output.
-use Rattle.shinri_core.proofs.Kit.{arith, rules}
+use Rattle.shinri_core.proofs.Kit.{arith}
 use Rattle.session.proofs.Memory.Keeping.{tried_direct}
 use Rattle.session.proofs.kept.try_line.Goals as goal
 

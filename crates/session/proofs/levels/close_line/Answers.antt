@@ -1,5 +1,4 @@
 -- The questions in order.
-use Rattle.shinri_core.proofs.Kit.{rules}
 use Rattle.session.proofs.Memory.Levels.{close_late, close_empty, close_done}
 use Rattle.session.proofs.levels.close_line.Goals as goal
 

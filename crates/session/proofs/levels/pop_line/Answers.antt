@@ -1,5 +1,4 @@
 -- The questions in order.
-use Rattle.shinri_core.proofs.Kit.{rules}
 use Rattle.session.proofs.Memory.Levels.{marks_read, pop_early, pop_done}
 use Rattle.session.proofs.levels.pop_line.Goals as goal
 

@@ -1,5 +1,5 @@
 -- The questions in order.
-use Rattle.shinri_core.proofs.Kit.{rules, arith}
+use Rattle.shinri_core.proofs.Kit.{arith}
 use Rattle.session.proofs.Memory.Levels.{marks_read, push_early, push_full, push_done}
 use Rattle.session.proofs.levels.push_line.Goals as goal
 

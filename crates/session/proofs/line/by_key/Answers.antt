@@ -1,5 +1,5 @@
 -- Each key asks for its count of numbers.
-use Rattle.shinri_core.proofs.Kit.{rules, refl, arith}
+use Rattle.shinri_core.proofs.Kit.{refl, arith}
 use Rattle.session.specs.Line.{just_four, by_key}
 use Rattle.session.specs.Memory.Commands.{key_meaning, by_known, command_meaning}
 use Rattle.session.proofs.Memory.Keys.{other_one, other_two, other_four, take_some, take_one, take_two, take_four}

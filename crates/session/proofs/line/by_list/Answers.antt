@@ -1,5 +1,4 @@
 -- Straight.
-use Rattle.shinri_core.proofs.Kit.{rules}
 use Rattle.session.specs.Line.{some_or_more, by_key}
 use Rattle.session.specs.Memory.Commands.{list_key, command_meaning}
 use Rattle.session.proofs.line.by_list.Goals as goal

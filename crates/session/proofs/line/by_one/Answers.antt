@@ -1,5 +1,5 @@
 -- Straight.
-use Rattle.shinri_core.proofs.Kit.{rules, refl}
+use Rattle.shinri_core.proofs.Kit.{refl}
 use Rattle.session.specs.Line.{Close, Push, just_one, by_key}
 use Rattle.session.specs.Memory.Commands.{one_key, command_meaning}
 use Rattle.session.proofs.Memory.Keys.{once}

@@ -1,5 +1,4 @@
 -- Straight.
-use Rattle.shinri_core.proofs.Kit.{rules}
 use Rattle.session.specs.Line.{just_two, by_key}
 use Rattle.session.specs.Memory.Commands.{pair_key, command_meaning}
 use Rattle.session.proofs.line.by_pair.Goals as goal

@@ -1,5 +1,4 @@
 -- Only the key of a sort takes a letter.
-use Rattle.shinri_core.proofs.Kit.{rules, ℕ, ◌≡◌, ap, inl, inr, [], ◌∷◌, arith}
 use Rattle.session.specs.Line.{known, by_value}
 use Rattle.session.specs.Memory.Commands.{key_meaning}
 use Rattle.session.proofs.Memory.Keys.{takes_numbers}

@@ -1,5 +1,5 @@
 -- Straight.
-use Rattle.shinri_core.proofs.Kit.{rules, arith, le-leb, lt-leb}
+use Rattle.shinri_core.proofs.Kit.{arith, le-leb, lt-leb}
 use Rattle.session.specs.Line.{iface}
 use Rattle.session.specs.Memory.Commands.{command_meaning}
 use Rattle.session.proofs.line.iface.Goals as goal

@@ -1,5 +1,5 @@
 -- Straight.
-use Rattle.shinri_core.proofs.Kit.{rules, sym, ◌∙◌}
+use Rattle.shinri_core.proofs.Kit.{sym, ◌∙◌}
 use Rattle.session.proofs.line.key_or.Goals as goal
 
 pub returns-then-same_text : goal.returns-then-same_text

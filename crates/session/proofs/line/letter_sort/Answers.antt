@@ -1,5 +1,5 @@
 -- Straight.
-use Rattle.shinri_core.proofs.Kit.{rules, sym, ◌∙◌}
+use Rattle.shinri_core.proofs.Kit.{sym, ◌∙◌}
 use Rattle.shinri_core.specs.Memory.Codes.{declared_node}
 use Rattle.session.specs.Text.{bytes}
 use Rattle.session.specs.Line.{letter_sort}

@@ -1,5 +1,5 @@
 -- Each key is tried before those that stand behind it.
-use Rattle.shinri_core.proofs.Kit.{rules, refl}
+use Rattle.shinri_core.proofs.Kit.{refl}
 use Rattle.session.specs.Text.{bytes}
 use Rattle.session.specs.Line.{CheckKey, PopKey, PushKey, DifferKey, AssertKey, IfaceKey, CongKey, EquateKey, VarKey, EqKey, TermKey, CloseKey, FunKey, CtorKey, SortKey, key_text, keys}
 use Rattle.session.specs.Memory.Commands.{list_key, one_key, pair_key, key_meaning}

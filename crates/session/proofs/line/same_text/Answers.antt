@@ -1,4 +1,4 @@
-use Rattle.shinri_core.proofs.Kit.{rules, ℕ, ◌-◌, ◌≤◌, ◌<◌, ◌≡◌, sym, ap, List, below_more, arith, length, get_or}
+use Rattle.shinri_core.proofs.Kit.{rules, ℕ, sym, ap, List, below_more, arith, length, get_or}
 use Rattle.shinri_core.proofs.Lists.{same_list_not}
 use Rattle.session.proofs.Memory.Keys.{same_list_all}
 use Rattle.session.proofs.line.same_text.Goals as goal

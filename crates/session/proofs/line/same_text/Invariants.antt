@@ -1,7 +1,5 @@
 -- The bytes below i are the same.
-use Rattle.shinri_core.proofs.Kit.{rules, ℕ, ◌-◌, ◌≤◌, ◌<◌, ◌≡◌, sym, ap, List, below_more, arith, length, get_or}
-use Rattle.shinri_core.proofs.Lists.{same_list_not}
-use Rattle.session.proofs.Memory.Keys.{same_list_all}
+use Rattle.shinri_core.proofs.Kit.{ℕ, ◌-◌, ◌≤◌, ◌<◌, ◌≡◌, length, get_or}
 use Rattle.session.proofs.line.same_text.Given as goal
 
 abbrev pub invariant-loop-i : goal.invariant-loop-i

@@ -1,5 +1,5 @@
 -- Straight.
-use Rattle.shinri_core.proofs.Kit.{rules, ◌≤◌, arith, length}
+use Rattle.shinri_core.proofs.Kit.{◌≤◌, arith, length}
 use Rattle.session.specs.Memory.Commands.{max_numbers, command_meaning}
 use Rattle.session.proofs.Memory.Keys.{numbers_unread, numbers_read}
 use Rattle.session.proofs.line.with_numbers.Goals as goal

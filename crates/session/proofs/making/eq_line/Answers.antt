@@ -1,5 +1,4 @@
 -- The questions in order.
-use Rattle.shinri_core.proofs.Kit.{rules}
 use Rattle.session.proofs.Memory.Making.{two_named, two_may, eq_early, eq_missing, eq_disagrees, eq_made}
 use Rattle.session.proofs.making.eq_line.Goals as goal
 

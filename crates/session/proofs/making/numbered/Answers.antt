@@ -1,5 +1,4 @@
 -- By cases.
-use Rattle.shinri_core.proofs.Kit.{rules}
 use Rattle.session.proofs.Memory.Making.{numbered_at, numbered_full}
 use Rattle.session.proofs.making.numbered.Goals as goal
 

@@ -1,5 +1,4 @@
 -- The questions in order.
-use Rattle.shinri_core.proofs.Kit.{rules}
 use Rattle.session.proofs.Memory.Making.{app_named, app_may, term_early, term_missing, term_disagrees, term_made}
 use Rattle.session.proofs.making.term_line.Goals as goal
 

@@ -1,5 +1,5 @@
 -- The questions in order.
-use Rattle.shinri_core.proofs.Kit.{rules, ap, not}
+use Rattle.shinri_core.proofs.Kit.{ap, not}
 use Rattle.session.proofs.Memory.Merging.{two_applications, two_terms, cong_early, cong_missing, cong_differs, cong_full, cong_merged, cong_nodes, cong_may}
 use Rattle.session.proofs.merging.cong_line.Goals as goal
 

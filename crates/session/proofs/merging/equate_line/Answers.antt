@@ -1,5 +1,4 @@
 -- The questions in order.
-use Rattle.shinri_core.proofs.Kit.{rules}
 use Rattle.session.proofs.Memory.Merging.{lit_named, equating, equate_early, equate_missing, equate_other, equate_merged}
 use Rattle.session.proofs.merging.equate_line.Goals as goal
 

@@ -1,5 +1,5 @@
 -- The questions in order.
-use Rattle.shinri_core.proofs.Kit.{rules, refl, ap, not}
+use Rattle.shinri_core.proofs.Kit.{refl, ap, not}
 use Rattle.session.proofs.Memory.Merging.{two_terms, two_nodes, iface_early, iface_missing, iface_disagrees, iface_merged}
 use Rattle.session.proofs.merging.iface_line.Goals as goal
 

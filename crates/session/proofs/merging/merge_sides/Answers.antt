@@ -1,5 +1,5 @@
 -- The atom is an equation, so it has two sides.
-use Rattle.shinri_core.proofs.Kit.{rules, arith, refl}
+use Rattle.shinri_core.proofs.Kit.{arith, refl}
 use Rattle.session.proofs.Memory.Merging.{equated_var, equated_atom, side_count, side_nodes, sides_merged}
 use Rattle.session.proofs.merging.merge_sides.Goals as goal
 

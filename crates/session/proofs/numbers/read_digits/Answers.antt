@@ -1,8 +1,7 @@
-use Rattle.shinri_core.proofs.Kit.{rules, ◌-◌, ◌≡◌, sym, ◌∙◌, true, arith, not-false, length, get_or}
-use borrow.Author.Tests.{not-true}
+use Rattle.shinri_core.proofs.Kit.{◌≡◌, sym, ◌∙◌, true, arith, get_or}
 use Rattle.session.specs.Text.{is_digit}
 use Rattle.session.specs.Memory.Numbers.{number_meaning}
-use Rattle.session.proofs.Memory.Parsing.{digit_range, Digits, digits_first, digits_next, digits_other, digits_over, digits_all}
+use Rattle.session.proofs.Memory.Parsing.{digit_range, digits_first, digits_next, digits_other, digits_over, digits_all}
 use Rattle.session.proofs.numbers.read_digits.Goals as goal
 
 pub loop-i-init : goal.loop-i-init

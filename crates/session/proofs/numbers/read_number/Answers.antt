@@ -1,5 +1,5 @@
 -- No zero stands before other digits, and what has none there is its digits.
-use Rattle.shinri_core.proofs.Kit.{◌<◌, ◌≡◌, sym, ◌∙◌, ⊎_elim, arith, rules, eqb-true, eqb-false, length, get_or}
+use Rattle.shinri_core.proofs.Kit.{◌<◌, ◌≡◌, sym, ◌∙◌, arith, length, get_or}
 use Rattle.session.specs.Memory.Numbers.{number_meaning}
 use Rattle.session.proofs.Memory.Parsing.{number_empty, number_led, number_plain}
 use Rattle.session.proofs.numbers.read_number.Goals as goal
@@ -21,7 +21,7 @@ returns c =
     let ds = c.args.ds.now in
     let plain : 1 < length ds → get_or ds 0 0 ≡ 48 → ⊥ =
     λ l e. elim c.else-ds-gt1.branch [
-      else-ds-gt1-via-then-ds-gt1+else-ds-eq48 w ↦ w.if-ds-eq48.false e
+      | else-ds-gt1-via-then-ds-gt1+else-ds-eq48 w ↦ w.if-ds-eq48.false e
       | else-ds-gt1-via-else-ds-gt1 w ↦ omega (arith, w.if-ds-gt1.false)
     ] in
     c.read_digits.ensures ∙ sym (number_plain ds plain (omega arith))

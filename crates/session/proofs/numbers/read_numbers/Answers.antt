@@ -1,6 +1,6 @@
-use Rattle.shinri_core.proofs.Kit.{rules, ◌-◌, sym, ap, ◌∙◌, arith}
+use Rattle.shinri_core.proofs.Kit.{sym, ap, ◌∙◌, arith}
 use Rattle.session.specs.Memory.Numbers.{number_meaning}
-use Rattle.session.proofs.Memory.Parsing.{Taken, taken_first, taken_bad, taken_last, taken_next, taken_over}
+use Rattle.session.proofs.Memory.Parsing.{taken_first, taken_bad, taken_last, taken_next, taken_over}
 use Rattle.session.proofs.numbers.read_numbers.Goals as goal
 
 pub loop-n-init : goal.loop-n-init

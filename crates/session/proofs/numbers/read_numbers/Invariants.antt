@@ -1,7 +1,6 @@
 -- The parts before a place are the first n numbers, and those of the rest come behind them.
-use Rattle.shinri_core.proofs.Kit.{rules, ◌-◌, sym, ap, ◌∙◌, arith}
-use Rattle.session.specs.Memory.Numbers.{number_meaning}
-use Rattle.session.proofs.Memory.Parsing.{Taken, taken_first, taken_bad, taken_last, taken_next, taken_over}
+use Rattle.shinri_core.proofs.Kit.{◌-◌}
+use Rattle.session.proofs.Memory.Parsing.{Taken}
 use Rattle.session.proofs.numbers.read_numbers.Given as goal
 
 abbrev pub invariant-loop-n : goal.invariant-loop-n

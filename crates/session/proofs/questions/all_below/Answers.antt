@@ -1,5 +1,5 @@
-use Rattle.shinri_core.proofs.Kit.{rules, ◌-◌, arith, length}
-use Rattle.session.proofs.Memory.Questions.{BelowTo, below_first, below_next, below_done, below_not}
+use Rattle.shinri_core.proofs.Kit.{arith}
+use Rattle.session.proofs.Memory.Questions.{below_first, below_next, below_done, below_not}
 use Rattle.session.proofs.questions.all_below.Goals as goal
 
 pub loop-i-init : goal.loop-i-init

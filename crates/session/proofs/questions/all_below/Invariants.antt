@@ -1,6 +1,6 @@
 -- The numbers up to i are below n.
-use Rattle.shinri_core.proofs.Kit.{rules, ◌-◌, arith, length}
-use Rattle.session.proofs.Memory.Questions.{BelowTo, below_first, below_next, below_done, below_not}
+use Rattle.shinri_core.proofs.Kit.{◌-◌, length}
+use Rattle.session.proofs.Memory.Questions.{BelowTo}
 use Rattle.session.proofs.questions.all_below.Given as goal
 
 abbrev pub invariant-loop-i : goal.invariant-loop-i

@@ -1,5 +1,4 @@
 -- By the operation.
-use Rattle.shinri_core.proofs.Kit.{rules}
 use Rattle.session.proofs.Memory.Questions.{applies_not, applies_by}
 use Rattle.session.proofs.questions.applies.Goals as goal
 

@@ -1,5 +1,5 @@
 -- Straight.
-use Rattle.shinri_core.proofs.Kit.{rules, ap, not}
+use Rattle.shinri_core.proofs.Kit.{ap, not}
 use Rattle.session.proofs.Memory.Questions.{either_no, arguments_are, congruent_is}
 use Rattle.session.proofs.questions.congruent.Goals as goal
 

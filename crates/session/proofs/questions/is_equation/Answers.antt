@@ -1,5 +1,4 @@
 -- By the operation.
-use Rattle.shinri_core.proofs.Kit.{rules}
 use Rattle.session.proofs.Memory.Questions.{eq_is, eq_is_not}
 use Rattle.session.proofs.questions.is_equation.Goals as goal
 

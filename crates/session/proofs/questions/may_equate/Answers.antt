@@ -1,5 +1,4 @@
 -- Straight.
-use Rattle.shinri_core.proofs.Kit.{rules}
 use Rattle.session.proofs.Memory.Questions.{same_number, other_number}
 use Rattle.session.proofs.questions.may_equate.Goals as goal
 

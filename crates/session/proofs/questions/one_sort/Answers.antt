@@ -1,5 +1,4 @@
 -- Straight.
-use Rattle.shinri_core.proofs.Kit.{rules}
 use Rattle.session.proofs.Memory.Questions.{sorts_compared}
 use Rattle.session.proofs.questions.one_sort.Goals as goal
 

@@ -1,7 +1,4 @@
-use Rattle.shinri_core.proofs.Kit.{rules, ℕ, ◌-◌, length}
-use Rattle.theory.specs.EqEngine.{are_equal}
-use Rattle.theory.specs.Memory.Table.{merges}
-use Rattle.session.proofs.Memory.Questions.{PairsTo, pairs_first, pairs_next, pairs_done, pairs_not, pair_nodes}
+use Rattle.session.proofs.Memory.Questions.{pairs_first, pairs_next, pairs_done, pairs_not, pair_nodes}
 use Rattle.session.proofs.questions.pairs_equal.Goals as goal
 
 pub loop-i-init : goal.loop-i-init

@@ -1,8 +1,8 @@
 -- The pairs up to i are equal now.
-use Rattle.shinri_core.proofs.Kit.{rules, ℕ, ◌-◌, length}
+use Rattle.shinri_core.proofs.Kit.{ℕ, ◌-◌, length}
 use Rattle.theory.specs.EqEngine.{are_equal}
 use Rattle.theory.specs.Memory.Table.{merges}
-use Rattle.session.proofs.Memory.Questions.{PairsTo, pairs_first, pairs_next, pairs_done, pairs_not, pair_nodes}
+use Rattle.session.proofs.Memory.Questions.{PairsTo}
 use Rattle.session.proofs.questions.pairs_equal.Given as goal
 
 abbrev pub invariant-loop-i : goal.invariant-loop-i

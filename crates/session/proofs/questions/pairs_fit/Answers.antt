@@ -1,5 +1,5 @@
 -- By whether the two are equal now.
-use Rattle.shinri_core.proofs.Kit.{rules, arith}
+use Rattle.shinri_core.proofs.Kit.{arith}
 use Rattle.session.proofs.Memory.Questions.{fit_joined, fit_apart, pair_nodes}
 use Rattle.session.proofs.questions.pairs_fit.Goals as goal
 

@@ -1,5 +1,4 @@
 -- By the first operation.
-use Rattle.shinri_core.proofs.Kit.{rules}
 use Rattle.session.proofs.Memory.Questions.{both_eq, both_apply}
 use Rattle.session.proofs.questions.same_op.Goals as goal
 

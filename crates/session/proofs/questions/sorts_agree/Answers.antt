@@ -1,7 +1,5 @@
-use Rattle.shinri_core.proofs.Kit.{rules, ◌-◌, length}
-use Rattle.shinri_core.specs.Context.{symbol}
-use Rattle.shinri_core.specs.Memory.Table.{context}
-use Rattle.session.proofs.Memory.Questions.{SortsTo, sorts_first, sorts_next, sorts_done, sorts_count, sorts_differ, arg_named, param_named}
+use Rattle.shinri_core.proofs.Kit.{rules}
+use Rattle.session.proofs.Memory.Questions.{sorts_first, sorts_next, sorts_done, sorts_count, sorts_differ, arg_named, param_named}
 use Rattle.session.proofs.questions.sorts_agree.Goals as goal
 
 pub returns-then-arity-args : goal.returns-then-arity-args

@@ -1,8 +1,8 @@
 -- The arguments up to i have the sorts of the parameters.
-use Rattle.shinri_core.proofs.Kit.{rules, ◌-◌, length}
+use Rattle.shinri_core.proofs.Kit.{◌-◌, length}
 use Rattle.shinri_core.specs.Context.{symbol}
 use Rattle.shinri_core.specs.Memory.Table.{context}
-use Rattle.session.proofs.Memory.Questions.{SortsTo, sorts_first, sorts_next, sorts_done, sorts_count, sorts_differ, arg_named, param_named}
+use Rattle.session.proofs.Memory.Questions.{SortsTo}
 use Rattle.session.proofs.questions.sorts_agree.Given as goal
 
 abbrev pub invariant-loop-i : goal.invariant-loop-i

@@ -1,5 +1,4 @@
 -- Straight.
-use Rattle.shinri_core.proofs.Kit.{rules}
 use Rattle.session.proofs.Memory.Questions.{count_no, counts_yes}
 use Rattle.session.proofs.questions.sorts_exist.Goals as goal
 

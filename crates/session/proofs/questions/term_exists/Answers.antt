@@ -1,5 +1,4 @@
 -- Straight.
-use Rattle.shinri_core.proofs.Kit.{rules}
 use Rattle.session.proofs.Memory.Questions.{count_is}
 use Rattle.session.proofs.questions.term_exists.Goals as goal
 

@@ -1,5 +1,4 @@
 -- Straight.
-use Rattle.shinri_core.proofs.Kit.{rules}
 use Rattle.session.proofs.Memory.Questions.{either_no, both_yes}
 use Rattle.session.proofs.questions.two_exist.Goals as goal
 

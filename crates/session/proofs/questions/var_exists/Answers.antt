@@ -1,5 +1,4 @@
 -- Straight.
-use Rattle.shinri_core.proofs.Kit.{rules}
 use Rattle.session.proofs.Memory.Questions.{var_named}
 use Rattle.session.proofs.questions.var_exists.Goals as goal
 

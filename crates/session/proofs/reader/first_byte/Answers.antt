@@ -1,5 +1,5 @@
-use Rattle.shinri_core.proofs.Kit.{rules, ◌-◌, ne_eqb, length, get_or, eqb}
-use Rattle.shinri_core.proofs.Memory.Searching.{Searched, search_first, search_next}
+use Rattle.shinri_core.proofs.Kit.{rules, ne_eqb}
+use Rattle.shinri_core.proofs.Memory.Searching.{search_first, search_next}
 use Rattle.session.proofs.Memory.Splitting.{found_here, found_none}
 use Rattle.session.proofs.reader.first_byte.Goals as goal
 

@@ -1,7 +1,6 @@
 -- The byte is at no place from the start up to i.
-use Rattle.shinri_core.proofs.Kit.{rules, ◌-◌, ne_eqb, length, get_or, eqb}
-use Rattle.shinri_core.proofs.Memory.Searching.{Searched, search_first, search_next}
-use Rattle.session.proofs.Memory.Splitting.{found_here, found_none}
+use Rattle.shinri_core.proofs.Kit.{◌-◌, length, get_or, eqb}
+use Rattle.shinri_core.proofs.Memory.Searching.{Searched}
 use Rattle.session.proofs.reader.first_byte.Given as goal
 
 abbrev pub invariant-loop-i : goal.invariant-loop-i

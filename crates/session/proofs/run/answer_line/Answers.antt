@@ -1,5 +1,4 @@
 -- Straight.
-use Rattle.shinri_core.proofs.Kit.{rules}
 use Rattle.session.proofs.Memory.Running.{answered_by}
 use Rattle.session.proofs.run.answer_line.Goals as goal
 

@@ -1,5 +1,5 @@
 -- By the length of the answer line.
-use Rattle.shinri_core.proofs.Kit.{refl, arith, rules}
+use Rattle.shinri_core.proofs.Kit.{refl, arith}
 use Rattle.session.proofs.run.put_answer.Goals as goal
 
 pub overflow_sub-output : goal.overflow_sub-output

@@ -1,7 +1,6 @@
-use Rattle.shinri_core.proofs.Kit.{◌-◌, ◌≡◌, refl, ◌∙◌, arith, rules, length}
-use Rattle.session.specs.Memory.Sessions.{beside}
+use Rattle.shinri_core.proofs.Kit.{refl, ◌∙◌, arith}
 use Rattle.session.proofs.Memory.Printing.{written_length}
-use Rattle.session.proofs.Memory.Running.{Running, written_within, run_first, run_next, run_full, run_complete}
+use Rattle.session.proofs.Memory.Running.{written_within, run_first, run_next, run_full, run_complete}
 use Rattle.session.proofs.run.run_lines.Goals as goal
 
 pub loop-at-init : goal.loop-at-init

@@ -1,8 +1,7 @@
 -- The definition goes on from the present session with the lines from `at` on, behind the bytes written so far.
-use Rattle.shinri_core.proofs.Kit.{◌-◌, ◌≡◌, refl, ◌∙◌, arith, rules, length}
+use Rattle.shinri_core.proofs.Kit.{◌-◌, ◌≡◌, length}
 use Rattle.session.specs.Memory.Sessions.{beside}
-use Rattle.session.proofs.Memory.Printing.{written_length}
-use Rattle.session.proofs.Memory.Running.{Running, written_within, run_first, run_next, run_full, run_complete}
+use Rattle.session.proofs.Memory.Running.{Running}
 use Rattle.session.proofs.run.run_lines.Given as goal
 
 abbrev pub invariant-loop-at : goal.invariant-loop-at

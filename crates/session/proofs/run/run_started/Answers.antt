@@ -1,5 +1,5 @@
 -- Straight.
-use Rattle.shinri_core.proofs.Kit.{◌∙◌, rules}
+use Rattle.shinri_core.proofs.Kit.{◌∙◌}
 use Rattle.session.proofs.Memory.Running.{zeroed_all}
 use Rattle.session.proofs.run.run_started.Goals as goal
 

@@ -1,5 +1,4 @@
-use Rattle.shinri_core.proofs.Kit.{◌-◌, rules, length}
-use Rattle.session.proofs.Memory.Running.{Zeroing, zero_first, zero_next, zero_done}
+use Rattle.session.proofs.Memory.Running.{zero_first, zero_next, zero_done}
 use Rattle.session.proofs.run.zero.Goals as goal
 
 pub loop-i-init : goal.loop-i-init

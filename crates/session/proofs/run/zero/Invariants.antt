@@ -1,6 +1,6 @@
 -- The words below i are 0.
-use Rattle.shinri_core.proofs.Kit.{◌-◌, rules, length}
-use Rattle.session.proofs.Memory.Running.{Zeroing, zero_first, zero_next, zero_done}
+use Rattle.shinri_core.proofs.Kit.{◌-◌, length}
+use Rattle.session.proofs.Memory.Running.{Zeroing}
 use Rattle.session.proofs.run.zero.Given as goal
 
 abbrev pub invariant-loop-i : goal.invariant-loop-i

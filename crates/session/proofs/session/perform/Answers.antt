@@ -1,5 +1,5 @@
 -- By the command: what was promised of each kind.
-use Rattle.shinri_core.proofs.Kit.{rules, ap, arith}
+use Rattle.shinri_core.proofs.Kit.{ap, arith}
 use Rattle.session.specs.declared.line.Command.{Command}
 use Rattle.session.specs.Memory.Commands.{command_meaning}
 use Rattle.session.proofs.Memory.Performing.{few_behind, ctor_room, ctor_read, fun_room, fun_read, term_room, term_read, levels_sound, by_none, by_core, by_engine, by_solver, by_equate, by_assert, by_levels, by_close, by_check}

@@ -1,5 +1,4 @@
 -- The line is read, and what was read is answered.
-use Rattle.shinri_core.proofs.Kit.{rules}
 use Rattle.session.proofs.Memory.Performing.{performable, steps}
 use Rattle.session.proofs.session.step.Goals as goal
 

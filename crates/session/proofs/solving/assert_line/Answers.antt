@@ -1,5 +1,5 @@
 -- The questions in order.
-use Rattle.shinri_core.proofs.Kit.{rules, ap, not}
+use Rattle.shinri_core.proofs.Kit.{ap, not}
 use Rattle.session.proofs.Memory.Solving.{assert_early, assert_missing, assert_may, assert_done}
 use Rattle.session.proofs.solving.assert_line.Goals as goal
 

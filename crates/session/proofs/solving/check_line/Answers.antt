@@ -1,5 +1,4 @@
 -- The questions in order.
-use Rattle.shinri_core.proofs.Kit.{rules}
 use Rattle.session.proofs.Memory.Solving.{check_early, check_done}
 use Rattle.session.proofs.solving.check_line.Goals as goal
 

@@ -1,5 +1,5 @@
 -- The questions in order.
-use Rattle.shinri_core.proofs.Kit.{rules, ap, not}
+use Rattle.shinri_core.proofs.Kit.{ap, not}
 use Rattle.session.proofs.Memory.Solving.{differ_named, differ_may, differ_early, differ_missing, differ_other, differ_done}
 use Rattle.session.proofs.solving.differ_line.Goals as goal
 

@@ -1,5 +1,5 @@
 -- The questions in order.
-use Rattle.shinri_core.proofs.Kit.{rules, ap, not}
+use Rattle.shinri_core.proofs.Kit.{ap, not}
 use Rattle.session.proofs.Memory.Solving.{var_early, var_missing, var_disagrees, var_again, var_registered, var_term, var_may, var_collecting}
 use Rattle.session.proofs.solving.var_line.Goals as goal
 

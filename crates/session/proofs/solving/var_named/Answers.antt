@@ -1,5 +1,4 @@
 -- Straight.
-use Rattle.shinri_core.proofs.Kit.{rules}
 use Rattle.session.proofs.Memory.Solving.{var_high, var_low}
 use Rattle.session.proofs.solving.var_named.Goals as goal
 

@@ -1,5 +1,4 @@
-use Rattle.shinri_core.proofs.Kit.{suc, ◌+◌, ◌≡◌, ap, arith, length}
-use Rattle.session.specs.Text.{decimal}
+use Rattle.shinri_core.proofs.Kit.{ap, arith, length}
 use Rattle.session.proofs.Memory.Digits.{decimal_digit, digits_length, decimal_short}
 use Rattle.session.proofs.text.decimal_length.Goals as goal
 

@@ -1,7 +1,6 @@
 -- What is counted and the digits of the rest are one more than all.
-use Rattle.shinri_core.proofs.Kit.{suc, ◌+◌, ◌≡◌, ap, arith, length}
+use Rattle.shinri_core.proofs.Kit.{suc, ◌+◌, ◌≡◌, length}
 use Rattle.session.specs.Text.{decimal}
-use Rattle.session.proofs.Memory.Digits.{decimal_digit, digits_length, decimal_short}
 use Rattle.session.proofs.text.decimal_length.Given as goal
 
 abbrev pub invariant-loop-rest : goal.invariant-loop-rest

@@ -1,5 +1,5 @@
-use Rattle.shinri_core.proofs.Kit.{◌∙◌, length-set, arith, rules}
-use Rattle.session.proofs.Memory.Backward.{decimal_some, Backward, back_length, back_first, back_inside, back_below, back_next, back_done}
+use Rattle.shinri_core.proofs.Kit.{◌∙◌, length-set, arith}
+use Rattle.session.proofs.Memory.Backward.{decimal_some, back_length, back_first, back_inside, back_below, back_next, back_done}
 use Rattle.session.proofs.text.write_decimal.Goals as goal
 
 pub overflow_add-end : goal.overflow_add-end

@@ -1,6 +1,5 @@
 -- The digits behind place i stand; those of the rest end there.
-use Rattle.shinri_core.proofs.Kit.{◌∙◌, length-set, arith, rules}
-use Rattle.session.proofs.Memory.Backward.{decimal_some, Backward, back_length, back_first, back_inside, back_below, back_next, back_done}
+use Rattle.session.proofs.Memory.Backward.{Backward}
 use Rattle.session.proofs.text.write_decimal.Given as goal
 
 abbrev pub invariant-loop-rest : goal.invariant-loop-rest

@@ -1,6 +1,6 @@
 -- The bytes below i are copied, and copying the others gives the whole copy.
-use Rattle.shinri_core.proofs.Kit.{◌-◌, rules, length}
-use Rattle.shinri_core.proofs.Lists.{Copying, copy_first, copy_next, copy_done}
+use Rattle.shinri_core.proofs.Kit.{◌-◌, length}
+use Rattle.shinri_core.proofs.Lists.{Copying}
 use Rattle.session.proofs.text.write_text.Given as goal
 
 abbrev pub invariant-loop-i : goal.invariant-loop-i

@@ -1,5 +1,5 @@
-use Rattle.shinri_core.proofs.Kit.{rules, ◌-◌, arith, length}
-use Rattle.shinri_core.proofs.Memory.Declarations.{Selecting, select_first, selector_room, select_next, select_done}
+use Rattle.shinri_core.proofs.Kit.{arith}
+use Rattle.shinri_core.proofs.Memory.Declarations.{select_first, selector_room, select_next, select_done}
 use Rattle.shinri_core.proofs.context.add_selectors.Goals as goal
 
 pub loop-i-init : goal.loop-i-init

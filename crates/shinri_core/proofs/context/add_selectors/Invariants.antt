@@ -1,6 +1,6 @@
 -- The selectors below i stand at the end of the symbols.
-use Rattle.shinri_core.proofs.Kit.{rules, ◌-◌, arith, length}
-use Rattle.shinri_core.proofs.Memory.Declarations.{Selecting, select_first, selector_room, select_next, select_done}
+use Rattle.shinri_core.proofs.Kit.{◌-◌, length}
+use Rattle.shinri_core.proofs.Memory.Declarations.{Selecting}
 use Rattle.shinri_core.proofs.context.add_selectors.Given as goal
 
 abbrev pub invariant-loop-i : goal.invariant-loop-i

@@ -1,5 +1,4 @@
 -- Its parameter sorts in four words, then the rest of its words.
-use Rattle.shinri_core.proofs.Kit.{rules}
 use Rattle.shinri_core.proofs.Memory.Declarations.{add_symbol}
 use Rattle.shinri_core.proofs.context.add_symbol.Goals as goal
 

@@ -1,6 +1,6 @@
-use Rattle.shinri_core.proofs.Kit.{rules, ◌-◌}
-use Rattle.shinri_core.proofs.Memory.Searching.{Searched, search_first}
-use Rattle.shinri_core.proofs.Memory.Constructors.{Unready, sort_ready, one_unready, sorts_ready}
+use Rattle.shinri_core.proofs.Kit.{rules}
+use Rattle.shinri_core.proofs.Memory.Searching.{search_first}
+use Rattle.shinri_core.proofs.Memory.Constructors.{sort_ready, one_unready, sorts_ready}
 use Rattle.shinri_core.proofs.context.all_found.Goals as goal
 
 pub loop-s-init : goal.loop-s-init

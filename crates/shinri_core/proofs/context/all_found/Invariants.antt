@@ -1,7 +1,7 @@
 -- The sorts below s are ready.
-use Rattle.shinri_core.proofs.Kit.{rules, ◌-◌}
-use Rattle.shinri_core.proofs.Memory.Searching.{Searched, search_first}
-use Rattle.shinri_core.proofs.Memory.Constructors.{Unready, sort_ready, one_unready, sorts_ready}
+use Rattle.shinri_core.proofs.Kit.{◌-◌}
+use Rattle.shinri_core.proofs.Memory.Searching.{Searched}
+use Rattle.shinri_core.proofs.Memory.Constructors.{Unready}
 use Rattle.shinri_core.proofs.context.all_found.Given as goal
 
 abbrev pub invariant-loop-s : goal.invariant-loop-s

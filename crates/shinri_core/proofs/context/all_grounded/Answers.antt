@@ -1,5 +1,5 @@
 use Rattle.shinri_core.proofs.Kit.{rules, sym}
-use Rattle.shinri_core.proofs.Memory.Rounds.{Finding, rounds_left, finding_first, finding_next, fewer_left, finding_done}
+use Rattle.shinri_core.proofs.Memory.Rounds.{finding_first, finding_next, fewer_left, finding_done}
 use Rattle.shinri_core.proofs.context.all_grounded.Goals as goal
 
 pub loop-more-init : goal.loop-more-init

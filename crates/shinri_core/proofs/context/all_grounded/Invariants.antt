@@ -1,6 +1,5 @@
 -- Marked are inhabited datatypes; after a round that adds none they are all marked.
-use Rattle.shinri_core.proofs.Kit.{rules, sym}
-use Rattle.shinri_core.proofs.Memory.Rounds.{Finding, rounds_left, finding_first, finding_next, fewer_left, finding_done}
+use Rattle.shinri_core.proofs.Memory.Rounds.{Finding, rounds_left}
 use Rattle.shinri_core.proofs.context.all_grounded.Given as goal
 
 abbrev pub invariant-loop-more : goal.invariant-loop-more

@@ -1,5 +1,4 @@
 -- Its place in the index, its arguments at the end of the pool, then the rest of its words.
-use Rattle.shinri_core.proofs.Kit.{rules}
 use Rattle.shinri_core.proofs.Memory.Terms.{append}
 use Rattle.shinri_core.proofs.context.append_term.Goals as goal
 

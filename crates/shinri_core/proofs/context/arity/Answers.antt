@@ -1,5 +1,4 @@
 -- Straight.
-use Rattle.shinri_core.proofs.Kit.{rules}
 use Rattle.shinri_core.proofs.Memory.Views.{arity_at}
 use Rattle.shinri_core.proofs.context.arity.Goals as goal
 

@@ -1,5 +1,4 @@
 -- A constructor belongs to itself.
-use Rattle.shinri_core.proofs.Kit.{rules}
 use Rattle.shinri_core.proofs.Memory.Constructors.{not_constructor, builds_by_result}
 use Rattle.shinri_core.proofs.context.builds.Goals as goal
 

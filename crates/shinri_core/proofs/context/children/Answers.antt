@@ -1,5 +1,4 @@
 -- The arguments of a term are a part of the pool.
-use Rattle.shinri_core.proofs.Kit.{rules}
 use Rattle.shinri_core.proofs.Memory.Views.{part_ordered, part_within, part_is}
 use Rattle.shinri_core.proofs.context.children.Goals as goal
 

@@ -1,5 +1,4 @@
 -- Of an empty table nothing but the counts, Bool, the first offset and the buckets is read.
-use Rattle.shinri_core.proofs.Kit.{rules}
 use Rattle.shinri_core.proofs.Memory.Declarations.{cleared}
 use Rattle.shinri_core.proofs.context.clear.Goals as goal
 

@@ -1,6 +1,4 @@
-use Rattle.shinri_core.proofs.Kit.{rules, ◌-◌}
-use Rattle.shinri_core.specs.Memory.Table.{buckets}
-use Rattle.shinri_core.proofs.Memory.Declarations.{Clearing, clear_first, clear_next, clear_done}
+use Rattle.shinri_core.proofs.Memory.Declarations.{clear_first, clear_next, clear_done}
 use Rattle.shinri_core.proofs.context.clear_buckets.Goals as goal
 
 pub loop-h-init : goal.loop-h-init

@@ -1,7 +1,7 @@
 -- The buckets below h are cleared.
-use Rattle.shinri_core.proofs.Kit.{rules, ◌-◌}
+use Rattle.shinri_core.proofs.Kit.{◌-◌}
 use Rattle.shinri_core.specs.Memory.Table.{buckets}
-use Rattle.shinri_core.proofs.Memory.Declarations.{Clearing, clear_first, clear_next, clear_done}
+use Rattle.shinri_core.proofs.Memory.Declarations.{Clearing}
 use Rattle.shinri_core.proofs.context.clear_buckets.Given as goal
 
 abbrev pub invariant-loop-h : goal.invariant-loop-h

@@ -1,6 +1,5 @@
-use Rattle.shinri_core.proofs.Kit.{rules, ◌-◌, length}
 use Rattle.shinri_core.specs.Memory.Words.{put_all}
-use Rattle.shinri_core.proofs.Lists.{Copying, copy_first, copy_next, copy_done}
+use Rattle.shinri_core.proofs.Lists.{copy_first, copy_next, copy_done}
 use Rattle.shinri_core.proofs.context.copy_words.Goals as goal
 
 pub loop-i-init : goal.loop-i-init

@@ -1,7 +1,6 @@
 -- The words below i are copied, and copying the others gives the whole copy.
-use Rattle.shinri_core.proofs.Kit.{rules, ◌-◌, length}
-use Rattle.shinri_core.specs.Memory.Words.{put_all}
-use Rattle.shinri_core.proofs.Lists.{Copying, copy_first, copy_next, copy_done}
+use Rattle.shinri_core.proofs.Kit.{◌-◌, length}
+use Rattle.shinri_core.proofs.Lists.{Copying}
 use Rattle.shinri_core.proofs.context.copy_words.Given as goal
 
 abbrev pub invariant-loop-i : goal.invariant-loop-i

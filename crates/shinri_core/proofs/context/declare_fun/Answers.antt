@@ -1,5 +1,4 @@
 -- Straight.
-use Rattle.shinri_core.proofs.Kit.{rules}
 use Rattle.shinri_core.proofs.Memory.Declarations.{no_function, function_room, function_added}
 use Rattle.shinri_core.proofs.context.declare_fun.Goals as goal
 

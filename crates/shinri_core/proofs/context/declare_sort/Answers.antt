@@ -1,5 +1,4 @@
 -- Straight.
-use Rattle.shinri_core.proofs.Kit.{rules}
 use Rattle.shinri_core.proofs.Memory.Declarations.{no_more_sorts, sort_declared}
 use Rattle.shinri_core.proofs.context.declare_sort.Goals as goal
 

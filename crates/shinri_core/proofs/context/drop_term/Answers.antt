@@ -1,5 +1,5 @@
 -- Its bucket begins again with the term before it.
-use Rattle.shinri_core.proofs.Kit.{rules, arith}
+use Rattle.shinri_core.proofs.Kit.{arith}
 use Rattle.shinri_core.proofs.Memory.Views.{stored_bucket}
 use Rattle.shinri_core.proofs.Memory.Declarations.{last_code, dropped}
 use Rattle.shinri_core.proofs.context.drop_term.Goals as goal

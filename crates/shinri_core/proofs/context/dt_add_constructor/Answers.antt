@@ -1,5 +1,5 @@
 -- Its symbols one after the other: itself, its tester, its selectors.
-use Rattle.shinri_core.proofs.Kit.{arith, rules}
+use Rattle.shinri_core.proofs.Kit.{arith}
 use Rattle.shinri_core.proofs.Memory.Declarations.{no_constructor, constructor_room, tester_room, selectors_room, constructor_added}
 use Rattle.shinri_core.proofs.context.dt_add_constructor.Goals as goal
 

@@ -1,5 +1,4 @@
 -- A symbol belongs to a constructor before it.
-use Rattle.shinri_core.proofs.Kit.{rules}
 use Rattle.shinri_core.proofs.Memory.Views.{owner_at, role_at}
 use Rattle.shinri_core.proofs.context.dt_role.Goals as goal
 

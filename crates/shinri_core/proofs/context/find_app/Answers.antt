@@ -1,5 +1,5 @@
 use Rattle.shinri_core.proofs.Kit.{rules}
-use Rattle.shinri_core.proofs.Memory.Terms.{Walking, walk_first, walk_next, walk_less, walk_found, walk_missing}
+use Rattle.shinri_core.proofs.Memory.Terms.{walk_first, walk_next, walk_less, walk_found, walk_missing}
 use Rattle.shinri_core.proofs.context.find_app.Goals as goal
 
 pub loop-k-init : goal.loop-k-init

@@ -1,6 +1,5 @@
 -- The terms of the bucket from k on do not fit; each stands there once, so the one that fits is the lowest.
-use Rattle.shinri_core.proofs.Kit.{rules}
-use Rattle.shinri_core.proofs.Memory.Terms.{Walking, walk_first, walk_next, walk_less, walk_found, walk_missing}
+use Rattle.shinri_core.proofs.Memory.Terms.{Walking}
 use Rattle.shinri_core.proofs.context.find_app.Given as goal
 
 abbrev pub invariant-loop-k : goal.invariant-loop-k

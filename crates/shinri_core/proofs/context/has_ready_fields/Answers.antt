@@ -1,6 +1,6 @@
-use Rattle.shinri_core.proofs.Kit.{rules, ◌-◌}
-use Rattle.shinri_core.proofs.Memory.Searching.{Searched, search_first}
-use Rattle.shinri_core.proofs.Memory.Constructors.{UnreadyField, field_ready, field_unready, fields_ready}
+use Rattle.shinri_core.proofs.Kit.{rules}
+use Rattle.shinri_core.proofs.Memory.Searching.{search_first}
+use Rattle.shinri_core.proofs.Memory.Constructors.{field_ready, field_unready, fields_ready}
 use Rattle.shinri_core.proofs.context.has_ready_fields.Goals as goal
 
 pub loop-i-init : goal.loop-i-init

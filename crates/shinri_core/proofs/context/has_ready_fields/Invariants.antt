@@ -1,7 +1,7 @@
 -- The fields below i are ready.
-use Rattle.shinri_core.proofs.Kit.{rules, ◌-◌}
-use Rattle.shinri_core.proofs.Memory.Searching.{Searched, search_first}
-use Rattle.shinri_core.proofs.Memory.Constructors.{UnreadyField, field_ready, field_unready, fields_ready}
+use Rattle.shinri_core.proofs.Kit.{◌-◌}
+use Rattle.shinri_core.proofs.Memory.Searching.{Searched}
+use Rattle.shinri_core.proofs.Memory.Constructors.{UnreadyField}
 use Rattle.shinri_core.proofs.context.has_ready_fields.Given as goal
 
 abbrev pub invariant-loop-i : goal.invariant-loop-i

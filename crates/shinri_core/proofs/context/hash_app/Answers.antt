@@ -1,5 +1,5 @@
-use Rattle.shinri_core.proofs.Kit.{rules, ◌-◌, refl, arith, length}
-use Rattle.shinri_core.proofs.Memory.Index.{Hashing, hash_next, hash_done}
+use Rattle.shinri_core.proofs.Kit.{rules, refl, arith}
+use Rattle.shinri_core.proofs.Memory.Index.{hash_next, hash_done}
 use Rattle.shinri_core.proofs.context.hash_app.Goals as goal
 
 pub loop-i-init : goal.loop-i-init

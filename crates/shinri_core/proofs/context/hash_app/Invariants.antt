@@ -1,6 +1,6 @@
 -- The bucket of the arguments below i, with the others, is that of all.
-use Rattle.shinri_core.proofs.Kit.{rules, ◌-◌, refl, arith, length}
-use Rattle.shinri_core.proofs.Memory.Index.{Hashing, hash_next, hash_done}
+use Rattle.shinri_core.proofs.Kit.{◌-◌, length}
+use Rattle.shinri_core.proofs.Memory.Index.{Hashing}
 use Rattle.shinri_core.proofs.context.hash_app.Given as goal
 
 abbrev pub invariant-loop-i : goal.invariant-loop-i

@@ -1,5 +1,5 @@
 -- An old term, no room for one more or for its arguments, or a new one.
-use Rattle.shinri_core.proofs.Kit.{rules, arith}
+use Rattle.shinri_core.proofs.Kit.{arith}
 use Rattle.shinri_core.proofs.Memory.Terms.{made_old, no_more_terms, start_fits, no_more_places, appendable, made_new}
 use Rattle.shinri_core.proofs.context.intern.Goals as goal
 

@@ -1,5 +1,5 @@
 -- Straight.
-use Rattle.shinri_core.proofs.Kit.{rules, arith}
+use Rattle.shinri_core.proofs.Kit.{arith}
 use Rattle.shinri_core.proofs.Memory.Views.{datatype_word}
 use Rattle.shinri_core.proofs.context.is_datatype_sort.Goals as goal
 

@@ -1,5 +1,4 @@
 -- By the sort's word, and by its mark.
-use Rattle.shinri_core.proofs.Kit.{rules}
 use Rattle.shinri_core.proofs.Memory.Constructors.{other_ready, datatype_ready}
 use Rattle.shinri_core.proofs.context.is_ready.Goals as goal
 

@@ -1,5 +1,5 @@
 use Rattle.shinri_core.proofs.Kit.{rules, arith}
-use Rattle.shinri_core.proofs.Memory.Rounds.{Rounding, mark_fits, round_first, round_passes, round_adds, round_done}
+use Rattle.shinri_core.proofs.Memory.Rounds.{mark_fits, round_first, round_passes, round_adds, round_done}
 use Rattle.shinri_core.proofs.context.mark_round.Goals as goal
 use Rattle.shinri_core.proofs.context.mark_round.Goals.{then-adds, else-adds}
 

@@ -1,6 +1,6 @@
 -- The symbols below c were tried.
-use Rattle.shinri_core.proofs.Kit.{rules, ◌-◌, ⊎_elim, arith}
-use Rattle.shinri_core.proofs.Memory.Rounds.{Rounding, mark_fits, round_first, round_passes, round_adds, round_done}
+use Rattle.shinri_core.proofs.Kit.{◌-◌}
+use Rattle.shinri_core.proofs.Memory.Rounds.{Rounding}
 use Rattle.shinri_core.proofs.context.mark_round.Given as goal
 
 abbrev pub invariant-loop-c : goal.invariant-loop-c

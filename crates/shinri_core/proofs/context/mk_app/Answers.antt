@@ -1,5 +1,4 @@
 -- The code of a symbol is one more than its number.
-use Rattle.shinri_core.proofs.Kit.{rules}
 use Rattle.shinri_core.proofs.Memory.Terms.{may_apply, symbol_code}
 use Rattle.shinri_core.proofs.context.mk_app.Goals as goal
 

@@ -1,5 +1,4 @@
 -- The code of an equation is 0.
-use Rattle.shinri_core.proofs.Kit.{rules}
 use Rattle.shinri_core.proofs.Memory.Terms.{may_equate, eq_code}
 use Rattle.shinri_core.proofs.context.mk_eq.Goals as goal
 

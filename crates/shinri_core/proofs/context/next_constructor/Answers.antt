@@ -1,7 +1,5 @@
-use Rattle.shinri_core.proofs.Kit.{rules, ◌-◌}
-use Rattle.shinri_core.specs.Context.{builds}
-use Rattle.shinri_core.specs.Memory.Table.{context}
-use Rattle.shinri_core.proofs.Memory.Searching.{Searched, search_first}
+use Rattle.shinri_core.proofs.Kit.{rules}
+use Rattle.shinri_core.proofs.Memory.Searching.{search_first}
 use Rattle.shinri_core.proofs.Memory.Constructors.{seek_found, seek_next, seek_none}
 use Rattle.shinri_core.proofs.context.next_constructor.Goals as goal
 

@@ -1,9 +1,8 @@
 -- The symbols below s are no constructors of the datatype.
-use Rattle.shinri_core.proofs.Kit.{rules, ◌-◌}
+use Rattle.shinri_core.proofs.Kit.{◌-◌}
 use Rattle.shinri_core.specs.Context.{builds}
 use Rattle.shinri_core.specs.Memory.Table.{context}
-use Rattle.shinri_core.proofs.Memory.Searching.{Searched, search_first}
-use Rattle.shinri_core.proofs.Memory.Constructors.{seek_found, seek_next, seek_none}
+use Rattle.shinri_core.proofs.Memory.Searching.{Searched}
 use Rattle.shinri_core.proofs.context.next_constructor.Given as goal
 
 abbrev pub invariant-loop-s : goal.invariant-loop-s

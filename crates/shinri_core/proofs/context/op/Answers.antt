@@ -1,5 +1,4 @@
 -- An operation is as declared as its term.
-use Rattle.shinri_core.proofs.Kit.{rules}
 use Rattle.shinri_core.proofs.Memory.Views.{op_at}
 use Rattle.shinri_core.proofs.context.op.Goals as goal
 

@@ -1,5 +1,5 @@
 -- Straight.
-use Rattle.shinri_core.proofs.Kit.{rules, arith}
+use Rattle.shinri_core.proofs.Kit.{arith}
 use Rattle.shinri_core.specs.Memory.Table.{packed}
 use Rattle.shinri_core.proofs.context.pack.Goals as goal
 

@@ -1,5 +1,5 @@
 -- By the words of the table.
-use Rattle.shinri_core.proofs.Kit.{rules, ◌∙◌, arith}
+use Rattle.shinri_core.proofs.Kit.{◌∙◌, arith}
 use Rattle.shinri_core.proofs.Memory.Views.{param_word, param_is}
 use Rattle.shinri_core.proofs.context.param.Goals as goal
 

@@ -1,5 +1,5 @@
 -- Word i / 4 of a symbol holds its parameter i as digit i % 4.
-use Rattle.shinri_core.proofs.Kit.{rules, ◌∙◌, ap, arith, ◌%◌}
+use Rattle.shinri_core.proofs.Kit.{◌∙◌, ap, arith, ◌%◌}
 use Rattle.shinri_core.specs.Memory.Table.{digit, param_at}
 use Rattle.shinri_core.proofs.context.param_sort.Goals as goal
 

@@ -1,5 +1,5 @@
 -- The pool ends where the next arguments would begin.
-use Rattle.shinri_core.proofs.Kit.{rules, ◌∙◌, ap, sym, arith}
+use Rattle.shinri_core.proofs.Kit.{◌∙◌, ap, sym, arith}
 use Rattle.shinri_core.specs.Memory.Words.{at}
 use Rattle.shinri_core.specs.Memory.Table.{OFFSET}
 use Rattle.shinri_core.proofs.Memory.Terms.{places_are}

@@ -1,5 +1,4 @@
 -- Straight.
-use Rattle.shinri_core.proofs.Kit.{rules}
 use Rattle.shinri_core.proofs.Memory.Views.{result_at}
 use Rattle.shinri_core.proofs.context.result_sort.Goals as goal
 

@@ -1,6 +1,6 @@
-use Rattle.shinri_core.proofs.Kit.{rules, ◌-◌, arith, length}
-use Rattle.shinri_core.proofs.Memory.Searching.{Searched, search_first}
-use Rattle.shinri_core.proofs.Memory.Terms.{ArgDiffers, arg_next, args_same, args_differ}
+use Rattle.shinri_core.proofs.Kit.{rules, arith}
+use Rattle.shinri_core.proofs.Memory.Searching.{search_first}
+use Rattle.shinri_core.proofs.Memory.Terms.{arg_next, args_same, args_differ}
 use Rattle.shinri_core.proofs.context.same_args.Goals as goal
 
 pub loop-i-init : goal.loop-i-init

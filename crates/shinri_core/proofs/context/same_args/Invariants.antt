@@ -1,7 +1,7 @@
 -- The arguments below i are the words there.
-use Rattle.shinri_core.proofs.Kit.{rules, ◌-◌, arith, length}
-use Rattle.shinri_core.proofs.Memory.Searching.{Searched, search_first}
-use Rattle.shinri_core.proofs.Memory.Terms.{ArgDiffers, arg_next, args_same, args_differ}
+use Rattle.shinri_core.proofs.Kit.{◌-◌, length}
+use Rattle.shinri_core.proofs.Memory.Searching.{Searched}
+use Rattle.shinri_core.proofs.Memory.Terms.{ArgDiffers}
 use Rattle.shinri_core.proofs.context.same_args.Given as goal
 
 abbrev pub invariant-loop-i : goal.invariant-loop-i

@@ -1,5 +1,5 @@
 use Rattle.shinri_core.proofs.Kit.{rules}
-use Rattle.shinri_core.proofs.Memory.Declarations.{Dropping, drop_first, drop_next, drop_done}
+use Rattle.shinri_core.proofs.Memory.Declarations.{drop_first, drop_next, drop_done}
 use Rattle.shinri_core.proofs.context.truncate.Goals as goal
 
 pub loop-i-init : goal.loop-i-init

@@ -1,6 +1,5 @@
 -- The terms from i on are taken back.
-use Rattle.shinri_core.proofs.Kit.{rules}
-use Rattle.shinri_core.proofs.Memory.Declarations.{Dropping, drop_first, drop_next, drop_done}
+use Rattle.shinri_core.proofs.Memory.Declarations.{Dropping}
 use Rattle.shinri_core.proofs.context.truncate.Given as goal
 
 abbrev pub invariant-loop-i : goal.invariant-loop-i

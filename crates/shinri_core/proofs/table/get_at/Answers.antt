@@ -1,5 +1,5 @@
 -- A word of a slice of 32-bit words fits a word.
-use Rattle.shinri_core.proofs.Kit.{refl, ◌+◌, arith, rules}
+use Rattle.shinri_core.proofs.Kit.{refl, ◌+◌, arith}
 use Rattle.shinri_core.specs.Memory.Words.{at}
 use Rattle.shinri_core.proofs.table.get_at.Goals as goal
 

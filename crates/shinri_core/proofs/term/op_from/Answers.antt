@@ -1,5 +1,5 @@
 -- Straight.
-use Rattle.shinri_core.proofs.Kit.{arith, rules}
+use Rattle.shinri_core.proofs.Kit.{arith}
 use Rattle.shinri_core.specs.Memory.Codes.{op_meaning, OpBelow}
 use Rattle.shinri_core.proofs.Memory.Codes.{op_of_zero, op_of_pred}
 use Rattle.shinri_core.proofs.term.op_from.Goals as goal

@@ -1,5 +1,5 @@
 -- By the place of a symbol after its constructor.
-use Rattle.shinri_core.proofs.Kit.{suc, rules, ◌-◌, sym, arith}
+use Rattle.shinri_core.proofs.Kit.{suc, ◌-◌, sym, arith}
 use Rattle.shinri_core.specs.Memory.Table.{member_role}
 use Rattle.shinri_core.specs.Memory.Codes.{role_meaning, RoleBelow}
 use Rattle.shinri_core.proofs.Memory.Codes.{role_of_zero, role_of_member}

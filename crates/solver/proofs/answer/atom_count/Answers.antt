@@ -1,5 +1,4 @@
 -- Straight.
-use Rattle.shinri_core.proofs.Kit.{rules}
 use Rattle.solver.proofs.Memory.Splits.{atoms_counted}
 use Rattle.solver.proofs.answer.atom_count.Goals as goal
 

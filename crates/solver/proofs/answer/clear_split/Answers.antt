@@ -1,5 +1,4 @@
 -- Three stores.
-use Rattle.shinri_core.proofs.Kit.{rules}
 use Rattle.solver.proofs.Memory.Splits.{split_cleared}
 use Rattle.solver.proofs.answer.clear_split.Goals as goal
 

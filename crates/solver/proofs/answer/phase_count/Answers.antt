@@ -1,5 +1,4 @@
 -- Straight.
-use Rattle.shinri_core.proofs.Kit.{rules}
 use Rattle.solver.proofs.Memory.Splits.{phases_counted}
 use Rattle.solver.proofs.answer.phase_count.Goals as goal
 

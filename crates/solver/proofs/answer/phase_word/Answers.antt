@@ -1,5 +1,5 @@
 -- By the phase.
-use Rattle.shinri_core.proofs.Kit.{arith, rules}
+use Rattle.shinri_core.proofs.Kit.{arith}
 use Rattle.solver.specs.Memory.Answer.{phase_of, phase_meaning}
 use Rattle.solver.proofs.answer.phase_word.Goals as goal
 

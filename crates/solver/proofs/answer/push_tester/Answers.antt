@@ -1,5 +1,5 @@
 -- The atom and the phase each stand behind the last.
-use Rattle.shinri_core.proofs.Kit.{arith, rules}
+use Rattle.shinri_core.proofs.Kit.{arith}
 use Rattle.solver.proofs.Memory.Splits.{phase_room, tester_pushed}
 use Rattle.solver.proofs.answer.push_tester.Goals as goal
 

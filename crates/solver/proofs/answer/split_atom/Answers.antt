@@ -1,5 +1,5 @@
 -- Straight.
-use Rattle.shinri_core.proofs.Kit.{arith, rules}
+use Rattle.shinri_core.proofs.Kit.{arith}
 use Rattle.solver.proofs.Memory.Splits.{atom_within, atom_is}
 use Rattle.solver.proofs.answer.split_atom.Goals as goal
 

@@ -1,5 +1,5 @@
 -- By whether there is a guard.
-use Rattle.shinri_core.proofs.Kit.{arith, rules}
+use Rattle.shinri_core.proofs.Kit.{arith}
 use Rattle.solver.proofs.Memory.Splits.{no_guard, a_guard}
 use Rattle.solver.proofs.answer.split_guard.Goals as goal
 

@@ -1,5 +1,4 @@
 -- By the guard.
-use Rattle.shinri_core.proofs.Kit.{rules}
 use Rattle.solver.specs.Memory.Answer.{guarded}
 use Rattle.solver.proofs.answer.write_guard.Goals as goal
 

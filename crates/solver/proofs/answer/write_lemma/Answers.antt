@@ -1,5 +1,4 @@
 -- Three stores and the guard.
-use Rattle.shinri_core.proofs.Kit.{rules}
 use Rattle.solver.proofs.Memory.Splits.{written}
 use Rattle.solver.proofs.answer.write_lemma.Goals as goal
 

@@ -1,5 +1,5 @@
 -- The comparison by the marks that the table lends, then the record.
-use Rattle.shinri_core.proofs.Kit.{rules, arith}
+use Rattle.shinri_core.proofs.Kit.{arith}
 use Rattle.solver.proofs.Memory.Asserting.{assert_asked, recordable, asserted}
 use Rattle.solver.proofs.asserting.assert_tester.Goals as goal
 

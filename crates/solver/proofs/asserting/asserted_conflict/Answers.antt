@@ -1,5 +1,5 @@
 -- By the sign.
-use Rattle.shinri_core.proofs.Kit.{true, false, rules}
+use Rattle.shinri_core.proofs.Kit.{true, false}
 use Rattle.solver.proofs.Memory.Asserting.{positive_asked, by_sign}
 use Rattle.solver.proofs.asserting.asserted_conflict.Goals as goal
 

@@ -1,5 +1,5 @@
 -- The next rule is tried if the first passes.
-use Rattle.shinri_core.proofs.Kit.{rules, arith, ap, not}
+use Rattle.shinri_core.proofs.Kit.{arith, ap, not}
 use Rattle.solver.specs.Rules.{constructor_clash}
 use Rattle.solver.specs.Memory.Checks.{from_tester_clash}
 use Rattle.solver.specs.Check.{before_ring}

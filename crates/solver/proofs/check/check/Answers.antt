@@ -1,5 +1,5 @@
 -- One that is not full; one that fits; one that does not, whose terms are given back.
-use Rattle.shinri_core.proofs.Kit.{rules, ap, not}
+use Rattle.shinri_core.proofs.Kit.{ap, not}
 use Rattle.solver.proofs.Memory.Checking.{check_idle, check_fits, check_left, check_cut}
 use Rattle.solver.proofs.check.check.Goals as goal
 

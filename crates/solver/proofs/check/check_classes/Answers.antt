@@ -1,5 +1,5 @@
 -- On a fresh work table; the marks are kept if the terms fit.
-use Rattle.shinri_core.proofs.Kit.{refl, rules, arith}
+use Rattle.shinri_core.proofs.Kit.{refl, arith}
 use Rattle.solver.specs.Memory.Work.{work_size}
 use Rattle.solver.proofs.Memory.Beginning.{fresh}
 use Rattle.solver.proofs.Memory.Checking.{classes_kept, classes_refused}

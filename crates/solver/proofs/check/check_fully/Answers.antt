@@ -1,6 +1,4 @@
 -- By whether a constructor application may be marked, and whether a tester was asserted.
-use Rattle.shinri_core.proofs.Kit.{rules}
-use borrow.Author.Tests.{not-true}
 use Rattle.solver.proofs.check.check_fully.Goals as goal
 
 pub check_watched-requires : goal.check_watched-requires

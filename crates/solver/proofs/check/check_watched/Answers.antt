@@ -1,5 +1,4 @@
 -- Unequal terms, then the watched ones.
-use Rattle.shinri_core.proofs.Kit.{rules}
 use Rattle.solver.proofs.Memory.Watching.{unequal_asked, split_asked, watched_stopped, watched_on}
 use Rattle.solver.proofs.check.check_watched.Goals as goal
 

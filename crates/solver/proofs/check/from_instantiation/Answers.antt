@@ -1,5 +1,5 @@
 -- The next rule is tried if the first passes.
-use Rattle.shinri_core.proofs.Kit.{rules, ap, not}
+use Rattle.shinri_core.proofs.Kit.{ap, not}
 use Rattle.solver.specs.Rules.{instantiate_constructor}
 use Rattle.solver.specs.Memory.Checks.{from_split}
 use Rattle.solver.proofs.Memory.Unfitting.{from_split_onward}

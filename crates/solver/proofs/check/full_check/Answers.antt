@@ -1,5 +1,5 @@
 -- The ring is walked if no rule before it answers.
-use Rattle.shinri_core.proofs.Kit.{rules, ap, not}
+use Rattle.shinri_core.proofs.Kit.{ap, not}
 use Rattle.solver.proofs.Memory.Checking.{fully_stopped, fully_walked}
 use Rattle.solver.proofs.check.full_check.Goals as goal
 

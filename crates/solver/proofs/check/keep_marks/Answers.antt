@@ -1,5 +1,5 @@
-use Rattle.shinri_core.proofs.Kit.{◌-◌, rules, arith}
-use Rattle.solver.proofs.Memory.Checking.{Copying, copying_first, copying_next, copying_same, copying_done}
+use Rattle.shinri_core.proofs.Kit.{arith}
+use Rattle.solver.proofs.Memory.Checking.{copying_first, copying_next, copying_same, copying_done}
 use Rattle.solver.proofs.check.keep_marks.Goals as goal
 use Rattle.solver.proofs.check.keep_marks.Goals.{then-get_at-kind, else-get_at-kind}
 

@@ -1,6 +1,6 @@
 -- The marks below x are copied.
-use Rattle.shinri_core.proofs.Kit.{◌-◌, rules, arith, ⊎_elim}
-use Rattle.solver.proofs.Memory.Checking.{Copying, copying_first, copying_next, copying_same, copying_done}
+use Rattle.shinri_core.proofs.Kit.{◌-◌}
+use Rattle.solver.proofs.Memory.Checking.{Copying}
 use Rattle.solver.proofs.check.keep_marks.Given as goal
 
 abbrev pub invariant-loop-x : goal.invariant-loop-x

@@ -1,5 +1,4 @@
 -- By what was found: no constructor application, one that agrees with the tester, one that does not.
-use Rattle.shinri_core.proofs.Kit.{rules}
 use Rattle.theory.proofs.Memory.Leaves.{first_asks}
 use Rattle.solver.proofs.Memory.Clashing.{none_found, tester_agrees, may_explain, tester_disagrees}
 use Rattle.solver.proofs.clashes.disagrees.Goals as goal

@@ -1,5 +1,4 @@
 -- By the sign of the entry's key.
-use Rattle.shinri_core.proofs.Kit.{rules}
 use Rattle.solver.proofs.Memory.Clashing.{entry_passed, entry_asked, entry_term, entry_small}
 use Rattle.solver.proofs.clashes.entry_conflict.Goals as goal
 

@@ -1,5 +1,4 @@
 -- By the mark, the symbol and the root.
-use Rattle.shinri_core.proofs.Kit.{rules}
 use Rattle.solver.proofs.Memory.Owning.{own_unmarked, own_other, own_root}
 use Rattle.solver.proofs.clashes.is_own.Goals as goal
 

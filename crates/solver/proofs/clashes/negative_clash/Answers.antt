@@ -1,5 +1,4 @@
 -- The record of negative testers.
-use Rattle.shinri_core.proofs.Kit.{rules}
 use Rattle.solver.proofs.Memory.Clashing.{lone_clash}
 use Rattle.solver.proofs.clashes.negative_clash.Goals as goal
 

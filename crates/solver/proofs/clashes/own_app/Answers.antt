@@ -1,5 +1,4 @@
 -- By the class's lowest application: none, one of its own constructor, or one of another.
-use Rattle.shinri_core.proofs.Kit.{rules}
 use Rattle.solver.proofs.Memory.Owning.{none_of_class, own_of_class}
 use Rattle.solver.proofs.clashes.own_app.Goals as goal
 

@@ -1,5 +1,5 @@
-use Rattle.shinri_core.proofs.Kit.{ℕ, ◌≡◌, ◌-◌, ap, ◌∙◌, inl, inr, [], ◌∷◌, rules, arith, length}
-use Rattle.solver.proofs.Memory.Clashing.{Clashing, clashing_first, clashing_next, clashing_found, clashing_asks, clashing_done}
+use Rattle.shinri_core.proofs.Kit.{◌∙◌, rules, arith}
+use Rattle.solver.proofs.Memory.Clashing.{clashing_first, clashing_next, clashing_found, clashing_asks, clashing_done}
 use Rattle.solver.proofs.clashes.record_clash.Goals as goal
 
 pub loop-i-init : goal.loop-i-init

@@ -1,9 +1,6 @@
 -- What the entries from i on give is what all of them give.
-use types.Run.{OneOf}
-use denote.Enum.Declared.{tag_of}
-use Rattle.shinri_core.proofs.Kit.{ℕ, ◌≡◌, ◌-◌, ap, ◌∙◌, inl, inr, [], ◌∷◌, rules, arith, length}
-use Rattle.solver.specs.contracts.answer.TCheck.{the_type}
-use Rattle.solver.proofs.Memory.Clashing.{Clashing, clashing_first, clashing_next, clashing_found, clashing_asks, clashing_done}
+use Rattle.shinri_core.proofs.Kit.{◌≡◌, ◌-◌, length}
+use Rattle.solver.proofs.Memory.Clashing.{Clashing}
 use Rattle.solver.proofs.clashes.record_clash.Given as goal
 
 abbrev pub invariant-loop-i : goal.invariant-loop-i

@@ -1,6 +1,5 @@
-use Rattle.shinri_core.proofs.Kit.{◌-◌, refl, rules, arith}
-use Rattle.shinri_core.proofs.Memory.Searching.{Searched, search_first}
-use Rattle.solver.specs.Memory.Testing.{own_at}
+use Rattle.shinri_core.proofs.Kit.{refl, arith}
+use Rattle.shinri_core.proofs.Memory.Searching.{search_first}
 use Rattle.solver.proofs.Memory.Owning.{own_asked, own_found, own_passed, own_missing}
 use Rattle.solver.proofs.clashes.search_own.Goals as goal
 

@@ -1,8 +1,7 @@
 -- No term below i passes.
-use Rattle.shinri_core.proofs.Kit.{◌-◌, refl, rules, arith}
-use Rattle.shinri_core.proofs.Memory.Searching.{Searched, search_first}
+use Rattle.shinri_core.proofs.Kit.{◌-◌}
+use Rattle.shinri_core.proofs.Memory.Searching.{Searched}
 use Rattle.solver.specs.Memory.Testing.{own_at}
-use Rattle.solver.proofs.Memory.Owning.{own_asked, own_found, own_passed, own_missing}
 use Rattle.solver.proofs.clashes.search_own.Given as goal
 
 abbrev pub invariant-loop-i : goal.invariant-loop-i

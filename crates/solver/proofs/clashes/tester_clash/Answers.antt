@@ -1,5 +1,4 @@
 -- The record of positive testers.
-use Rattle.shinri_core.proofs.Kit.{rules}
 use Rattle.solver.proofs.Memory.Clashing.{positive_clash}
 use Rattle.solver.proofs.clashes.tester_clash.Goals as goal
 

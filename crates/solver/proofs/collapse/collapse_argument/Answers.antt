@@ -1,5 +1,5 @@
 -- By the lowest application of the class.
-use Rattle.shinri_core.proofs.Kit.{rules, arith}
+use Rattle.shinri_core.proofs.Kit.{arith}
 use Rattle.solver.proofs.Memory.Blocks.{check_asked}
 use Rattle.solver.proofs.Memory.Once.{not_once, lowest_is}
 use Rattle.solver.proofs.collapse.collapse_argument.Goals as goal

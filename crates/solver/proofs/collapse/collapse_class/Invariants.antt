@@ -1,13 +1,8 @@
 -- Along the chain, what is left of the rule on the present tables is the whole rule.
-use Rattle.shinri_core.proofs.Kit.{rules, arith, refl, ◌≡◌, ◌<◌, ◌-◌, length, ◌∙◌}
-use Rattle.shinri_core.specs.Limits.{max_terms}
+use Rattle.shinri_core.proofs.Kit.{◌≡◌, length}
 use Rattle.solver.specs.Rules.{collapse_at}
 use Rattle.solver.specs.Memory.Collapse.{selection}
-use Rattle.solver.proofs.Memory.Unfitting.{collapse_at_onward}
-use Rattle.solver.proofs.Memory.Trying.{not_sat}
-use Rattle.solver.proofs.Memory.Blocks.{check_asked}
-use Rattle.solver.proofs.Memory.Chains.{Walking, chain_left, walk_first, walk_at, walk_next, walk_answer, walk_less, walk_done}
-use Rattle.solver.proofs.Memory.Collapsing.{collapse_others, walk_collapsible}
+use Rattle.solver.proofs.Memory.Chains.{Walking, chain_left}
 use Rattle.solver.proofs.collapse.collapse_class.Given as goal
 
 abbrev pub invariant-loop-k : goal.invariant-loop-k

@@ -1,6 +1,5 @@
 -- Where the flag is set the rule passes; else it is tried, and the flag is set if it passes.
-use Rattle.shinri_core.proofs.Kit.{rules, arith}
-use Rattle.solver.proofs.Memory.Trying.{not_sat}
+use Rattle.shinri_core.proofs.Kit.{arith}
 use Rattle.solver.proofs.Memory.Once.{flag_set, node, done_passes, done_now, done_answer}
 use Rattle.solver.proofs.collapse.collapse_flagged.Goals as goal
 

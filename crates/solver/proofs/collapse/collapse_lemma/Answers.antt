@@ -1,13 +1,11 @@
-use Rattle.shinri_core.proofs.Kit.{rules, arith, refl, ◌≡◌, ◌<◌, ◌-◌, ◌∙◌, length}
+use Rattle.shinri_core.proofs.Kit.{arith, refl, ◌<◌, ◌∙◌, length}
 use Rattle.shinri_core.specs.Limits.{max_terms}
 use Rattle.shinri_core.specs.Context.{sel_app}
 use Rattle.shinri_core.specs.Memory.Table.{context}
 use Rattle.solver.specs.Rules.{collapse_at}
-use Rattle.solver.specs.Memory.Collapse.{DoneSound}
 use Rattle.solver.proofs.Memory.Growing.{old_sel_app}
 use Rattle.solver.proofs.Memory.Unfitting.{collapse_at_onward}
-use Rattle.solver.proofs.Memory.Trying.{not_sat}
-use Rattle.solver.proofs.Memory.Chains.{Listing, list_first, list_within, list_next, list_answer, list_done, still_under}
+use Rattle.solver.proofs.Memory.Chains.{list_first, list_within, list_next, list_answer, list_done, still_under}
 use Rattle.solver.proofs.Memory.Collapsing.{collapse_is}
 use Rattle.solver.proofs.Memory.Once.{done_first}
 use Rattle.solver.proofs.collapse.collapse_lemma.Goals as goal

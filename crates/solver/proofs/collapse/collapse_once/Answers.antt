@@ -1,5 +1,5 @@
 -- The selector on the lowest application is what the rule makes first, so it may be made before.
-use Rattle.shinri_core.proofs.Kit.{rules, refl}
+use Rattle.shinri_core.proofs.Kit.{refl}
 use Rattle.solver.proofs.Memory.Once.{low_may, once_none, once_selected, once_some}
 use Rattle.solver.proofs.collapse.collapse_once.Goals as goal
 

@@ -1,5 +1,5 @@
 -- By the operation of the term and the role of its symbol.
-use Rattle.shinri_core.proofs.Kit.{rules, arith, ap, subst⁻¹, ◌<◌, ℕ, List, length, get_or}
+use Rattle.shinri_core.proofs.Kit.{arith, ap, subst⁻¹, ◌<◌, ℕ, List, length, get_or}
 use Rattle.shinri_core.proofs.Memory.Codes.{symbol_below}
 use Rattle.solver.specs.Rules.{collapse_at}
 use Rattle.solver.proofs.Memory.Collapsing.{sel_equation, sel_none, sel_argument, selector_on, selector_tried, tried_none}

@@ -1,5 +1,5 @@
 -- The mark tells a selector application from other terms.
-use Rattle.shinri_core.proofs.Kit.{rules, arith}
+use Rattle.shinri_core.proofs.Kit.{arith}
 use Rattle.solver.proofs.Memory.Collapsing.{sel_other, sel_marked}
 use Rattle.solver.proofs.collapse.collapse_term.Goals as goal
 

@@ -1,13 +1,11 @@
-use Rattle.shinri_core.proofs.Kit.{rules, arith, refl, ◌≡◌, ◌<◌, ◌-◌, ◌∙◌, length}
+use Rattle.shinri_core.proofs.Kit.{arith, refl, ◌<◌, ◌∙◌, length}
 use Rattle.shinri_core.specs.Limits.{max_terms}
 use Rattle.shinri_core.specs.Context.{tester_app}
 use Rattle.shinri_core.specs.Memory.Table.{context}
 use Rattle.solver.specs.Rules.{tester_lemma_at}
-use Rattle.solver.specs.Memory.Collapse.{TestsSound}
 use Rattle.solver.proofs.Memory.Growing.{old_tester_app}
 use Rattle.solver.proofs.Memory.Unfitting.{tester_lemma_at_onward}
-use Rattle.solver.proofs.Memory.Trying.{not_sat}
-use Rattle.solver.proofs.Memory.Chains.{Listing, list_first, list_within, list_next, list_answer, list_done, still_under}
+use Rattle.solver.proofs.Memory.Chains.{list_first, list_within, list_next, list_answer, list_done, still_under}
 use Rattle.solver.proofs.Memory.TesterLemmas.{tester_lemma_is}
 use Rattle.solver.proofs.Memory.TestsOnce.{tests_first}
 use Rattle.solver.proofs.collapse.tester_lemma.Goals as goal

@@ -1,16 +1,10 @@
 -- Ascending over the terms, what is left of the rule on the present tables is the whole rule; the flags are right.
-use Rattle.shinri_core.proofs.Kit.{rules, arith, refl, ◌≡◌, ◌<◌, ◌-◌, ◌∙◌, length}
+use Rattle.shinri_core.proofs.Kit.{◌≡◌, ◌-◌, length}
 use Rattle.shinri_core.specs.Limits.{max_terms}
 use Rattle.shinri_core.specs.Context.{tester_app}
-use Rattle.shinri_core.specs.Memory.Table.{context}
 use Rattle.solver.specs.Rules.{tester_lemma_at}
 use Rattle.solver.specs.Memory.Collapse.{TestsSound}
-use Rattle.solver.proofs.Memory.Growing.{old_tester_app}
-use Rattle.solver.proofs.Memory.Unfitting.{tester_lemma_at_onward}
-use Rattle.solver.proofs.Memory.Trying.{not_sat}
-use Rattle.solver.proofs.Memory.Chains.{Listing, list_first, list_within, list_next, list_answer, list_done, still_under}
-use Rattle.solver.proofs.Memory.TesterLemmas.{tester_lemma_is}
-use Rattle.solver.proofs.Memory.TestsOnce.{tests_first}
+use Rattle.solver.proofs.Memory.Chains.{Listing}
 use Rattle.solver.proofs.collapse.tester_lemma.Given as goal
 
 abbrev pub invariant-loop-x : goal.invariant-loop-x

@@ -1,6 +1,5 @@
 -- Where the flag names the tester the rule passes; else it is tried, and the flag is set if it passes.
-use Rattle.shinri_core.proofs.Kit.{rules, arith}
-use Rattle.solver.proofs.Memory.Trying.{not_sat}
+use Rattle.shinri_core.proofs.Kit.{arith}
 use Rattle.solver.proofs.Memory.TestsOnce.{tester_small, tests_pass, tests_now, tests_answer}
 use Rattle.solver.proofs.collapse.tester_lemma_once.Goals as goal
 

@@ -1,5 +1,5 @@
 -- The mark tells a tester application from other terms.
-use Rattle.shinri_core.proofs.Kit.{rules, arith}
+use Rattle.shinri_core.proofs.Kit.{arith}
 use Rattle.solver.proofs.Memory.TesterLemmas.{tester_other, tester_marked}
 use Rattle.solver.proofs.collapse.tester_lemma_term.Goals as goal
 

@@ -1,5 +1,4 @@
-use Rattle.shinri_core.proofs.Kit.{rules, ◌-◌}
-use Rattle.solver.proofs.Memory.ConstructorClash.{Scanning, scan_first, scan_asked, scan_next, scan_explains, scan_found, scan_missing}
+use Rattle.solver.proofs.Memory.ConstructorClash.{scan_first, scan_asked, scan_next, scan_explains, scan_found, scan_missing}
 use Rattle.solver.proofs.constructor_clash.constructor_clash.Goals as goal
 
 pub loop-p-init : goal.loop-p-init

@@ -1,6 +1,6 @@
 -- No application below p clashes with one behind it.
-use Rattle.shinri_core.proofs.Kit.{rules, ◌-◌}
-use Rattle.solver.proofs.Memory.ConstructorClash.{Scanning, scan_first, scan_asked, scan_next, scan_explains, scan_found, scan_missing}
+use Rattle.shinri_core.proofs.Kit.{◌-◌}
+use Rattle.solver.proofs.Memory.ConstructorClash.{Scanning}
 use Rattle.solver.proofs.constructor_clash.constructor_clash.Given as goal
 
 abbrev pub invariant-loop-p : goal.invariant-loop-p

@@ -1,6 +1,5 @@
-use Rattle.shinri_core.proofs.Kit.{rules, ◌+◌, ◌-◌, ◌%◌}
-use Rattle.shinri_core.specs.Limits.{max_terms}
-use Rattle.solver.proofs.Memory.ConstructorClash.{Walking, walk_first, walk_next, walk_less, walk_within, walk_place, walked_within, walk_found, walk_missing}
+use Rattle.shinri_core.proofs.Kit.{rules}
+use Rattle.solver.proofs.Memory.ConstructorClash.{walk_first, walk_next, walk_less, walk_within, walk_place, walked_within, walk_found, walk_missing}
 use Rattle.solver.proofs.constructor_clash.other_constructor.Goals as goal
 
 pub symbol_of-f-requires : goal.symbol_of-f-requires

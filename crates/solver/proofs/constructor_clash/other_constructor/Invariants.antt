@@ -1,7 +1,7 @@
 -- Along the class from p on, none passed has another constructor.
-use Rattle.shinri_core.proofs.Kit.{rules, ◌+◌, ◌-◌, ◌%◌}
+use Rattle.shinri_core.proofs.Kit.{◌+◌, ◌-◌, ◌%◌}
 use Rattle.shinri_core.specs.Limits.{max_terms}
-use Rattle.solver.proofs.Memory.ConstructorClash.{Walking, walk_first, walk_next, walk_less, walk_within, walk_place, walked_within, walk_found, walk_missing}
+use Rattle.solver.proofs.Memory.ConstructorClash.{Walking}
 use Rattle.solver.proofs.constructor_clash.other_constructor.Given as goal
 
 abbrev pub invariant-loop-k : goal.invariant-loop-k

@@ -1,5 +1,4 @@
 -- By the operation.
-use Rattle.shinri_core.proofs.Kit.{rules}
 use Rattle.solver.proofs.Memory.AppNumbers.{eq_symbol, app_symbol}
 use Rattle.solver.proofs.constructor_clash.symbol_of.Goals as goal
 

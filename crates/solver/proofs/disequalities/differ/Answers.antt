@@ -1,5 +1,5 @@
 -- An entry of the key that the variable gives.
-use Rattle.shinri_core.proofs.Kit.{◌∙◌, ap, rules}
+use Rattle.shinri_core.proofs.Kit.{◌∙◌, ap}
 use Rattle.theory.specs.Atom.{is_registered}
 use Rattle.solver.proofs.Memory.Disequalities.{unequal_recordable, differs}
 use Rattle.solver.proofs.disequalities.differ.Goals as goal

@@ -1,6 +1,5 @@
-use Rattle.shinri_core.proofs.Kit.{◌-◌, ◌≡◌, ◌∙◌, rules, arith, length}
-use Rattle.solver.proofs.Memory.Trying.{not_sat}
-use Rattle.solver.proofs.Memory.Disequalities.{Pairing, pairing_first, pairing_asks, pairing_next, pairing_found, pairing_done}
+use Rattle.shinri_core.proofs.Kit.{◌∙◌, rules, arith}
+use Rattle.solver.proofs.Memory.Disequalities.{pairing_first, pairing_asks, pairing_next, pairing_found, pairing_done}
 use Rattle.solver.proofs.disequalities.disequality_clash.Goals as goal
 
 pub loop-i-init : goal.loop-i-init

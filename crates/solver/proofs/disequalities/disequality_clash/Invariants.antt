@@ -1,7 +1,6 @@
 -- What the entries from i on give is what all of them give.
-use Rattle.shinri_core.proofs.Kit.{◌-◌, ◌≡◌, ◌∙◌, rules, arith, length}
-use Rattle.solver.proofs.Memory.Trying.{not_sat}
-use Rattle.solver.proofs.Memory.Disequalities.{Pairing, pairing_first, pairing_asks, pairing_next, pairing_found, pairing_done}
+use Rattle.shinri_core.proofs.Kit.{◌-◌, ◌≡◌, length}
+use Rattle.solver.proofs.Memory.Disequalities.{Pairing}
 use Rattle.solver.proofs.disequalities.disequality_clash.Given as goal
 
 abbrev pub invariant-loop-i : goal.invariant-loop-i

@@ -1,5 +1,5 @@
 -- By the key of the entry.
-use Rattle.shinri_core.proofs.Kit.{refl, rules}
+use Rattle.shinri_core.proofs.Kit.{refl}
 use Rattle.solver.proofs.Memory.Disequalities.{pair_passed, pair_small, pair_asks, pair_asked}
 use Rattle.solver.proofs.disequalities.pair_conflict.Goals as goal
 

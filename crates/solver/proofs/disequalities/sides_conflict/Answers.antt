@@ -1,5 +1,5 @@
 -- By whether the sides are equal.
-use Rattle.shinri_core.proofs.Kit.{rules, ap, not}
+use Rattle.shinri_core.proofs.Kit.{ap, not}
 use Rattle.theory.proofs.Memory.Leaves.{first_asks}
 use Rattle.solver.proofs.Memory.Disequalities.{first_there, second_there, two_nodes, sides_differ, sides_explain, sides_joined}
 use Rattle.solver.proofs.disequalities.sides_conflict.Goals as goal

@@ -1,5 +1,4 @@
 -- By what was found.
-use Rattle.shinri_core.proofs.Kit.{rules}
 use Rattle.solver.proofs.Memory.Splitting.{found_splittable, found_split, found_unknown, found_nothing}
 use Rattle.solver.proofs.exhaustiveness.answer_found.Goals as goal
 

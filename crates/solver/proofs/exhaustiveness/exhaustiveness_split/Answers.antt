@@ -1,5 +1,4 @@
 -- What the pass found, answered.
-use Rattle.shinri_core.proofs.Kit.{rules}
 use Rattle.solver.proofs.Memory.Splitting.{found_asked, found_tried}
 use Rattle.solver.proofs.exhaustiveness.exhaustiveness_split.Goals as goal
 

@@ -1,5 +1,5 @@
-use Rattle.shinri_core.proofs.Kit.{rules, ◌-◌}
-use Rattle.solver.proofs.Memory.Splitting.{Passing, pass_first, pass_by, pass_done, pass_split, pass_unknown, pass_nothing}
+use Rattle.shinri_core.proofs.Kit.{rules}
+use Rattle.solver.proofs.Memory.Splitting.{pass_first, pass_by, pass_done, pass_split, pass_unknown, pass_nothing}
 use Rattle.solver.proofs.exhaustiveness.has_undetermined_class.Goals as goal
 use Rattle.solver.proofs.exhaustiveness.has_undetermined_class.Goals.{then-is_undetermined+else-get_at-eq0, else-is_undetermined}
 

@@ -1,6 +1,6 @@
 -- What the definition makes of all watched terms is what it makes of those from x on.
-use Rattle.shinri_core.proofs.Kit.{rules, ◌-◌, ⊎_elim}
-use Rattle.solver.proofs.Memory.Splitting.{Passing, pass_first, pass_by, pass_done, pass_split, pass_unknown, pass_nothing}
+use Rattle.shinri_core.proofs.Kit.{◌-◌}
+use Rattle.solver.proofs.Memory.Splitting.{Passing}
 use Rattle.solver.proofs.exhaustiveness.has_undetermined_class.Given as goal
 
 abbrev pub invariant-loop-x : goal.invariant-loop-x

@@ -1,5 +1,4 @@
-use Rattle.shinri_core.proofs.Kit.{rules, ◌-◌}
-use Rattle.solver.proofs.Memory.Watching.{Watching, watch_first, watch_by, watch_done, watch_split, watch_unknown, watch_nothing}
+use Rattle.solver.proofs.Memory.Watching.{watch_first, watch_by, watch_done, watch_split, watch_unknown, watch_nothing}
 use Rattle.solver.proofs.exhaustiveness.has_watched_term.Goals as goal
 use Rattle.solver.proofs.exhaustiveness.has_watched_term.Goals.{then-is_watched+else-get_at-eq0, else-is_watched}
 

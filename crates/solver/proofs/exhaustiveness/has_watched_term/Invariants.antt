@@ -1,6 +1,6 @@
 -- The terms below x were passed.
-use Rattle.shinri_core.proofs.Kit.{rules, ◌-◌, ⊎_elim}
-use Rattle.solver.proofs.Memory.Watching.{Watching, watch_first, watch_by, watch_done, watch_split, watch_unknown, watch_nothing}
+use Rattle.shinri_core.proofs.Kit.{◌-◌}
+use Rattle.solver.proofs.Memory.Watching.{Watching}
 use Rattle.solver.proofs.exhaustiveness.has_watched_term.Given as goal
 
 abbrev pub invariant-loop-x : goal.invariant-loop-x

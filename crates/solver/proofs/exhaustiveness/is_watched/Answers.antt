@@ -1,5 +1,4 @@
 -- By the first of the two kinds.
-use Rattle.shinri_core.proofs.Kit.{rules}
 use Rattle.solver.proofs.Memory.Watching.{watched_selector, watched_function}
 use Rattle.solver.proofs.exhaustiveness.is_watched.Goals as goal
 

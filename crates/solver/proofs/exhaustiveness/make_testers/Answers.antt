@@ -1,6 +1,5 @@
-use Rattle.shinri_core.proofs.Kit.{rules, ◌-◌, ◌∙◌, not-false}
-use borrow.Author.Tests.{not-true}
-use Rattle.solver.proofs.Memory.Splitting.{Testing, test_first, testable, next_within, test_next, test_lacks, test_done}
+use Rattle.shinri_core.proofs.Kit.{◌∙◌}
+use Rattle.solver.proofs.Memory.Splitting.{test_first, testable, next_within, test_next, test_lacks, test_done}
 use Rattle.solver.proofs.exhaustiveness.make_testers.Goals as goal
 
 pub loop-f-init : goal.loop-f-init

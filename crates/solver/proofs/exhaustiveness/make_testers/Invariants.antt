@@ -1,7 +1,6 @@
 -- The testers of the constructors below f are made and listed.
-use Rattle.shinri_core.proofs.Kit.{rules, ◌-◌, ◌∙◌, not-false}
-use borrow.Author.Tests.{not-true}
-use Rattle.solver.proofs.Memory.Splitting.{Testing, test_first, testable, next_within, test_next, test_lacks, test_done}
+use Rattle.shinri_core.proofs.Kit.{◌-◌}
+use Rattle.solver.proofs.Memory.Splitting.{Testing}
 use Rattle.solver.proofs.exhaustiveness.make_testers.Given as goal
 
 abbrev pub invariant-loop-f : goal.invariant-loop-f

@@ -1,5 +1,4 @@
 -- By the number of fields.
-use Rattle.shinri_core.proofs.Kit.{rules}
 use Rattle.solver.specs.Memory.Answer.{phase_meaning}
 use Rattle.solver.proofs.Memory.Splitting.{phase_none, phase_some}
 use Rattle.solver.proofs.exhaustiveness.phase.Goals as goal

@@ -1,6 +1,4 @@
 -- By whether the testers fit.
-use Rattle.shinri_core.proofs.Kit.{rules, not-false}
-use borrow.Author.Tests.{not-true}
 use Rattle.solver.proofs.Memory.Splitting.{split_made, split_lacks}
 use Rattle.solver.proofs.exhaustiveness.split_on.Goals as goal
 

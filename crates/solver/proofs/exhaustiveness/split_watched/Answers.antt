@@ -1,5 +1,4 @@
 -- What the pass found, answered.
-use Rattle.shinri_core.proofs.Kit.{rules}
 use Rattle.solver.proofs.Memory.Watching.{watched_asked, watched_found}
 use Rattle.solver.proofs.exhaustiveness.split_watched.Goals as goal
 

@@ -1,5 +1,5 @@
 -- By the constructor of the class, which is that of its lowest application.
-use Rattle.shinri_core.proofs.Kit.{rules, arith}
+use Rattle.shinri_core.proofs.Kit.{arith}
 use Rattle.solver.proofs.Memory.Injecting.{cover_asked, cover_own, cover_by, not_covered}
 use Rattle.solver.proofs.injectivity.covered.Goals as goal
 

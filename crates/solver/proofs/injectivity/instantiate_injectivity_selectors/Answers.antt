@@ -1,6 +1,5 @@
-use borrow.Author.Tests.{not-true}
-use Rattle.shinri_core.proofs.Kit.{rules, ◌≡◌, ◌-◌, length, not-false}
-use Rattle.solver.proofs.Memory.Injecting.{Scan, scan_first, scan_asked, scan_next, scan_stop, scan_done}
+use Rattle.shinri_core.proofs.Kit.{rules}
+use Rattle.solver.proofs.Memory.Injecting.{scan_first, scan_asked, scan_next, scan_stop, scan_done}
 use Rattle.solver.proofs.injectivity.instantiate_injectivity_selectors.Goals as goal
 
 pub loop-p-init : goal.loop-p-init

@@ -1,7 +1,6 @@
 -- What is left are the pairs whose lower number is p or higher.
-use borrow.Author.Tests.{not-true}
-use Rattle.shinri_core.proofs.Kit.{rules, ◌≡◌, ◌-◌, length, not-false}
-use Rattle.solver.proofs.Memory.Injecting.{Scan, scan_first, scan_asked, scan_next, scan_stop, scan_done}
+use Rattle.shinri_core.proofs.Kit.{◌≡◌, ◌-◌, length}
+use Rattle.solver.proofs.Memory.Injecting.{Scan}
 use Rattle.solver.proofs.injectivity.instantiate_injectivity_selectors.Given as goal
 
 abbrev pub invariant-loop-p : goal.invariant-loop-p

@@ -1,5 +1,5 @@
 -- By whether they were known before.
-use Rattle.shinri_core.proofs.Kit.{sym, ◌∙◌, inl, inr, eqb-true, rules}
+use Rattle.shinri_core.proofs.Kit.{sym, ◌∙◌, inl, inr, eqb-true}
 use Rattle.solver.proofs.injectivity.known_after.Goals as goal
 
 pub returns-then-known : goal.returns-then-known

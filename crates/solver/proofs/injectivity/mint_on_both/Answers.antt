@@ -1,5 +1,4 @@
 -- The higher one alone where the lower one has it, else one after the other.
-use Rattle.shinri_core.proofs.Kit.{rules}
 use Rattle.solver.proofs.Memory.Injecting.{both_first, both_last, both_second, both_known, both_done, both_full}
 use Rattle.solver.proofs.injectivity.mint_on_both.Goals as goal
 

@@ -1,5 +1,5 @@
 -- The term made is a selector application, so the marked constructor applications stay.
-use Rattle.shinri_core.proofs.Kit.{rules, arith}
+use Rattle.shinri_core.proofs.Kit.{arith}
 use Rattle.solver.proofs.Memory.Injecting.{selector_no_function, selector_makeable, selector_small, mint_fits, mint_full}
 use Rattle.solver.proofs.injectivity.mint_selector.Goals as goal
 

@@ -1,6 +1,5 @@
-use borrow.Author.Tests.{not-true}
-use Rattle.shinri_core.proofs.Kit.{rules, arith, ◌≡◌, ◌-◌, length, not-false}
-use Rattle.solver.proofs.Memory.Injecting.{applies_declared, applies_small, Each, each_first, each_asked, each_next, each_stop, each_done}
+use Rattle.shinri_core.proofs.Kit.{rules, arith}
+use Rattle.solver.proofs.Memory.Injecting.{applies_declared, applies_small, each_first, each_asked, each_next, each_stop, each_done}
 use Rattle.solver.proofs.injectivity.select_both.Goals as goal
 
 pub overflow_cast-c : goal.overflow_cast-c

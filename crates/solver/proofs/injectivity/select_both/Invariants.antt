@@ -1,7 +1,6 @@
 -- What is left are the selectors from i on.
-use borrow.Author.Tests.{not-true}
-use Rattle.shinri_core.proofs.Kit.{rules, arith, ◌≡◌, ◌-◌, length, not-false}
-use Rattle.solver.proofs.Memory.Injecting.{applies_declared, applies_small, Each, each_first, each_asked, each_next, each_stop, each_done}
+use Rattle.shinri_core.proofs.Kit.{◌≡◌, ◌-◌, length}
+use Rattle.solver.proofs.Memory.Injecting.{Each}
 use Rattle.solver.proofs.injectivity.select_both.Given as goal
 
 abbrev pub invariant-loop-i : goal.invariant-loop-i

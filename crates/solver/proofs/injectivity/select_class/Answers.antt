@@ -1,7 +1,5 @@
-use borrow.Author.Tests.{not-true}
-use Rattle.shinri_core.proofs.Kit.{rules, arith, ◌≡◌, ◌+◌, ◌-◌, ◌%◌, length, not-false}
-use Rattle.shinri_core.specs.Limits.{max_terms}
-use Rattle.solver.proofs.Memory.Injecting.{Along, along_first, along_asked, along_terms, along_place, along_next, along_less, along_stop, along_done}
+use Rattle.shinri_core.proofs.Kit.{rules, arith}
+use Rattle.solver.proofs.Memory.Injecting.{along_first, along_asked, along_terms, along_place, along_next, along_less, along_stop, along_done}
 use Rattle.solver.proofs.injectivity.select_class.Goals as goal
 
 pub loop-k-init : goal.loop-k-init

@@ -1,8 +1,7 @@
 -- What is left are the applications from k - 1 on; those in other classes change nothing.
-use borrow.Author.Tests.{not-true}
-use Rattle.shinri_core.proofs.Kit.{rules, arith, ◌≡◌, ◌+◌, ◌-◌, ◌%◌, length, not-false}
+use Rattle.shinri_core.proofs.Kit.{◌≡◌, ◌+◌, ◌-◌, ◌%◌, length}
 use Rattle.shinri_core.specs.Limits.{max_terms}
-use Rattle.solver.proofs.Memory.Injecting.{Along, along_first, along_asked, along_terms, along_place, along_next, along_less, along_stop, along_done}
+use Rattle.solver.proofs.Memory.Injecting.{Along}
 use Rattle.solver.proofs.injectivity.select_class.Given as goal
 
 abbrev pub invariant-loop-k : goal.invariant-loop-k

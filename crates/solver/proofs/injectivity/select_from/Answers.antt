@@ -1,5 +1,4 @@
 -- By whether it is an application, and the lowest of its constructor in its class.
-use Rattle.shinri_core.proofs.Kit.{rules}
 use Rattle.solver.proofs.Memory.Injecting.{from_skipped, from_covered}
 use Rattle.solver.proofs.injectivity.select_from.Goals as goal
 

@@ -1,5 +1,4 @@
 -- By whether the tester's atom has a variable.
-use Rattle.shinri_core.proofs.Kit.{rules}
 use Rattle.solver.proofs.Memory.Instantiating.{registry_length, var_small, guard_none, guard_some}
 use Rattle.solver.proofs.instantiation.guard.Goals as goal
 

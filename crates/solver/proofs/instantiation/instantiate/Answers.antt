@@ -1,5 +1,4 @@
 -- By whether the application and the equation fit.
-use Rattle.shinri_core.proofs.Kit.{rules}
 use Rattle.solver.proofs.Memory.Instantiating.{coverable, over_lacks, may_equate_over, eq_lacks, guardable, guarded}
 use Rattle.solver.proofs.instantiation.instantiate.Goals as goal
 

@@ -1,5 +1,4 @@
 -- By what the term is, and whether its argument's class has an application.
-use Rattle.shinri_core.proofs.Kit.{rules}
 use Rattle.solver.proofs.Memory.Instantiating.{at_equation, symbol_declared, at_constructor, at_selector, at_function, has_arg, class_asked, instantiable, at_determined, at_open}
 use Rattle.solver.proofs.instantiation.instantiate_at.Goals as goal
 

@@ -1,6 +1,5 @@
-use Rattle.shinri_core.proofs.Kit.{rules, ◌-◌, ◌∙◌, ap, length}
-use Rattle.solver.proofs.Memory.Trying.{not_sat}
-use Rattle.solver.proofs.Memory.Instantiating.{Instantiating, go_first, go_asked, go_next, go_answer, go_done}
+use Rattle.shinri_core.proofs.Kit.{◌∙◌, ap, length}
+use Rattle.solver.proofs.Memory.Instantiating.{go_first, go_asked, go_next, go_answer, go_done}
 use Rattle.solver.proofs.instantiation.instantiate_constructor.Goals as goal
 
 pub loop-x-init : goal.loop-x-init

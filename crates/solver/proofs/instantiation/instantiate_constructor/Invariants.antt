@@ -1,7 +1,6 @@
 -- The atoms of the lasting record below x were passed.
-use Rattle.shinri_core.proofs.Kit.{rules, ◌-◌, ◌∙◌, ap, length}
-use Rattle.solver.proofs.Memory.Trying.{not_sat}
-use Rattle.solver.proofs.Memory.Instantiating.{Instantiating, go_first, go_asked, go_next, go_answer, go_done}
+use Rattle.shinri_core.proofs.Kit.{◌-◌}
+use Rattle.solver.proofs.Memory.Instantiating.{Instantiating}
 use Rattle.solver.proofs.instantiation.instantiate_constructor.Given as goal
 
 abbrev pub invariant-loop-x : goal.invariant-loop-x

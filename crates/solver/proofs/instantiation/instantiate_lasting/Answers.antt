@@ -1,5 +1,4 @@
 -- By the flag.
-use Rattle.shinri_core.proofs.Kit.{rules}
 use Rattle.solver.proofs.Memory.Instantiating.{not_lasting, lasting}
 use Rattle.solver.proofs.instantiation.instantiate_lasting.Goals as goal
 

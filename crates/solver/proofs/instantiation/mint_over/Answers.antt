@@ -1,5 +1,5 @@
-use Rattle.shinri_core.proofs.Kit.{rules, ◌-◌, refl, sym, ◌∙◌, arith, length-take-le}
-use Rattle.solver.proofs.Memory.Instantiating.{Covering, cover_declared, cover_small, cover_first, field_makeable, field_role, cover_next, cover_lacks, over_makeable, over_role, cover_done}
+use Rattle.shinri_core.proofs.Kit.{rules, refl, sym, ◌∙◌, arith, length-take-le}
+use Rattle.solver.proofs.Memory.Instantiating.{cover_declared, cover_small, cover_first, field_makeable, field_role, cover_next, cover_lacks, over_makeable, over_role, cover_done}
 use Rattle.solver.proofs.instantiation.mint_over.Goals as goal
 
 pub arity-n-requires : goal.arity-n-requires

@@ -1,6 +1,6 @@
 -- The selectors below i are made and marked, and their numbers are noted.
-use Rattle.shinri_core.proofs.Kit.{rules, ◌-◌, refl, sym, ◌∙◌, arith, length-take-le}
-use Rattle.solver.proofs.Memory.Instantiating.{Covering, cover_declared, cover_small, cover_first, field_makeable, field_role, cover_next, cover_lacks, over_makeable, over_role, cover_done}
+use Rattle.shinri_core.proofs.Kit.{◌-◌}
+use Rattle.solver.proofs.Memory.Instantiating.{Covering}
 use Rattle.solver.proofs.instantiation.mint_over.Given as goal
 
 abbrev pub invariant-loop-i : goal.invariant-loop-i

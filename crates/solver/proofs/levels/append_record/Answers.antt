@@ -1,5 +1,4 @@
 -- Three stores.
-use Rattle.shinri_core.proofs.Kit.{rules}
 use Rattle.solver.proofs.Memory.Entries.{enters}
 use Rattle.solver.proofs.levels.append_record.Goals as goal
 

@@ -1,5 +1,5 @@
 use Rattle.shinri_core.proofs.Kit.{rules}
-use Rattle.solver.proofs.Memory.Entries.{Dropping, drop_first, drop_read, drop_write, drop_next, drop_count, drop_done}
+use Rattle.solver.proofs.Memory.Entries.{drop_first, drop_read, drop_write, drop_next, drop_count, drop_done}
 use Rattle.solver.proofs.levels.drop_records.Goals as goal
 
 pub loop-i-init : goal.loop-i-init

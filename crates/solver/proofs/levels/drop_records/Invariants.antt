@@ -1,6 +1,5 @@
 -- The invariant: the flags are those of the first i entries.
-use Rattle.shinri_core.proofs.Kit.{rules}
-use Rattle.solver.proofs.Memory.Entries.{Dropping, drop_first, drop_read, drop_write, drop_next, drop_count, drop_done}
+use Rattle.solver.proofs.Memory.Entries.{Dropping}
 use Rattle.solver.proofs.levels.drop_records.Given as goal
 
 abbrev pub invariant-loop-i : goal.invariant-loop-i

@@ -1,5 +1,4 @@
 -- By the flag of the key.
-use Rattle.shinri_core.proofs.Kit.{rules}
 use Rattle.solver.proofs.Memory.Recording.{new_entry, enters_old, enters_new}
 use Rattle.solver.proofs.levels.enter.Goals as goal
 

@@ -1,5 +1,4 @@
 -- By the sign: a positive tester stands in the lasting record first.
-use Rattle.shinri_core.proofs.Kit.{rules}
 use Rattle.solver.proofs.Memory.Recording.{lasting_recordable, positive_key, positive_entered, negative_key, negative_entered}
 use Rattle.solver.proofs.levels.record_tester.Goals as goal
 

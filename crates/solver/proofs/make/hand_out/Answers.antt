@@ -1,5 +1,5 @@
 -- By the flag of the atom.
-use Rattle.shinri_core.proofs.Kit.{arith, rules}
+use Rattle.shinri_core.proofs.Kit.{arith}
 use Rattle.solver.proofs.Memory.Minting.{passed_over, handed_out}
 use Rattle.solver.proofs.make.hand_out.Goals as goal
 

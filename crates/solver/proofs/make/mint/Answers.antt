@@ -1,5 +1,4 @@
 -- A term that was made is marked; where it does not fit nothing was done.
-use Rattle.shinri_core.proofs.Kit.{rules}
 use Rattle.solver.proofs.Memory.Minting.{markable, minted, not_minted}
 use Rattle.solver.proofs.make.mint.Goals as goal
 

@@ -1,5 +1,5 @@
-use Rattle.shinri_core.proofs.Kit.{ℕ, ◌+◌, ◌-◌, ◌*◌, ◌<◌, arith, rules, length}
-use Rattle.solver.proofs.Memory.Collecting.{Gathering, gather_first, gather_next, gather_done, child, collect_known, collect_done}
+use Rattle.shinri_core.proofs.Kit.{arith}
+use Rattle.solver.proofs.Memory.Collecting.{gather_first, gather_next, gather_done, child, collect_known, collect_done}
 use Rattle.solver.proofs.records.+collect_collect_children.Goals as goal
 
 pub collect-collect_children-requires : goal.collect-collect_children-requires

@@ -1,6 +1,6 @@
 -- The cycle of collection. Children have lower numbers, so twice the term's number is a measure, and one more for the term itself.
-use Rattle.shinri_core.proofs.Kit.{ℕ, ◌+◌, ◌-◌, ◌*◌, ◌<◌, arith, rules, length}
-use Rattle.solver.proofs.Memory.Collecting.{Gathering, gather_first, gather_next, gather_done, child, collect_known, collect_done}
+use Rattle.shinri_core.proofs.Kit.{◌+◌, ◌-◌, ◌*◌, length}
+use Rattle.solver.proofs.Memory.Collecting.{Gathering}
 use Rattle.solver.proofs.records.+collect_collect_children.Given as goal
 
 abbrev pub invariant-collect_children-loop-i : goal.invariant-collect_children-loop-i

@@ -1,5 +1,4 @@
 -- On the registry's part of the table.
-use Rattle.shinri_core.proofs.Kit.{rules}
 use Rattle.solver.proofs.Memory.Registering.{part_long}
 use Rattle.solver.proofs.records.atom.Goals as goal
 

@@ -1,5 +1,5 @@
 -- The count and the flags, then the registry's part.
-use Rattle.shinri_core.proofs.Kit.{arith, rules}
+use Rattle.shinri_core.proofs.Kit.{arith}
 use Rattle.solver.proofs.Memory.Registering.{wiped_part, clears}
 use Rattle.solver.proofs.records.clear.Goals as goal
 

@@ -1,7 +1,6 @@
-use Rattle.shinri_core.proofs.Kit.{◌-◌, sym, ◌∙◌, true≢false, arith, rules}
-use Rattle.shinri_core.specs.Memory.Words.{at}
-use Rattle.shinri_core.proofs.Memory.Searching.{Searched, search_first, search_next}
-use Rattle.solver.specs.Memory.Table.{BLOCK, blocks, is_set}
+use Rattle.shinri_core.proofs.Kit.{sym, ◌∙◌, true≢false, arith}
+use Rattle.shinri_core.proofs.Memory.Searching.{search_first, search_next}
+use Rattle.solver.specs.Memory.Table.{blocks}
 use Rattle.solver.proofs.Memory.Flags.{unset_by}
 use Rattle.solver.proofs.records.has_app.Goals as goal
 

@@ -1,9 +1,8 @@
 -- The blocks below b announce none.
-use Rattle.shinri_core.proofs.Kit.{◌-◌, sym, ◌∙◌, true≢false, arith, rules}
+use Rattle.shinri_core.proofs.Kit.{◌-◌}
 use Rattle.shinri_core.specs.Memory.Words.{at}
-use Rattle.shinri_core.proofs.Memory.Searching.{Searched, search_first, search_next}
+use Rattle.shinri_core.proofs.Memory.Searching.{Searched}
 use Rattle.solver.specs.Memory.Table.{BLOCK, blocks, is_set}
-use Rattle.solver.proofs.Memory.Flags.{unset_by}
 use Rattle.solver.proofs.records.has_app.Given as goal
 
 abbrev pub invariant-loop-b : goal.invariant-loop-b

@@ -1,7 +1,5 @@
-use Rattle.shinri_core.proofs.Kit.{◌-◌, sym, ◌∙◌, true≢false, arith, rules}
-use Rattle.shinri_core.specs.Memory.Words.{at}
-use Rattle.shinri_core.proofs.Memory.Searching.{Searched, search_first, search_next}
-use Rattle.solver.specs.Memory.Table.{LASTING, is_set}
+use Rattle.shinri_core.proofs.Kit.{sym, ◌∙◌, true≢false, arith}
+use Rattle.shinri_core.proofs.Memory.Searching.{search_first, search_next}
 use Rattle.solver.proofs.Memory.Flags.{unset_by}
 use Rattle.solver.proofs.records.has_lasting.Goals as goal
 

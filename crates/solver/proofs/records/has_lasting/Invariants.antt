@@ -1,9 +1,8 @@
 -- The terms below x are not in the lasting record.
-use Rattle.shinri_core.proofs.Kit.{◌-◌, sym, ◌∙◌, true≢false, arith, rules}
+use Rattle.shinri_core.proofs.Kit.{◌-◌}
 use Rattle.shinri_core.specs.Memory.Words.{at}
-use Rattle.shinri_core.proofs.Memory.Searching.{Searched, search_first, search_next}
+use Rattle.shinri_core.proofs.Memory.Searching.{Searched}
 use Rattle.solver.specs.Memory.Table.{LASTING, is_set}
-use Rattle.solver.proofs.Memory.Flags.{unset_by}
 use Rattle.solver.proofs.records.has_lasting.Given as goal
 
 abbrev pub invariant-loop-x : goal.invariant-loop-x

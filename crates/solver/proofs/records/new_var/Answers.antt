@@ -1,5 +1,4 @@
 -- The atom is collected.
-use Rattle.shinri_core.proofs.Kit.{rules}
 use Rattle.solver.proofs.Memory.Collecting.{collects_var}
 use Rattle.solver.proofs.records.new_var.Goals as goal
 

@@ -1,5 +1,4 @@
 -- By whether it is a constructor application.
-use Rattle.shinri_core.proofs.Kit.{rules}
 use Rattle.solver.proofs.Memory.Announcing.{marked_app, marked_other}
 use Rattle.solver.proofs.records.put_mark.Goals as goal
 

@@ -1,5 +1,4 @@
 -- On the registry's part of the table.
-use Rattle.shinri_core.proofs.Kit.{rules}
 use Rattle.solver.proofs.Memory.Registering.{part_long, registers}
 use Rattle.solver.proofs.records.register.Goals as goal
 

@@ -1,6 +1,4 @@
-use Rattle.shinri_core.proofs.Kit.{◌-◌, rules}
-use Rattle.solver.specs.Memory.Recording.{flag_words}
-use Rattle.solver.proofs.Memory.Registering.{Wiping, wipe_first, wipe_next, wipe_done}
+use Rattle.solver.proofs.Memory.Registering.{wipe_first, wipe_next, wipe_done}
 use Rattle.solver.proofs.records.wipe.Goals as goal
 
 pub loop-i-init : goal.loop-i-init

@@ -1,7 +1,7 @@
 -- The words before i are 0.
-use Rattle.shinri_core.proofs.Kit.{◌-◌, rules}
+use Rattle.shinri_core.proofs.Kit.{◌-◌}
 use Rattle.solver.specs.Memory.Recording.{flag_words}
-use Rattle.solver.proofs.Memory.Registering.{Wiping, wipe_first, wipe_next, wipe_done}
+use Rattle.solver.proofs.Memory.Registering.{Wiping}
 use Rattle.solver.proofs.records.wipe.Given as goal
 
 abbrev pub invariant-loop-i : goal.invariant-loop-i

@@ -1,5 +1,5 @@
-use Rattle.shinri_core.proofs.Kit.{◌-◌, rules, arith}
-use Rattle.solver.proofs.Memory.RingLeaves.{Citing, cite_first, cite_next, cite_ring, edge_asks}
+use Rattle.shinri_core.proofs.Kit.{arith}
+use Rattle.solver.proofs.Memory.RingLeaves.{cite_first, cite_next, cite_ring, edge_asks}
 use Rattle.solver.proofs.ring.acyclicity_conflict.Goals as goal
 
 pub explain-requires : goal.explain-requires

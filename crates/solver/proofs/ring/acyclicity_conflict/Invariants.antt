@@ -1,6 +1,6 @@
 -- The leaves so far and those of the edges that are left are the leaves of the ring.
-use Rattle.shinri_core.proofs.Kit.{◌-◌, rules, arith}
-use Rattle.solver.proofs.Memory.RingLeaves.{Citing, cite_first, cite_next, cite_ring, edge_asks}
+use Rattle.shinri_core.proofs.Kit.{◌-◌}
+use Rattle.solver.proofs.Memory.RingLeaves.{Citing}
 use Rattle.solver.proofs.ring.acyclicity_conflict.Given as goal
 
 abbrev pub invariant-loop-i : goal.invariant-loop-i

@@ -1,5 +1,5 @@
-use Rattle.shinri_core.proofs.Kit.{◌-◌, rules, arith}
-use Rattle.solver.proofs.Memory.RingWalks.{Watching, watch_first, watch_ring, watch_next, watch_done}
+use Rattle.shinri_core.proofs.Kit.{arith}
+use Rattle.solver.proofs.Memory.RingWalks.{watch_first, watch_ring, watch_next, watch_done}
 use Rattle.solver.proofs.ring.constructor_graph_find_cycle.Goals as goal
 
 pub loop-i-init : goal.loop-i-init

@@ -1,6 +1,6 @@
 -- The walks from the watched terms that are left give what all of them give.
-use Rattle.shinri_core.proofs.Kit.{◌-◌, rules, arith}
-use Rattle.solver.proofs.Memory.RingWalks.{Watching, watch_first, watch_ring, watch_next, watch_done}
+use Rattle.shinri_core.proofs.Kit.{◌-◌}
+use Rattle.solver.proofs.Memory.RingWalks.{Watching}
 use Rattle.solver.proofs.ring.constructor_graph_find_cycle.Given as goal
 
 abbrev pub invariant-loop-i : goal.invariant-loop-i

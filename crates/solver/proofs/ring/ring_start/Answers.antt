@@ -1,5 +1,4 @@
-use Rattle.shinri_core.proofs.Kit.{rules}
-use Rattle.solver.proofs.Memory.RingLeaves.{Seeks, seek_first, seek_found, seek_next, seek_last}
+use Rattle.solver.proofs.Memory.RingLeaves.{seek_first, seek_found, seek_next, seek_last}
 use Rattle.solver.proofs.ring.ring_start.Goals as goal
 
 pub loop-k-init : goal.loop-k-init

@@ -1,6 +1,5 @@
 -- The edges passed are those behind the ring's entry.
-use Rattle.shinri_core.proofs.Kit.{rules}
-use Rattle.solver.proofs.Memory.RingLeaves.{Seeks, seek_first, seek_found, seek_next, seek_last}
+use Rattle.solver.proofs.Memory.RingLeaves.{Seeks}
 use Rattle.solver.proofs.ring.ring_start.Given as goal
 
 abbrev pub invariant-loop-k : goal.invariant-loop-k

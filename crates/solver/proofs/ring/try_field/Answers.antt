@@ -1,5 +1,5 @@
 -- A field of another sort is passed over; else by what it leads to.
-use Rattle.shinri_core.proofs.Kit.{refl, rules, arith}
+use Rattle.shinri_core.proofs.Kit.{refl, arith}
 use Rattle.solver.proofs.Memory.Rings.{path_fits}
 use Rattle.solver.proofs.Memory.RingSteps.{tries_ring, tries_new, tries_passed, tries_other}
 use Rattle.solver.proofs.ring.try_field.Goals as goal

@@ -1,7 +1,5 @@
 use Rattle.shinri_core.proofs.Kit.{rules}
-use Rattle.shinri_core.specs.Memory.Table.{context}
-use Rattle.solver.specs.Memory.Walking.{load}
-use Rattle.solver.proofs.Memory.RingWalks.{Walks, walks_first, walks_ring, walks_next, walks_done, walks_less}
+use Rattle.solver.proofs.Memory.RingWalks.{walks_first, walks_ring, walks_next, walks_done, walks_less}
 use Rattle.solver.proofs.ring.walk.Goals as goal
 
 pub loop-n-init : goal.loop-n-init

@@ -1,8 +1,7 @@
 -- Each step leaves what the walk will have found as it is.
-use Rattle.shinri_core.proofs.Kit.{rules}
 use Rattle.shinri_core.specs.Memory.Table.{context}
 use Rattle.solver.specs.Memory.Walking.{load}
-use Rattle.solver.proofs.Memory.RingWalks.{Walks, walks_first, walks_ring, walks_next, walks_done, walks_less}
+use Rattle.solver.proofs.Memory.RingWalks.{Walks}
 use Rattle.solver.proofs.ring.walk.Given as goal
 
 abbrev pub invariant-loop-n : goal.invariant-loop-n

@@ -1,5 +1,4 @@
 -- By the term's mark and its sort.
-use Rattle.shinri_core.proofs.Kit.{rules}
 use Rattle.solver.proofs.Memory.RingWalks.{seek_unmarked, seek_other, seek_watched}
 use Rattle.solver.proofs.ring.walk_term.Goals as goal
 

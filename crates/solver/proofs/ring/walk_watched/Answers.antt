@@ -1,5 +1,4 @@
 -- With nothing on the path the term is passed over, or it is the path's first and the walk goes on from it.
-use Rattle.shinri_core.proofs.Kit.{rules}
 use Rattle.solver.proofs.Memory.RingWalks.{watched_ring, watched_passed, watched_sound, watched_new}
 use Rattle.solver.proofs.ring.walk_watched.Goals as goal
 

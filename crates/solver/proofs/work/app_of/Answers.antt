@@ -1,5 +1,5 @@
 -- By the word, then by the operation of the term before it.
-use Rattle.shinri_core.proofs.Kit.{rules, arith}
+use Rattle.shinri_core.proofs.Kit.{arith}
 use Rattle.solver.proofs.Memory.Working.{names_none, names_equation, names_ctor}
 use Rattle.solver.proofs.work.app_of.Goals as goal
 

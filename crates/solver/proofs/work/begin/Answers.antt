@@ -1,5 +1,4 @@
 -- The marks, then the pass down.
-use Rattle.shinri_core.proofs.Kit.{rules}
 use Rattle.solver.proofs.Memory.Beginning.{linkable, begins}
 use Rattle.solver.proofs.work.begin.Goals as goal
 

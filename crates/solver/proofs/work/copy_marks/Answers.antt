@@ -1,5 +1,4 @@
-use Rattle.shinri_core.proofs.Kit.{◌-◌, rules}
-use Rattle.solver.proofs.Memory.Beginning.{Copying, copying_first, copying_next, copying_done}
+use Rattle.solver.proofs.Memory.Beginning.{copying_first, copying_next, copying_done}
 use Rattle.solver.proofs.work.copy_marks.Goals as goal
 
 pub loop-i-init : goal.loop-i-init

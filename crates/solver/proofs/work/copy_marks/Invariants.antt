@@ -1,6 +1,6 @@
 -- The marks of the terms below i are copied.
-use Rattle.shinri_core.proofs.Kit.{◌-◌, rules}
-use Rattle.solver.proofs.Memory.Beginning.{Copying, copying_first, copying_next, copying_done}
+use Rattle.shinri_core.proofs.Kit.{◌-◌}
+use Rattle.solver.proofs.Memory.Beginning.{Copying}
 use Rattle.solver.proofs.work.copy_marks.Given as goal
 
 abbrev pub invariant-loop-i : goal.invariant-loop-i

@@ -1,5 +1,4 @@
 -- The word of the class names its lowest application.
-use Rattle.shinri_core.proofs.Kit.{rules}
 use Rattle.solver.proofs.Memory.Blocks.{class_named, class_answer}
 use Rattle.solver.proofs.work.ctor_of_class.Goals as goal
 

@@ -1,5 +1,4 @@
 -- Straight.
-use Rattle.shinri_core.proofs.Kit.{rules}
 use Rattle.solver.specs.Memory.Work.{linked}
 use Rattle.solver.proofs.work.link.Goals as goal
 

@@ -1,5 +1,4 @@
 -- By the word that stands there: none, a higher application, a lower one.
-use Rattle.shinri_core.proofs.Kit.{rules}
 use Rattle.solver.proofs.Memory.Working.{lowered_first, lowered_below, lowered_not}
 use Rattle.solver.proofs.work.lower.Goals as goal
 

@@ -1,6 +1,4 @@
-use Rattle.shinri_core.proofs.Kit.{◌-◌, rules}
-use Rattle.solver.specs.Memory.Table.{block_terms}
-use Rattle.solver.proofs.Memory.Blocks.{Blockwise, block_first, block_other, block_apart, block_found, block_done}
+use Rattle.solver.proofs.Memory.Blocks.{block_first, block_other, block_apart, block_found, block_done}
 use Rattle.solver.proofs.work.lowest_in_block.Goals as goal
 use Rattle.solver.proofs.work.lowest_in_block.Goals.{then-get_at-eq-CTOR_APP+else-other-root, else-get_at-eq-CTOR_APP}
 

@@ -1,7 +1,7 @@
 -- The first i terms of the block were passed.
-use Rattle.shinri_core.proofs.Kit.{◌-◌, rules, ⊎_elim}
+use Rattle.shinri_core.proofs.Kit.{◌-◌}
 use Rattle.solver.specs.Memory.Table.{block_terms}
-use Rattle.solver.proofs.Memory.Blocks.{Blockwise, block_first, block_other, block_apart, block_found, block_done}
+use Rattle.solver.proofs.Memory.Blocks.{Blockwise}
 use Rattle.solver.proofs.work.lowest_in_block.Given as goal
 
 abbrev pub invariant-loop-i : goal.invariant-loop-i

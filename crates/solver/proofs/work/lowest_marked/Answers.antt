@@ -1,6 +1,6 @@
-use Rattle.shinri_core.proofs.Kit.{◌-◌, ◌<◌, rules, arith}
+use Rattle.shinri_core.proofs.Kit.{◌<◌, arith}
 use Rattle.solver.specs.Memory.Table.{blocks}
-use Rattle.solver.proofs.Memory.Blocks.{Walked, walked_first, walked_empty, walked_next, walked_found, walked_done}
+use Rattle.solver.proofs.Memory.Blocks.{walked_first, walked_empty, walked_next, walked_found, walked_done}
 use Rattle.solver.proofs.work.lowest_marked.Goals as goal
 use Rattle.solver.proofs.work.lowest_marked.Goals.{then-get_at-ne0+else-word-ne0, else-get_at-ne0}
 

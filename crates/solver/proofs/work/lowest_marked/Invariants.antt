@@ -1,7 +1,7 @@
 -- The blocks below b were passed.
-use Rattle.shinri_core.proofs.Kit.{◌-◌, ◌<◌, rules, arith, ⊎_elim}
+use Rattle.shinri_core.proofs.Kit.{◌-◌}
 use Rattle.solver.specs.Memory.Table.{blocks}
-use Rattle.solver.proofs.Memory.Blocks.{Walked, walked_first, walked_empty, walked_next, walked_found, walked_done}
+use Rattle.solver.proofs.Memory.Blocks.{Walked}
 use Rattle.solver.proofs.work.lowest_marked.Given as goal
 
 abbrev pub invariant-loop-b : goal.invariant-loop-b

@@ -1,5 +1,5 @@
 -- By the length of the table: a short one is walked, in a whole one the word stands at the root.
-use Rattle.shinri_core.proofs.Kit.{rules, arith}
+use Rattle.shinri_core.proofs.Kit.{arith}
 use Rattle.solver.proofs.Memory.Working.{root_word}
 use Rattle.solver.proofs.Memory.Blocks.{short_asked, short_word, whole_asked}
 use Rattle.solver.proofs.work.lowest_of_class.Goals as goal

@@ -1,5 +1,4 @@
 -- The table has the root where it was asked before.
-use Rattle.shinri_core.proofs.Kit.{rules}
 use Rattle.solver.proofs.Memory.Working.{root_known}
 use Rattle.solver.proofs.work.root_of.Goals as goal
 

@@ -1,5 +1,4 @@
-use Rattle.shinri_core.proofs.Kit.{rules}
-use Rattle.solver.proofs.Memory.Beginning.{Linking, linking_first, linking_app, linking_other, linking_done}
+use Rattle.solver.proofs.Memory.Beginning.{linking_first, linking_app, linking_other, linking_done}
 use Rattle.solver.proofs.work.take_roots.Goals as goal
 
 pub loop-i-init : goal.loop-i-init

@@ -1,6 +1,5 @@
 -- At term i the words of each class are those of the applications from i on.
-use Rattle.shinri_core.proofs.Kit.{rules}
-use Rattle.solver.proofs.Memory.Beginning.{Linking, linking_first, linking_app, linking_other, linking_done}
+use Rattle.solver.proofs.Memory.Beginning.{Linking}
 use Rattle.solver.proofs.work.take_roots.Given as goal
 
 abbrev pub invariant-loop-i : goal.invariant-loop-i

@@ -1,5 +1,5 @@
 -- A registered variable has a word that is not 0.
-use Rattle.shinri_core.proofs.Kit.{ℕ, ◌-◌, ◌∙◌, ap, arith, rules}
+use Rattle.shinri_core.proofs.Kit.{ℕ, ◌-◌, ◌∙◌, ap, arith}
 use Rattle.theory.proofs.Memory.RegistryWords.{registered_word, atom_is}
 use Rattle.theory.proofs.atom.atom.Goals as goal
 

@@ -1,6 +1,4 @@
-use Rattle.shinri_core.proofs.Kit.{◌-◌, rules}
-use Rattle.shinri_core.specs.Limits.{max_vars}
-use Rattle.theory.proofs.Memory.RegistryStores.{Emptying, empty_first, empty_next, empty_done}
+use Rattle.theory.proofs.Memory.RegistryStores.{empty_first, empty_next, empty_done}
 use Rattle.theory.proofs.atom.clear.Goals as goal
 
 pub loop-k-init : goal.loop-k-init

@@ -1,7 +1,7 @@
 -- The invariant: no variable, and the first k variables and atoms have none.
-use Rattle.shinri_core.proofs.Kit.{◌-◌, rules}
+use Rattle.shinri_core.proofs.Kit.{◌-◌}
 use Rattle.shinri_core.specs.Limits.{max_vars}
-use Rattle.theory.proofs.Memory.RegistryStores.{Emptying, empty_first, empty_next, empty_done}
+use Rattle.theory.proofs.Memory.RegistryStores.{Emptying}
 use Rattle.theory.proofs.atom.clear.Given as goal
 
 abbrev pub invariant-loop-k : goal.invariant-loop-k

@@ -1,5 +1,4 @@
 -- A variable is registered where its word is not 0.
-use Rattle.shinri_core.proofs.Kit.{rules}
 use Rattle.theory.proofs.Memory.RegistryWords.{registered_no, registered_yes, registered_beyond}
 use Rattle.theory.proofs.atom.is_registered.Goals as goal
 

@@ -1,5 +1,5 @@
 -- Four stores.
-use Rattle.shinri_core.proofs.Kit.{rules, arith}
+use Rattle.shinri_core.proofs.Kit.{arith}
 use Rattle.theory.proofs.Memory.RegistryStores.{registers}
 use Rattle.theory.proofs.atom.register.Goals as goal
 

@@ -1,5 +1,4 @@
 -- The word of the atom says which.
-use Rattle.shinri_core.proofs.Kit.{rules}
 use Rattle.theory.specs.Memory.Registry.{first_var_meaning}
 use Rattle.theory.proofs.Memory.RegistryWords.{no_var, one_var}
 use Rattle.theory.proofs.atom.var_of_atom.Goals as goal

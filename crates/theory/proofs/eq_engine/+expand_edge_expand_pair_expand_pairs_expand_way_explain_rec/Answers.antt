@@ -1,9 +1,6 @@
-use Rattle.shinri_core.proofs.Kit.{ℕ, ◌+◌, ◌-◌, ◌*◌, ◌<◌, ◌∙◌, [], ◌∷◌, arith, mod-lt, rules, length}
-use borrow.Author.Tests.{not-true, not-false}
-use Rattle.theory.specs.EqEngine.{way}
-use Rattle.theory.specs.Memory.Table.{pair_at, just_at, merges, kind_unit}
-use Rattle.theory.specs.Memory.Explaining.{NewPair, Way, Label, Pairs, part_age, up_to, pairs_from}
-use Rattle.theory.proofs.Memory.Explaining.{on_with, goes_one, met, goes_two, Walking, walk_first, walk_rises, walk_edge, walk_older, walk_next, walk_done, Pairing, pair_first, pair_older, pair_next, pair_done, pair_few, pair_nodes, pair_new, pair_known, edge_literal, edge_interface, edge_congruence}
+use Rattle.shinri_core.proofs.Kit.{◌∙◌, arith, mod-lt}
+use Rattle.theory.specs.Memory.Table.{kind_unit}
+use Rattle.theory.proofs.Memory.Explaining.{on_with, goes_one, met, goes_two, walk_first, walk_rises, walk_edge, walk_older, walk_next, walk_done, pair_first, pair_older, pair_next, pair_done, pair_few, pair_nodes, pair_new, pair_known, edge_literal, edge_interface, edge_congruence}
 use Rattle.theory.proofs.eq_engine.+expand_edge_expand_pair_expand_pairs_expand_way_explain_rec.Goals as goal
 
 pub expand_edge-push_leaf-requires : goal.expand_edge-push_leaf-requires

@@ -1,12 +1,11 @@
 -- The cycle of explanation. The measure of each function is five times the age of the part that it is given, and a place in the order
 -- explain_rec, expand_pair, expand_pairs, expand_edge, expand_way: a call for a part that is as old goes down in this order, and the ways
 -- of a pair are less old than the pair.
-use Rattle.shinri_core.proofs.Kit.{ℕ, ◌+◌, ◌-◌, ◌*◌, ◌<◌, ◌∙◌, [], ◌∷◌, arith, mod-lt, rules, length}
-use borrow.Author.Tests.{not-true, not-false}
+use Rattle.shinri_core.proofs.Kit.{◌+◌, ◌-◌, ◌*◌, [], ◌∷◌, length}
 use Rattle.theory.specs.EqEngine.{way}
-use Rattle.theory.specs.Memory.Table.{pair_at, just_at, merges, kind_unit}
+use Rattle.theory.specs.Memory.Table.{pair_at, just_at, merges}
 use Rattle.theory.specs.Memory.Explaining.{NewPair, Way, Label, Pairs, part_age, up_to, pairs_from}
-use Rattle.theory.proofs.Memory.Explaining.{on_with, goes_one, met, goes_two, Walking, walk_first, walk_rises, walk_edge, walk_older, walk_next, walk_done, Pairing, pair_first, pair_older, pair_next, pair_done, pair_few, pair_nodes, pair_new, pair_known, edge_literal, edge_interface, edge_congruence}
+use Rattle.theory.proofs.Memory.Explaining.{Walking, Pairing}
 use Rattle.theory.proofs.eq_engine.+expand_edge_expand_pair_expand_pairs_expand_way_explain_rec.Given as goal
 
 abbrev pub invariant-expand_pairs-loop-k : goal.invariant-expand_pairs-loop-k

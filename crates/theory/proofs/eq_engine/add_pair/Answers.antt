@@ -1,5 +1,4 @@
 -- Its first pair, then its words.
-use Rattle.shinri_core.proofs.Kit.{rules}
 use Rattle.theory.proofs.Memory.PairIndex.{pair_linkable, pair_added}
 use Rattle.theory.proofs.eq_engine.add_pair.Goals as goal
 

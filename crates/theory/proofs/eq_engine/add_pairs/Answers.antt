@@ -1,5 +1,4 @@
-use Rattle.shinri_core.proofs.Kit.{◌-◌, rules, length}
-use Rattle.theory.proofs.Memory.PairIndex.{Adding, adding_first, addable, adding_next, adding_done}
+use Rattle.theory.proofs.Memory.PairIndex.{adding_first, addable, adding_next, adding_done}
 use Rattle.theory.proofs.eq_engine.add_pairs.Goals as goal
 
 pub loop-i-init : goal.loop-i-init

@@ -1,6 +1,6 @@
 -- Pair after pair is added behind those of the index.
-use Rattle.shinri_core.proofs.Kit.{◌-◌, rules, length}
-use Rattle.theory.proofs.Memory.PairIndex.{Adding, adding_first, addable, adding_next, adding_done}
+use Rattle.shinri_core.proofs.Kit.{◌-◌, length}
+use Rattle.theory.proofs.Memory.PairIndex.{Adding}
 use Rattle.theory.proofs.eq_engine.add_pairs.Given as goal
 
 abbrev pub invariant-loop-i : goal.invariant-loop-i

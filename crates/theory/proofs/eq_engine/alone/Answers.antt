@@ -1,5 +1,4 @@
 -- Straight.
-use Rattle.shinri_core.proofs.Kit.{rules}
 use Rattle.theory.proofs.eq_engine.alone.Goals as goal
 
 pub returns : goal.returns

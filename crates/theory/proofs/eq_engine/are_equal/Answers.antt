@@ -1,4 +1,4 @@
-use Rattle.shinri_core.proofs.Kit.{ap₂, eqb, rules}
+use Rattle.shinri_core.proofs.Kit.{ap₂, eqb}
 use Rattle.theory.specs.EqEngine.{find, are_equal}
 use Rattle.theory.proofs.eq_engine.are_equal.Goals as goal
 

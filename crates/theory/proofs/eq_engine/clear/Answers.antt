@@ -1,6 +1,4 @@
-use Rattle.shinri_core.proofs.Kit.{◌-◌, rules}
-use Rattle.shinri_core.specs.Limits.{max_terms}
-use Rattle.theory.proofs.Memory.Clearing.{Clearing, clear_first, clear_next, clear_done}
+use Rattle.theory.proofs.Memory.Clearing.{clear_first, clear_next, clear_done}
 use Rattle.theory.proofs.eq_engine.clear.Goals as goal
 
 pub loop-n-init : goal.loop-n-init

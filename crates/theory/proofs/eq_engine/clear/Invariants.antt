@@ -1,7 +1,7 @@
 -- The index and the counts are cleared, then one node after the other is alone.
-use Rattle.shinri_core.proofs.Kit.{◌-◌, rules}
+use Rattle.shinri_core.proofs.Kit.{◌-◌}
 use Rattle.shinri_core.specs.Limits.{max_terms}
-use Rattle.theory.proofs.Memory.Clearing.{Clearing, clear_first, clear_next, clear_done}
+use Rattle.theory.proofs.Memory.Clearing.{Clearing}
 use Rattle.theory.proofs.eq_engine.clear.Given as goal
 
 abbrev pub invariant-loop-n : goal.invariant-loop-n

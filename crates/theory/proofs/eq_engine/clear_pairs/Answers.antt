@@ -1,6 +1,4 @@
-use Rattle.shinri_core.proofs.Kit.{◌-◌, rules}
-use Rattle.theory.specs.Memory.Table.{pair_buckets}
-use Rattle.theory.proofs.Memory.PairIndex.{Emptying, empty_first, empty_next, empty_done}
+use Rattle.theory.proofs.Memory.PairIndex.{empty_first, empty_next, empty_done}
 use Rattle.theory.proofs.eq_engine.clear_pairs.Goals as goal
 
 pub loop-h-init : goal.loop-h-init

@@ -1,7 +1,7 @@
 -- The heads below h are cleared.
-use Rattle.shinri_core.proofs.Kit.{◌-◌, rules}
+use Rattle.shinri_core.proofs.Kit.{◌-◌}
 use Rattle.theory.specs.Memory.Table.{pair_buckets}
-use Rattle.theory.proofs.Memory.PairIndex.{Emptying, empty_first, empty_next, empty_done}
+use Rattle.theory.proofs.Memory.PairIndex.{Emptying}
 use Rattle.theory.proofs.eq_engine.clear_pairs.Given as goal
 
 abbrev pub invariant-loop-h : goal.invariant-loop-h

@@ -1,5 +1,4 @@
 -- The index is cut back to the pairs in force, then the new ones are added.
-use Rattle.shinri_core.proofs.Kit.{rules}
 use Rattle.theory.proofs.Memory.PairIndex.{cuttable, pairs_addable, copied}
 use Rattle.theory.proofs.eq_engine.copy_pairs.Goals as goal
 

@@ -1,5 +1,5 @@
-use Rattle.shinri_core.proofs.Kit.{refl, rules}
-use Rattle.theory.proofs.Memory.PairIndex.{Cutting, cutting_first, cutting_last, cutting_next, cutting_done}
+use Rattle.shinri_core.proofs.Kit.{refl}
+use Rattle.theory.proofs.Memory.PairIndex.{cutting_first, cutting_last, cutting_next, cutting_done}
 use Rattle.theory.proofs.eq_engine.cut_pairs.Goals as goal
 
 pub loop-j-init : goal.loop-j-init

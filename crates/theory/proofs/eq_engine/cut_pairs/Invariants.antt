@@ -1,6 +1,5 @@
 -- The newest pair leaves the index, as long as there are more than n.
-use Rattle.shinri_core.proofs.Kit.{refl, rules}
-use Rattle.theory.proofs.Memory.PairIndex.{Cutting, cutting_first, cutting_last, cutting_next, cutting_done}
+use Rattle.theory.proofs.Memory.PairIndex.{Cutting}
 use Rattle.theory.proofs.eq_engine.cut_pairs.Given as goal
 
 abbrev pub invariant-loop-j : goal.invariant-loop-j

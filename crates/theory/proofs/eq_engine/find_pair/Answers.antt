@@ -1,5 +1,5 @@
-use Rattle.shinri_core.proofs.Kit.{refl, rules}
-use Rattle.theory.proofs.Memory.PairIndex.{Seeking, seek_first, seek_next, seek_less, seek_found, seek_missing}
+use Rattle.shinri_core.proofs.Kit.{refl}
+use Rattle.theory.proofs.Memory.PairIndex.{seek_first, seek_next, seek_less, seek_found, seek_missing}
 use Rattle.theory.proofs.eq_engine.find_pair.Goals as goal
 
 pub loop-k-init : goal.loop-k-init

@@ -1,6 +1,5 @@
 -- The pairs of the bucket from k on are not the one looked for.
-use Rattle.shinri_core.proofs.Kit.{refl, rules}
-use Rattle.theory.proofs.Memory.PairIndex.{Seeking, seek_first, seek_next, seek_less, seek_found, seek_missing}
+use Rattle.theory.proofs.Memory.PairIndex.{Seeking}
 use Rattle.theory.proofs.eq_engine.find_pair.Given as goal
 
 abbrev pub invariant-loop-k : goal.invariant-loop-k

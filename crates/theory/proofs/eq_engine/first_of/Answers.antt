@@ -1,5 +1,4 @@
 -- None, or the first pair of the one that was found.
-use Rattle.shinri_core.proofs.Kit.{rules}
 use Rattle.theory.proofs.Memory.PairIndex.{first_none, first_found}
 use Rattle.theory.proofs.eq_engine.first_of.Goals as goal
 

@@ -1,7 +1,4 @@
-use Rattle.shinri_core.proofs.Kit.{rules, length}
-use Rattle.theory.specs.EqEngine.{way}
-use Rattle.theory.specs.Memory.Table.{merges}
-use Rattle.theory.proofs.Memory.Walks.{Rise, rise_first, rise_next, rise_less, rise_depth}
+use Rattle.theory.proofs.Memory.Walks.{rise_first, rise_next, rise_less, rise_depth}
 use Rattle.theory.proofs.eq_engine.forest_depth.Goals as goal
 
 pub loop-up-init : goal.loop-up-init

@@ -1,8 +1,8 @@
 -- The edges walked and those still above are together the way.
-use Rattle.shinri_core.proofs.Kit.{rules, length}
+use Rattle.shinri_core.proofs.Kit.{length}
 use Rattle.theory.specs.EqEngine.{way}
 use Rattle.theory.specs.Memory.Table.{merges}
-use Rattle.theory.proofs.Memory.Walks.{Rise, rise_first, rise_next, rise_less, rise_depth}
+use Rattle.theory.proofs.Memory.Walks.{Rise}
 use Rattle.theory.proofs.eq_engine.forest_depth.Given as goal
 
 abbrev pub invariant-loop-up : goal.invariant-loop-up

@@ -1,5 +1,4 @@
-use Rattle.shinri_core.proofs.Kit.{◌+◌, rules}
-use Rattle.theory.proofs.Memory.Walks.{Nearing, near_first, near_x, near_y, x_deep, near_less, near_done}
+use Rattle.theory.proofs.Memory.Walks.{near_first, near_x, near_y, x_deep, near_less, near_done}
 use Rattle.theory.proofs.eq_engine.forest_nca.Goals as goal
 
 pub loop-x-init : goal.loop-x-init

@@ -1,6 +1,6 @@
 -- The deeper of the two nodes is not the common one, so it goes up and the common node stays.
-use Rattle.shinri_core.proofs.Kit.{◌+◌, rules}
-use Rattle.theory.proofs.Memory.Walks.{Nearing, near_first, near_x, near_y, x_deep, near_less, near_done}
+use Rattle.shinri_core.proofs.Kit.{◌+◌}
+use Rattle.theory.proofs.Memory.Walks.{Nearing}
 use Rattle.theory.proofs.eq_engine.forest_nca.Given as goal
 
 abbrev pub invariant-loop-x : goal.invariant-loop-x

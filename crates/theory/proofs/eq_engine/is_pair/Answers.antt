@@ -1,5 +1,4 @@
 -- The nodes are read, then compared.
-use Rattle.shinri_core.proofs.Kit.{rules}
 use Rattle.theory.proofs.Memory.Marks.{tested}
 use Rattle.theory.proofs.eq_engine.is_pair.Goals as goal
 

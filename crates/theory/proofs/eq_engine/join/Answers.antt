@@ -1,5 +1,4 @@
 -- The steps of a merge, one after the other; `joined` puts together what they wrote.
-use Rattle.shinri_core.proofs.Kit.{rules}
 use Rattle.theory.proofs.Memory.Merging.{joined, classes_fit}
 use Rattle.theory.proofs.eq_engine.join.Goals as goal
 

@@ -1,5 +1,4 @@
 -- Four stores.
-use Rattle.shinri_core.proofs.Kit.{rules}
 use Rattle.theory.specs.Memory.Steps.{pair_linked}
 use Rattle.theory.proofs.eq_engine.link_pair.Goals as goal
 

@@ -1,5 +1,4 @@
 -- Straight.
-use Rattle.shinri_core.proofs.Kit.{rules}
 use Rattle.theory.specs.Memory.Steps.{logged}
 use Rattle.theory.proofs.eq_engine.log.Goals as goal
 

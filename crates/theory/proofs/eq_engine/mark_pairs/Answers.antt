@@ -1,5 +1,5 @@
 -- No such pair, or its first one is marked, if it has a mark.
-use Rattle.shinri_core.proofs.Kit.{arith, rules}
+use Rattle.shinri_core.proofs.Kit.{arith}
 use Rattle.theory.specs.Memory.Explaining.{marked}
 use Rattle.theory.proofs.Memory.Marks.{mark_none, mark_behind, mark_one}
 use Rattle.theory.proofs.eq_engine.mark_pairs.Goals as goal

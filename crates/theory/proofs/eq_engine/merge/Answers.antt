@@ -1,5 +1,4 @@
 -- One class stays as it is; two are joined under the words of the label.
-use Rattle.shinri_core.proofs.Kit.{rules}
 use Rattle.theory.proofs.Memory.Joining.{merged_one, joinable_label, merged_label}
 use Rattle.theory.proofs.eq_engine.merge.Goals as goal
 

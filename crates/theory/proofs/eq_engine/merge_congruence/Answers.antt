@@ -1,5 +1,4 @@
 -- One class stays as it is; for two the pairs are written, then the classes joined under them.
-use Rattle.shinri_core.proofs.Kit.{rules}
 use Rattle.theory.proofs.Memory.Joining.{merged_one, pairs_room, joinable_pairs, merged_pairs}
 use Rattle.theory.proofs.eq_engine.merge_congruence.Goals as goal
 

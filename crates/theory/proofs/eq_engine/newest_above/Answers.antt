@@ -1,5 +1,4 @@
 -- The word of the newest merge holds its level.
-use Rattle.shinri_core.proofs.Kit.{rules}
 use Rattle.theory.proofs.Memory.Undoing.{newest_none, newest_some}
 use Rattle.theory.proofs.eq_engine.newest_above.Goals as goal
 

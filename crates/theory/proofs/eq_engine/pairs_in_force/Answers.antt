@@ -1,5 +1,4 @@
 -- The newest merge holds the number of pairs in force.
-use Rattle.shinri_core.proofs.Kit.{rules}
 use Rattle.theory.proofs.Memory.Log.{pairs_none, pairs_newest}
 use Rattle.theory.proofs.eq_engine.pairs_in_force.Goals as goal
 

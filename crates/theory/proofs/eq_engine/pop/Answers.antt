@@ -1,5 +1,4 @@
 -- At or above the level nothing changes; else the merges above it are dropped and the level is set.
-use Rattle.shinri_core.proofs.Kit.{rules}
 use Rattle.theory.proofs.Memory.Undoing.{popped_none, popped_some}
 use Rattle.theory.proofs.eq_engine.pop.Goals as goal
 

@@ -1,5 +1,4 @@
 -- Only the level changes.
-use Rattle.shinri_core.proofs.Kit.{rules}
 use Rattle.theory.proofs.Memory.SoundTables.{pushed}
 use Rattle.theory.proofs.eq_engine.push.Goals as goal
 

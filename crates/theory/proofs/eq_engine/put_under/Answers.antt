@@ -1,5 +1,4 @@
 -- Straight.
-use Rattle.shinri_core.proofs.Kit.{rules}
 use Rattle.theory.specs.Memory.Steps.{united}
 use Rattle.theory.proofs.eq_engine.put_under.Goals as goal
 

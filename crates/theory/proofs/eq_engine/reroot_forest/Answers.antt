@@ -1,7 +1,5 @@
-use Rattle.shinri_core.proofs.Kit.{rules, length}
-use Rattle.theory.specs.EqEngine.{way}
-use Rattle.theory.specs.Memory.Table.{merges}
-use Rattle.theory.proofs.Memory.Turning.{Turning, turn_long, turn_first, turn_less, turn_next, turn_done}
+use Rattle.shinri_core.proofs.Kit.{rules}
+use Rattle.theory.proofs.Memory.Turning.{turn_long, turn_first, turn_less, turn_next, turn_done}
 use Rattle.theory.proofs.eq_engine.reroot_forest.Goals as goal
 
 pub get_at-edge-requires : goal.get_at-edge-requires

@@ -1,8 +1,8 @@
 -- One step of the way is turned after the other, until a node is its own parent; the first node becomes a root behind the loop.
-use Rattle.shinri_core.proofs.Kit.{rules, length}
+use Rattle.shinri_core.proofs.Kit.{length}
 use Rattle.theory.specs.EqEngine.{way}
 use Rattle.theory.specs.Memory.Table.{merges}
-use Rattle.theory.proofs.Memory.Turning.{Turning, turn_long, turn_first, turn_less, turn_next, turn_done}
+use Rattle.theory.proofs.Memory.Turning.{Turning}
 use Rattle.theory.proofs.eq_engine.reroot_forest.Given as goal
 
 abbrev pub invariant-loop-cur : goal.invariant-loop-cur

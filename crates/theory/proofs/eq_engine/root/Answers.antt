@@ -1,7 +1,4 @@
-use Rattle.shinri_core.proofs.Kit.{rules}
-use Rattle.theory.specs.Memory.Table.{merges}
-use Rattle.theory.proofs.UnionFind.{depth}
-use Rattle.theory.proofs.Memory.Walks.{Climb, climb_first, climb_next, climb_less, climb_done}
+use Rattle.theory.proofs.Memory.Walks.{climb_first, climb_next, climb_less, climb_done}
 use Rattle.theory.proofs.eq_engine.root.Goals as goal
 
 pub loop-up-init : goal.loop-up-init

@@ -1,8 +1,7 @@
 -- The walk stays in the class; a node that is its own parent is the root.
-use Rattle.shinri_core.proofs.Kit.{rules}
 use Rattle.theory.specs.Memory.Table.{merges}
 use Rattle.theory.proofs.UnionFind.{depth}
-use Rattle.theory.proofs.Memory.Walks.{Climb, climb_first, climb_next, climb_less, climb_done}
+use Rattle.theory.proofs.Memory.Walks.{Climb}
 use Rattle.theory.proofs.eq_engine.root.Given as goal
 
 abbrev pub invariant-loop-up : goal.invariant-loop-up

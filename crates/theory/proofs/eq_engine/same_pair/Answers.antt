@@ -1,5 +1,4 @@
 -- Straight.
-use Rattle.shinri_core.proofs.Kit.{rules}
 use Rattle.theory.proofs.Memory.Marks.{same_pair_first, same_pair_other}
 use Rattle.theory.proofs.eq_engine.same_pair.Goals as goal
 

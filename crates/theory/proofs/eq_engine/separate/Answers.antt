@@ -1,5 +1,5 @@
 -- A class is no smaller than the class that went under it.
-use Rattle.shinri_core.proofs.Kit.{ap, arith, rules}
+use Rattle.shinri_core.proofs.Kit.{ap, arith}
 use Rattle.theory.specs.Memory.Table.{size_word}
 use Rattle.theory.specs.Memory.Steps.{separated}
 use Rattle.theory.proofs.eq_engine.separate.Goals as goal

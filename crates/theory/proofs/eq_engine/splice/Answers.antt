@@ -1,5 +1,4 @@
 -- The tree of a is turned up to its root; then three stores hang it under b.
-use Rattle.shinri_core.proofs.Kit.{rules}
 use Rattle.theory.proofs.Memory.Merging.{root_turnable, spliced}
 use Rattle.theory.proofs.eq_engine.splice.Goals as goal
 

@@ -1,6 +1,5 @@
 use Rattle.shinri_core.proofs.Kit.{rules}
-use Rattle.theory.specs.Memory.Table.{merges#}
-use Rattle.theory.proofs.Memory.Undoing.{Popping, popping_first, some_above, popping_less, popping_next, popping_done}
+use Rattle.theory.proofs.Memory.Undoing.{popping_first, some_above, popping_less, popping_next, popping_done}
 use Rattle.theory.proofs.eq_engine.undo_above.Goals as goal
 
 pub loop-t-init : goal.loop-t-init

@@ -1,7 +1,6 @@
 -- What is still to be dropped stays the same.
-use Rattle.shinri_core.proofs.Kit.{rules}
 use Rattle.theory.specs.Memory.Table.{merges#}
-use Rattle.theory.proofs.Memory.Undoing.{Popping, popping_first, some_above, popping_less, popping_next, popping_done}
+use Rattle.theory.proofs.Memory.Undoing.{Popping}
 use Rattle.theory.proofs.eq_engine.undo_above.Given as goal
 
 abbrev pub invariant-loop-t : goal.invariant-loop-t

@@ -1,5 +1,4 @@
 -- The test of the two sizes is the definition's.
-use Rattle.shinri_core.proofs.Kit.{rules}
 use Rattle.theory.proofs.Memory.Merging.{united_second, united_first}
 use Rattle.theory.proofs.eq_engine.union.Goals as goal
 

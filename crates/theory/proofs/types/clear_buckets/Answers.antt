@@ -1,6 +1,4 @@
-use Rattle.shinri_core.proofs.Kit.{◌-◌, rules}
-use Rattle.theory.specs.Memory.Answer.{buckets}
-use Rattle.theory.proofs.Memory.Leaves.{Clearing, clear_first, clear_next, clear_done}
+use Rattle.theory.proofs.Memory.Leaves.{clear_first, clear_next, clear_done}
 use Rattle.theory.proofs.types.clear_buckets.Goals as goal
 
 pub loop-h-init : goal.loop-h-init

@@ -1,7 +1,7 @@
 -- The buckets below h are cleared.
-use Rattle.shinri_core.proofs.Kit.{◌-◌, rules}
+use Rattle.shinri_core.proofs.Kit.{◌-◌}
 use Rattle.theory.specs.Memory.Answer.{buckets}
-use Rattle.theory.proofs.Memory.Leaves.{Clearing, clear_first, clear_next, clear_done}
+use Rattle.theory.proofs.Memory.Leaves.{Clearing}
 use Rattle.theory.proofs.types.clear_buckets.Given as goal
 
 abbrev pub invariant-loop-h : goal.invariant-loop-h

@@ -1,5 +1,4 @@
 -- Straight.
-use Rattle.shinri_core.proofs.Kit.{rules}
 use Rattle.theory.proofs.Memory.Leaves.{cleared}
 use Rattle.theory.proofs.types.clear_leaves.Goals as goal
 

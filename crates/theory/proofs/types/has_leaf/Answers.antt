@@ -1,5 +1,4 @@
-use Rattle.shinri_core.proofs.Kit.{rules}
-use Rattle.theory.proofs.Memory.Leaves.{Looking, look_first, look_next, look_less, look_found, look_missing}
+use Rattle.theory.proofs.Memory.Leaves.{look_first, look_next, look_less, look_found, look_missing}
 use Rattle.theory.proofs.types.has_leaf.Goals as goal
 
 pub loop-k-init : goal.loop-k-init

@@ -1,6 +1,5 @@
 -- The leaves of the bucket from k on are not the one looked for.
-use Rattle.shinri_core.proofs.Kit.{rules}
-use Rattle.theory.proofs.Memory.Leaves.{Looking, look_first, look_next, look_less, look_found, look_missing}
+use Rattle.theory.proofs.Memory.Leaves.{Looking}
 use Rattle.theory.proofs.types.has_leaf.Given as goal
 
 abbrev pub invariant-loop-k : goal.invariant-loop-k

@@ -1,5 +1,5 @@
 -- A kind is 0 or one more than a theory of 16 bits.
-use Rattle.shinri_core.proofs.Kit.{arith, rules}
+use Rattle.shinri_core.proofs.Kit.{arith}
 use Rattle.theory.specs.Memory.Answer.{leaf_meaning}
 use Rattle.theory.proofs.Memory.Leaves.{leaf_fits, leaf_asserted, leaf_interface}
 use Rattle.theory.proofs.types.leaf.Goals as goal

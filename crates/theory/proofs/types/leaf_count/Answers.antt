@@ -1,5 +1,5 @@
 -- Straight.
-use Rattle.shinri_core.proofs.Kit.{sym, ◌∙◌, arith, rules}
+use Rattle.shinri_core.proofs.Kit.{sym, ◌∙◌, arith}
 use Rattle.theory.proofs.Memory.Leaves.{leaves_length}
 use Rattle.theory.proofs.types.leaf_count.Goals as goal
 

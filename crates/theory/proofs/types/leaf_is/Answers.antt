@@ -1,5 +1,4 @@
 -- Leaves of two kinds differ; of one kind their values decide.
-use Rattle.shinri_core.proofs.Kit.{rules}
 use Rattle.theory.proofs.Memory.Leaves.{leaf_same, leaf_differs}
 use Rattle.theory.proofs.types.leaf_is.Goals as goal
 

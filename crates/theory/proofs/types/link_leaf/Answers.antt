@@ -1,5 +1,4 @@
 -- Two stores.
-use Rattle.shinri_core.proofs.Kit.{rules}
 use Rattle.theory.specs.Memory.Answer.{linked}
 use Rattle.theory.proofs.types.link_leaf.Goals as goal
 

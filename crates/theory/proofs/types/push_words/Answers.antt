@@ -1,5 +1,4 @@
 -- A leaf that does not stand there has room; it goes to the head of its bucket, and its words follow.
-use Rattle.shinri_core.proofs.Kit.{rules}
 use Rattle.theory.proofs.Memory.Leaves.{linkable, pushed_old, pushed_new}
 use Rattle.theory.proofs.types.push_words.Goals as goal
 

@@ -1,5 +1,5 @@
 -- Straight.
-use Rattle.shinri_core.proofs.Kit.{eq-eqb, ne_eqb, rules}
+use Rattle.shinri_core.proofs.Kit.{eq-eqb, ne_eqb}
 use Rattle.shinri_core.proofs.ids.Lit.negate.Goals as goal
 
 pub returns-then-self-eq0 : goal.returns-then-self-eq0

@@ -1,5 +1,4 @@
 -- Straight.
-use Rattle.shinri_core.proofs.Kit.{rules}
 use Rattle.shinri_core.proofs.ids.Lit.new.Goals as goal
 
 pub returns-then-positive : goal.returns-then-positive
