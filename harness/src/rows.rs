@@ -11,7 +11,7 @@ struct Row {
 
 /// Answers each row of the tables. Returns how many rows there are, or what is wrong.
 pub fn rows(text: &str) -> Result<usize, String> {
-    let setting = Row { script: quoted(text, "\nsetting =")?, answers: quoted(text, "\nsetting-answers =")? };
+    let setting = Row { script: quoted(text, "\nsetting =")?, answers: quoted(text, "\nsetting_answers =")? };
     let nothing = Row { script: String::new(), answers: String::new() };
     let tables = [("negatives", &setting), ("closings", &nothing), ("unequals", &setting)];
     tables.iter().map(|(name, setting)| hold_table(text, name, setting)).sum()
