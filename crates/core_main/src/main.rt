@@ -1,5 +1,7 @@
 // Drives a context up to each limit by commands that a fixed generator draws. A line for each 400 commands: how many sorts, symbols,
 // terms and argument places there are then, and a checksum of all answers so far.
+#![tactic(auto)]
+
 ghost use Rattle.std.specs.Prelude.{◌<◌, length};
 ghost use Rattle.shinri_core.specs.Memory.Table.{ContextSound, context, MayApply, MayDeclare};
 
@@ -135,38 +137,37 @@ fn command(t: &mut [u32], i: u32) -> u32
     over(t, i, f, s)
 }
 
-fn print(n: usize) {
-    io::print_decimal(1, n as u64);
-    io::write_all(1, b" ");
+// A write that fails is let go: the lines are all that the program says.
+fn print<R: Print>(rt: &R, n: usize) {
+    let _ = print!(rt; "{n} ");
 }
 
 // A run of 400 commands ends with a line, and the first runs of each half with an empty table.
-fn step(t: &mut [u32], i: u32, sum: u32) -> u32
+fn step<R: Print>(rt: &R, t: &mut [u32], i: u32, sum: u32) -> u32
     requires { ContextSound t.old }
     ensures { ContextSound t.new }
 {
     if i % 400 != 0 {
         return mix(sum, command(t, i));
     }
-    print(cx::sort_count(t));
-    print(cx::symbol_count(t));
-    print(cx::term_count(t));
-    print(cx::place_count(t));
-    io::print_decimal(1, sum as u64);
-    io::write_all(1, b"\n");
+    print(rt, cx::sort_count(t));
+    print(rt, cx::symbol_count(t));
+    print(rt, cx::term_count(t));
+    print(rt, cx::place_count(t));
+    let _ = println!(rt; "{sum}");
     if i % 12000 < 2400 {
         cx::clear(t);
     }
     sum
 }
 
-fn main() {
+fn main(rt: HostRuntime) {
     let mut t = [7u32; 16384];
     cx::clear(&mut t);
     let mut sum = 0;
     let mut i = 1;
     while i <= 24000 {
-        sum = step(&mut t, i, sum);
+        sum = step(&rt, &mut t, i, sum);
         i += 1;
     }
 }
