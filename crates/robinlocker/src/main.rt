@@ -1,103 +1,118 @@
 // Reads a script on standard input and prints the answer lines on standard output. Standard error is empty if all was read, answered
 // and written; else a line there says what went wrong, with the number of the question that the run answered no.
+#![tactic(auto)]
+
 ghost use Rattle.std.specs.Prelude.{◌≤◌, length};
 ghost use Rattle.io.specs.Counts.{IsPrefixLen};
 
-use libc::{STDERR_FILENO, STDIN_FILENO, STDOUT_FILENO};
 use session::run::{Ending, Ran, run};
+use std::io;
+use std::io::Read;
 
-// How many bytes were read, and whether reading failed after them.
+// How many bytes were read, and what a read after them failed with, if one did.
 #[derive(Drop)]
 struct Input {
     bytes: usize,
-    failed: bool,
+    failed: Option<io::Error>,
 }
 
 // Reads until the input ends, the buffer is full or a read fails.
-fn read_script(buf: &mut [u8]) -> Input
+fn read_script<R: Read>(from: &mut R, buf: &mut [u8]) -> Input
     ensures { IsPrefixLen result.bytes buf.new }
 {
     let mut n = 0;
     while n < buf.len() {
-        let got = libc::read(STDIN_FILENO, &mut buf[n..]);
-        let more = io::count(got, &buf[n..]);
-        if more == 0 {
-            return Input {
-                bytes: n,
-                failed: got < 0,
-            };
+        match from.read(&mut buf[n..]) {
+            Ok(0) => break,
+            Ok(more) => n += more,
+            Err(e) => {
+                return Input {
+                    bytes: n,
+                    failed: Some(e),
+                };
+            }
         }
-        n += more;
     }
     Input {
         bytes: n,
-        failed: false,
+        failed: None,
     }
 }
 
-fn say(what: &[u8]) {
-    io::write_all(STDERR_FILENO, what);
+// What cannot be said on standard error is let go.
+fn say<R: Eprint>(rt: &R, what: &str) {
+    let _ = rt.eprint(what);
 }
 
-fn say_number(n: usize) {
-    io::print_decimal(STDERR_FILENO, n as u64);
+fn say_number<R: Eprint>(rt: &R, n: usize) {
+    let _ = rt.eprint(n);
 }
 
 // How a run ended, in words.
-fn say_question(ending: Ending) {
+fn say_question<R: Eprint>(rt: &R, ending: Ending) {
     match ending {
-        Ending::Complete => say(b"the run went to the end"),
-        Ending::ShortTable => say(b"a work table has fewer than 16384 words"),
-        Ending::LongScript => say(b"the script is longer than 65536 bytes"),
-        Ending::Full => say(b"the answer line does not fit the output left"),
+        Ending::Complete => say(rt, "the run went to the end"),
+        Ending::ShortTable => say(rt, "a work table has fewer than 16384 words"),
+        Ending::LongScript => say(rt, "the script is longer than 65536 bytes"),
+        Ending::Full => say(rt, "the answer line does not fit the output left"),
     }
 }
 
 // One line: the result, its question, the lines answered and the bytes written.
-fn say_ending(ran: Ran) {
+fn say_ending<R: Eprint>(rt: &R, ran: Ran) {
     let ending = ran.ending;
-    say(b"robinlocker: ");
-    say_number(ending.number() as usize);
-    say(b": ");
-    say_question(ending);
-    say(b"; ");
-    say_number(ran.answered);
-    say(b" lines answered, ");
-    say_number(ran.written);
-    say(b" bytes written\n");
+    say(rt, "robinlocker: ");
+    say_number(rt, ending.number() as usize);
+    say(rt, ": ");
+    say_question(rt, ending);
+    say(rt, "; ");
+    say_number(rt, ran.answered);
+    say(rt, " lines answered, ");
+    say_number(rt, ran.written);
+    say(rt, " bytes written\n");
 }
 
-// Prints the first bytes of the output, and answers whether that went well.
-fn print(output: &[u8], written: usize) -> bool
+// One line: what failed, and the system's words for it, which std's text has before the error's number.
+fn say_failure<R: Eprint + Alloc>(rt: &R, what: &str, error: &io::Error) -> io::Result<()> {
+    let text = format!(in rt.alloc(); "{error}")?;
+    let words = match text.as_str().split_once(" (os error ") {
+        Some((words, _)) => words,
+        None => text.as_str(),
+    };
+    eprintln!(rt; "robinlocker: {what}: {words}")
+}
+
+// Prints the first bytes of the output.
+fn print<R: Print>(rt: &R, output: &[u8], written: usize) -> io::Result<()>
     requires { written ≤ length output.now }
 {
-    io::write_all(STDOUT_FILENO, &output[..written])
+    rt.write_all(&output[..written])
 }
 
 // Lends three work tables and the output, and prints what the run wrote.
-fn answer(script: &[u8]) {
+fn answer<R: Print + Eprint + Alloc>(rt: &R, script: &[u8]) {
     let mut core = [0u32; 16384];
     let mut theory = [0u32; 16384];
     let mut solver = [0u32; 16384];
     let mut output = [0u8; 65536];
     let ran = run(script, &mut core, &mut theory, &mut solver, &mut output);
-    if !print(&output, ran.written) {
-        os::fail(b"robinlocker: standard output");
+    if let Err(e) = print(rt, &output, ran.written) {
+        let _ = say_failure(rt, "standard output", &e);
     }
     let ending = ran.ending;
     if ending.number() != 0 {
-        say_ending(ran);
+        say_ending(rt, ran);
     }
 }
 
 // A byte more than a script may have tells a longer one.
-fn main() {
+fn main(rt: HostRuntime) {
     let mut script = [0u8; 65537];
-    let input = read_script(&mut script);
-    if input.failed {
-        os::fail(b"robinlocker: standard input");
+    let input = read_script(&mut rt.stdin(), &mut script);
+    if let Some(e) = &input.failed {
+        let _ = say_failure(&rt, "standard input", e);
         return;
     }
     let n = input.bytes;
-    answer(&script[..n]);
+    answer(&rt, &script[..n]);
 }

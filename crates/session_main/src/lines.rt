@@ -7,7 +7,7 @@ use session::reader::line_end;
 use std::num::wrapping_add_usize;
 
 // What a run or a row of calls answers besides the bytes: the number of its result, the lines answered, the bytes written.
-#[derive(Drop)]
+#[derive(Clone, Copy)]
 pub struct Said {
     pub result: u32,
     pub answered: usize,

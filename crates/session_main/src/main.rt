@@ -1,14 +1,18 @@
 // Runs each script of the fixed list on lent memory of nine sizes and contents, whole and line by line, and compares all that a run answers
 // and leaves with what the list has (harness/fixed/README.md). Prints how much was compared, and the first difference if there is one. The
 // list begins with the examples of the scope document.
+#![tactic(auto)]
+
 mod lines;
 
 ghost use Rattle.std.specs.Prelude.{◌≡◌, ◌+◌, ◌≤◌, length};
 
 use crate::lines::{Said, run_by_lines};
-use libc::STDOUT_FILENO;
 use session::kept::KEPT_WORDS;
 use session::run::{Ran, run};
+use std::fs::File;
+use std::io;
+use std::io::Read;
 use std::num::wrapping_add_usize;
 
 // The byte that lent output is full of before a run.
@@ -21,7 +25,7 @@ const RUNS: usize = 5;
 const MAX_SCRIPTS: usize = 100000;
 
 // What a run must answer.
-#[derive(Drop)]
+#[derive(Clone, Copy)]
 struct Want {
     result: usize,
     answered: usize,
@@ -30,11 +34,11 @@ struct Want {
 
 // How much is lent of the script, of the three tables and of the output, the word that the tables are full of before, and what the run
 // must answer.
-#[derive(Drop)]
+#[derive(Clone, Copy)]
 struct Lent(usize, usize, usize, usize, usize, u32, Want);
 
 // The head of a record of the list, and whether it was there.
-#[derive(Drop)]
+#[derive(Clone, Copy)]
 struct Head {
     there: bool,
     script: usize,
@@ -42,7 +46,7 @@ struct Head {
 }
 
 // The first difference: a number that the run answered, or a place of lent memory.
-#[derive(Drop)]
+#[derive(Clone, Copy)]
 enum Found {
     Nothing,
     Result(usize),
@@ -56,7 +60,7 @@ enum Found {
 }
 
 // What was compared.
-#[derive(Drop)]
+#[derive(Clone, Copy)]
 struct Tally {
     scripts: usize,
     lines: usize,
@@ -383,35 +387,42 @@ fn lend(
     )
 }
 
-fn say(what: &[u8], n: usize) {
-    io::write_all(STDOUT_FILENO, what);
-    io::print_decimal(STDOUT_FILENO, n as u64);
+// What cannot be said is let go.
+fn say<R: Print>(rt: &R, what: &str, n: usize) {
+    let _ = print!(rt; "{what}{n}");
 }
 
-fn say_found(found: Found) {
+fn say_found<R: Print>(rt: &R, found: Found) {
     match found {
-        Found::Nothing => say(b"no difference ", 0),
-        Found::Result(n) => say(b"the result is ", n),
-        Found::Answered(n) => say(b"lines answered are ", n),
-        Found::Written(n) => say(b"bytes written are ", n),
-        Found::Answers(i) => say(b"the answers from byte ", i),
-        Found::OutputPast(i) => say(b"the output past the answers at byte ", i),
-        Found::Core(i) => say(b"the table of core at word ", i),
-        Found::Theory(i) => say(b"the table of theory at word ", i),
-        Found::Solver(i) => say(b"the table of solver at word ", i),
+        Found::Nothing => say(rt, "no difference ", 0),
+        Found::Result(n) => say(rt, "the result is ", n),
+        Found::Answered(n) => say(rt, "lines answered are ", n),
+        Found::Written(n) => say(rt, "bytes written are ", n),
+        Found::Answers(i) => say(rt, "the answers from byte ", i),
+        Found::OutputPast(i) => say(rt, "the output past the answers at byte ", i),
+        Found::Core(i) => say(rt, "the table of core at word ", i),
+        Found::Theory(i) => say(rt, "the table of theory at word ", i),
+        Found::Solver(i) => say(rt, "the table of solver at word ", i),
     }
 }
 
-fn say_difference(place: usize, k: usize, found: Found) {
-    say(b"script ", place);
-    say(b", lending ", k);
-    io::write_all(STDOUT_FILENO, b": ");
-    say_found(found);
-    io::write_all(STDOUT_FILENO, b"\n");
+fn say_difference<R: Print>(rt: &R, place: usize, k: usize, found: Found) {
+    say(rt, "script ", place);
+    say(rt, ", lending ", k);
+    let _ = rt.print(": ");
+    say_found(rt, found);
+    let _ = rt.print("\n");
 }
 
 // Runs a script until a difference is found, which is said. Answers whether there is none.
-fn try_script(place: usize, script: &[u8], n: usize, answers: &[u8], want: Want) -> bool
+fn try_script<R: Print>(
+    rt: &R,
+    place: usize,
+    script: &[u8],
+    n: usize,
+    answers: &[u8],
+    want: Want,
+) -> bool
     requires { (n ≤ 99999) × (want.written ≤ 99999) × (length script.now ≡ 99999) × (length answers.now ≡ 99999) }
 {
     let mut core = [0u32; 16640];
@@ -432,7 +443,7 @@ fn try_script(place: usize, script: &[u8], n: usize, answers: &[u8], want: Want)
             &mut out,
         );
         let Found::Nothing = found else {
-            say_difference(place, l, found);
+            say_difference(rt, place, l, found);
             return false;
         };
         k += 1;
@@ -460,11 +471,11 @@ fn number(head: &[u8; 24], from: usize) -> usize
     n
 }
 
-fn read_head(fd: i32) -> Head
+fn read_head<F: Read>(from: &mut F) -> Head
     ensures { (result.script ≤ 99999) × (result.want.written ≤ 99999) }
 {
     let mut head = [0u8; 24];
-    let there = io::read_full(fd, &mut head) == 24;
+    let there = from.read_exact(&mut head).is_ok();
     let want = Want {
         result: number(&head, 12),
         answered: number(&head, 18),
@@ -478,23 +489,23 @@ fn read_head(fd: i32) -> Head
 }
 
 // Whether n bytes were read.
-fn read_bytes(fd: i32, bytes: &mut [u8], n: usize) -> bool
+fn read_bytes<F: Read>(from: &mut F, bytes: &mut [u8], n: usize) -> bool
     requires { n ≤ length bytes.old }
 {
-    io::read_full(fd, &mut bytes[..n]) == n
+    from.read_exact(&mut bytes[..n]).is_ok()
 }
 
 // Reads the next record. One that is cut off counts as none, and the tally tells.
-fn read_record(fd: i32, script: &mut [u8], answers: &mut [u8]) -> Head
+fn read_record<F: Read>(from: &mut F, script: &mut [u8], answers: &mut [u8]) -> Head
     requires { (length script.old ≡ 99999) × (length answers.old ≡ 99999) }
     ensures { (result.script ≤ 99999) × (result.want.written ≤ 99999) }
 {
-    let h = read_head(fd);
+    let h = read_head(from);
     let want = h.want;
     let n = h.script;
     let w = want.written;
-    let first = read_bytes(fd, script, n);
-    let second = read_bytes(fd, answers, w);
+    let first = read_bytes(from, script, n);
+    let second = read_bytes(from, answers, w);
     Head {
         there: h.there && first && second,
         script: n,
@@ -503,7 +514,7 @@ fn read_record(fd: i32, script: &mut [u8], answers: &mut [u8]) -> Head
 }
 
 // Tries one script after the other, up to the list's end or a difference.
-fn try_list(fd: i32) -> Tally {
+fn try_list<R: Print, F: Read>(rt: &R, from: &mut F) -> Tally {
     let mut script = [0u8; 99999];
     let mut answers = [0u8; 99999];
     let mut t = Tally {
@@ -512,9 +523,9 @@ fn try_list(fd: i32) -> Tally {
         bytes: 0,
     };
     while t.scripts < MAX_SCRIPTS {
-        let h = read_record(fd, &mut script, &mut answers);
+        let h = read_record(from, &mut script, &mut answers);
         let want = h.want;
-        if !h.there || !try_script(t.scripts, &script, h.script, &answers, want) {
+        if !h.there || !try_script(rt, t.scripts, &script, h.script, &answers, want) {
             return t;
         }
         t.lines = wrapping_add_usize(t.lines, want.answered);
@@ -524,16 +535,27 @@ fn try_list(fd: i32) -> Tally {
     t
 }
 
-fn main() {
-    let fd = os::open_read(b"list");
-    if fd < 0 {
-        os::fail(b"list");
-        return;
+// One line: the list, and the system's words for what opening it failed with, which std's text has before the error's number.
+fn say_failure<R: Eprint + Alloc>(rt: &R, error: &io::Error) -> io::Result<()> {
+    let text = format!(in rt.alloc(); "{error}")?;
+    let words = match text.as_str().split_once(" (os error ") {
+        Some((words, _)) => words,
+        None => text.as_str(),
+    };
+    eprintln!(rt; "list: {words}")
+}
+
+fn main(rt: HostRuntime) {
+    match File::open(&rt, "list") {
+        Ok(mut list) => {
+            let t = try_list(&rt, &mut list);
+            say(&rt, "scripts without a difference ", t.scripts);
+            say(&rt, ", their lines ", t.lines);
+            say(&rt, ", their bytes of answers ", t.bytes);
+            let _ = rt.print("\n");
+        }
+        Err(e) => {
+            let _ = say_failure(&rt, &e);
+        }
     }
-    let t = try_list(fd);
-    libc::close(fd);
-    say(b"scripts without a difference ", t.scripts);
-    say(b", their lines ", t.lines);
-    say(b", their bytes of answers ", t.bytes);
-    io::write_all(STDOUT_FILENO, b"\n");
 }

@@ -1,5 +1,7 @@
 // Drives the equality engine and the registry up to each limit by commands that a fixed generator draws. A line for each run: the level
 // and the argument pairs in force at its end, and a checksum of all answers so far.
+#![tactic(auto)]
+
 ghost use Rattle.std.specs.Prelude.{◌+◌, ◌≤◌, length};
 ghost use Rattle.shinri_core.specs.Limits.{max_pairs};
 ghost use Rattle.theory.specs.EqEngine.{pairs_in_force};
@@ -208,24 +210,23 @@ fn link(t: &mut [u32], i: u32, kinds: u32, d: u32) -> u32
     merge(t, i, kinds, n + 1, n, n, d)
 }
 
-fn print(n: usize) {
-    io::print_decimal(1, n as u64);
-    io::write_all(1, b" ");
+// A write that fails is let go: the lines are all that the program says.
+fn print<R: Print>(rt: &R, n: usize) {
+    let _ = print!(rt; "{n} ");
 }
 
 // After 1023 steps three nodes are explained. Two runs begin with no merge in force, the next two with what is left.
-fn turn(t: &mut [u32], i: u32, sum: u32, out: &mut [u32]) -> u32
+fn turn<R: Print>(rt: &R, t: &mut [u32], i: u32, sum: u32, out: &mut [u32]) -> u32
     requires { EngineSound t.old × (answer_size ≤ length out.old) }
     ensures { EngineSound t.new }
 {
     if i % 1023 != 0 {
         return mix(sum, eq::pairs_in_force(t) as u32);
     }
-    print(eq::level(t));
-    print(eq::pairs_in_force(t));
+    print(rt, eq::level(t));
+    print(rt, eq::pairs_in_force(t));
     let s = mix(sum, why(t, 0, 1023, 512, out));
-    io::print_decimal(1, s as u64);
-    io::write_all(1, b"\n");
+    let _ = println!(rt; "{s}");
     if i / 1023 % 4 < 2 {
         eq::clear(t);
     }
@@ -233,11 +234,11 @@ fn turn(t: &mut [u32], i: u32, sum: u32, out: &mut [u32]) -> u32
 }
 
 // Commands over few nodes or over all, and between them a chain, a tower of congruences, or congruences over any nodes.
-fn step(t: &mut [u32], i: u32, sum: u32, out: &mut [u32]) -> u32
+fn step<R: Print>(rt: &R, t: &mut [u32], i: u32, sum: u32, out: &mut [u32]) -> u32
     requires { EngineSound t.old × (answer_size ≤ length out.old) }
     ensures { EngineSound t.new }
 {
-    let s = turn(t, i, sum, out);
+    let s = turn(rt, t, i, sum, out);
     match i / 1023 % 12 {
         0 | 4 | 8 => mix(s, command(t, i, 11, out)),
         1 | 7 => mix(s, link(t, i, 0, 0)),
@@ -247,7 +248,7 @@ fn step(t: &mut [u32], i: u32, sum: u32, out: &mut [u32]) -> u32
     }
 }
 
-fn main() {
+fn main(rt: HostRuntime) {
     let mut t = [7u32; 16384];
     let mut out = [7u32; 3324];
     let mut atoms = [7u32; 3073];
@@ -257,7 +258,7 @@ fn main() {
     let mut i = 0;
     while i <= 24552 {
         sum = mix(sum, enroll(&mut atoms, i));
-        sum = step(&mut t, i, sum, &mut out);
+        sum = step(&rt, &mut t, i, sum, &mut out);
         i += 1;
     }
 }
