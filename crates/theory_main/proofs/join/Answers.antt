@@ -1,5 +1,5 @@
 -- Two pairs of equal nodes, again and again, are a list of such pairs, and so are its first k.
-use Rattle.shinri_core.proofs.Kit.{ℕ, zero, suc, inl, inr, List, [], ◌∷◌, arith, take, needs}
+use Rattle.std.proofs.Common.{ℕ, zero, suc, inl, inr, List, [], ◌∷◌, arith, take}
 use lib.ListN.{length-take}
 use Rattle.shinri_core.specs.Lists.{zip}
 use Rattle.shinri_core.proofs.Lists.{true_T}
@@ -7,8 +7,7 @@ use Rattle.theory.specs.Memory.Explaining.{EqualNodes}
 use Rattle.theory.specs.Memory.Replay.{EqualPairs}
 use Rattle.theory.specs.Memory.Table.{merges, level}
 use Rattle.theory.proofs.Memory.Joining.{room_pairs}
-use Rattle.theory_main.proofs.join.Statement.{statement}
-use Rattle.theory_main.proofs.join.Tie as tie
+use Rattle.theory_main.proofs.join.Goals as goal
 
 abbrev Equals : List ℕ → List ℕ → List ℕ → Type 0
 Equals t [] ys = Unit {0}
@@ -26,24 +25,14 @@ few t (suc k) (x ∷ xs) (y ∷ ys) (h, e) p (inr i) = few t k xs ys e p i
 abbrev five : ℕ → ℕ → List ℕ
 five x y = x ∷ y ∷ x ∷ x ∷ y ∷ []
 
-merge_congruence_requires : tie.Need-merge-congruence-requires
-merge_congruence_requires c κs =
-    let second = c.before.before.before in
-    let first = second.before.before.before in
-    let entry = first.before.before.before.before.before in
-    let (nodes, short, room) = entry.requires in
-    let p = first.twin.ensures in
-    let q = second.twin2.ensures in
+pub merge_congruence-requires : goal.merge_congruence-requires
+merge_congruence-requires c =
+    let (nodes, short, room) = c.requires in
+    let p = c.twin-y.ensures in
+    let q = c.twin-z.ensures in
     record {
       nodes = nodes;
       same_count = simp length-take;
-      equal = few _ entry.args.k (five _ _) (five _ _) (p, (q, (p, (p, (q, tt)))));
+      equal = few _ c.args.k (five _ _) (five _ _) (p, (q, (p, (p, (q, tt)))));
       fit = room_pairs (merges _) (level _) _ _ _ _ (simp length-take) (simp length-take (omega arith));
     }
-
-pub join_spec : {M : Type 1} → statement M
-join_spec =
-    tie.close
-    (tie.spec (λ c κs. search needs) (λ c κs. search needs) (λ c κs. search needs) (λ c κs. search needs) (λ c κs. search needs)
-    (λ c. search needs) (λ c. simp length-take (omega arith)) (λ c. search needs) (λ c. simp length-take (omega arith))
-    merge_congruence_requires (λ c. search needs) (λ c. search needs))
