@@ -3,7 +3,6 @@
 
 pub mod answer;
 pub mod declaring;
-pub mod export;
 pub mod kept;
 pub mod levels;
 pub mod line;

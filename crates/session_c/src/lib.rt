@@ -1,13 +1,15 @@
 // The library for callers in other languages: a slice is a pointer and a length, a result a number, counts go behind references.
 // include/robinlocker.h says the same to callers in C.
+#![tactic(auto)]
+
 ghost use Rattle.std.specs.Prelude.{◌≡◌};
 ghost use Rattle.session.specs.Promise.{Reports};
 ghost use Rattle.session.specs.Kept.{OpensBy, Replies, Closes};
 ghost use Rattle.session.specs.Library.{version, limit};
 ghost use Rattle.session.specs.Memory.Kept.{tables, KeptSound};
 
-use crate::kept::{KEPT_WORDS, LONGEST_ANSWER, close, line, open};
-use crate::run::{MAX_NUMBERS, MAX_SCRIPT, TABLE_WORDS, run};
+use session::kept::{KEPT_WORDS, LONGEST_ANSWER, close, line, open};
+use session::run::{MAX_NUMBERS, MAX_SCRIPT, TABLE_WORDS, run};
 use shinri_core::limits::{
     MAX_LEVELS, MAX_PAIRS, MAX_PLACES, MAX_SORTS, MAX_SYMBOLS, MAX_TERMS, MAX_VARS,
 };

@@ -1,0 +1,15 @@
+-- The names are the places of the list.
+use Rattle.std.proofs.Common.{refl, sym, arith}
+use Rattle.shinri_core.proofs.Kit.{list_get_or_eq_default}
+use Rattle.session.specs.Library.{limits, limit}
+use Rattle.session_c.proofs.robinlocker_limit.Goals as goal
+
+pub returns-then-i : goal.returns-then-i
+unfolding limit limits
+returns-then-i c = refl
+
+pub returns : goal.returns
+unfolding limit limits
+returns c =
+    let past = c.if-i.false in
+    sym (list_get_or_eq_default limits 0 {n = c.args.name} (omega arith))
