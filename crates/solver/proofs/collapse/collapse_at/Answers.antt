@@ -23,21 +23,24 @@ offset_bounds-children-i c =
 
 pub bounds-children-i : goal.bounds-children-i
 bounds-children-i c =
-    let own : c.requires.a.ctor ≡ c.args.ctor.0 = let pre = c.requires in
-    its_ctor _ pre.a pre.is_app c.op.ensures c.in-Uninterpreted.is ∙ c.if-g-ctor.false in
+    -- the test of the constructor holds
+    let own : c.requires.a.ctor ≡ c.args.ctor.0 =
+    its_ctor _ c.requires.a c.requires.is_app c.op.ensures c.in-Uninterpreted.is ∙ c.if-g-ctor.false in
     subst⁻¹ (λ (xs : List ℕ). c.args.i < length xs) c.children.ensures
     (field_within c.requires own)
 
 pub mk_app-requires : goal.mk_app-requires
 mk_app-requires c =
-    let own : c.requires.a.ctor ≡ c.args.ctor.0 = let pre = c.requires in
-    its_ctor _ pre.a pre.is_app c.op.ensures c.in-Uninterpreted.is ∙ c.if-g-ctor.false in
+    -- the test of the constructor holds
+    let own : c.requires.a.ctor ≡ c.args.ctor.0 =
+    its_ctor _ c.requires.a c.requires.is_app c.op.ensures c.in-Uninterpreted.is ∙ c.if-g-ctor.false in
     may_apply (makeable c.requires own)
 
 pub equate_field-requires : goal.equate_field-requires
 equate_field-requires c =
-    let own : c.requires.a.ctor ≡ c.args.ctor.0 = let pre = c.requires in
-    its_ctor _ pre.a pre.is_app c.op.ensures c.in-Uninterpreted.is ∙ c.if-g-ctor.false in
+    -- the test of the constructor holds
+    let own : c.requires.a.ctor ≡ c.args.ctor.0 =
+    its_ctor _ c.requires.a c.requires.is_app c.op.ensures c.in-Uninterpreted.is ∙ c.if-g-ctor.false in
     let pre = c.requires in
     field_equatable pre own c.mk_app.ensures c.in-At.is
     (ap (λ (xs : List ℕ). get_or xs c.args.i 0) c.children.ensures) (search rules)
@@ -47,13 +50,15 @@ returns-in-Eq c = let pre = c.requires in absurd (no_equation _ pre.a pre.is_app
 
 pub returns-in-NoRoom : goal.returns-in-NoRoom
 returns-in-NoRoom c =
-    let own : c.requires.a.ctor ≡ c.args.ctor.0 = let pre = c.requires in
-    its_ctor _ pre.a pre.is_app c.op.ensures c.in-Uninterpreted.is ∙ c.if-g-ctor.false in
+    -- the test of the constructor holds
+    let own : c.requires.a.ctor ≡ c.args.ctor.0 =
+    its_ctor _ c.requires.a c.requires.is_app c.op.ensures c.in-Uninterpreted.is ∙ c.if-g-ctor.false in
     collapse_none c.requires own c.mk_app.ensures c.in-NoRoom.is
 
 pub returns-in-At : goal.returns-in-At
 returns-in-At c =
-    let own : c.requires.a.ctor ≡ c.args.ctor.0 = let pre = c.requires in
-    its_ctor _ pre.a pre.is_app c.op.ensures c.in-Uninterpreted.is ∙ c.if-g-ctor.false in
+    -- the test of the constructor holds
+    let own : c.requires.a.ctor ≡ c.args.ctor.0 =
+    its_ctor _ c.requires.a c.requires.is_app c.op.ensures c.in-Uninterpreted.is ∙ c.if-g-ctor.false in
     collapse_some c.requires own c.mk_app.ensures c.in-At.is
     (ap (λ (xs : List ℕ). get_or xs c.args.i 0) c.children.ensures) c.equate_field.ensures

@@ -21,6 +21,7 @@ loop-k-init c =
 
 pub overflow_cast-k : goal.overflow_cast-k
 overflow_cast-k c =
+    -- the application at hand is a term
     let within : c.loop-k.k - 1 < max_terms = (walk_at c.loop-k.invariant.0 c.loop-k-test.true).within in
     record { fits = omega (arith, within) }
 
@@ -36,6 +37,7 @@ returns-in_default c =
 
 pub get_at-k-requires : goal.get_at-k-requires
 get_at-k-requires c =
+    -- the application at hand is a term
     let within : c.loop-k.k - 1 < max_terms = (walk_at c.loop-k.invariant.0 c.loop-k-test.true).within in
     let l = c.requires.under.check.work.long in omega (arith, within)
 

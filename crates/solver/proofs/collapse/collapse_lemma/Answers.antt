@@ -18,8 +18,8 @@ loop-x-init c = (list_first collapse_at sel_app c.requires.check, done_first max
 
 pub collapse_term-r-requires : goal.collapse_term-r-requires
 collapse_term-r-requires c =
-    let within : c.loop-x.x < length (context c.args.t.now).terms = let q = c.term_count-n.ensures.0 in
-    omega arith in
+    -- the term at hand is one of the first
+    let within : c.loop-x.x < length (context c.args.t.now).terms = omega (arith, c.term_count-n.ensures.0) in
     let listing = c.loop-x.invariant.0 in (
       still_under c.requires listing.trying.sound listing.trying.extends c.loop-x.invariant.4,
       c.loop-x.invariant.1,
@@ -28,16 +28,16 @@ collapse_term-r-requires c =
 
 pub returns-in_default : goal.returns-in_default
 returns-in_default c =
-    let within : c.loop-x.x < length (context c.args.t.now).terms = let q = c.term_count-n.ensures.0 in
-    omega arith in
+    -- the term at hand is one of the first
+    let within : c.loop-x.x < length (context c.args.t.now).terms = omega (arith, c.term_count-n.ensures.0) in
     collapse_is
     (list_answer collapse_at sel_app old_sel_app c.loop-x.invariant.0 c.requires.check
     within c.collapse_term-r.ensures.tried c.in_default.not-Sat collapse_at_onward)
 
 pub loop-x-preserved : goal.loop-x-preserved
 loop-x-preserved c =
-    let within : c.loop-x.x < length (context c.args.t.now).terms = let q = c.term_count-n.ensures.0 in
-    omega arith in
+    -- the term at hand is one of the first
+    let within : c.loop-x.x < length (context c.args.t.now).terms = omega (arith, c.term_count-n.ensures.0) in
     let called = c.collapse_term-r in (
       list_next collapse_at sel_app old_sel_app c.loop-x.invariant.0 c.requires.check
           within called.ensures.tried c.in-Sat.is,

@@ -19,8 +19,8 @@ loop-x-init c =
 
 pub tester_lemma_term-r-requires : goal.tester_lemma_term-r-requires
 tester_lemma_term-r-requires c =
-    let within : c.loop-x.x < length (context c.args.t.now).terms = let q = c.term_count-n.ensures.0 in
-    omega arith in
+    -- the term at hand is one of the first
+    let within : c.loop-x.x < length (context c.args.t.now).terms = omega (arith, c.term_count-n.ensures.0) in
     let listing = c.loop-x.invariant.0 in (
       still_under c.requires listing.trying.sound listing.trying.extends c.loop-x.invariant.4,
       c.loop-x.invariant.1,
@@ -29,16 +29,16 @@ tester_lemma_term-r-requires c =
 
 pub returns-in_default : goal.returns-in_default
 returns-in_default c =
-    let within : c.loop-x.x < length (context c.args.t.now).terms = let q = c.term_count-n.ensures.0 in
-    omega arith in
+    -- the term at hand is one of the first
+    let within : c.loop-x.x < length (context c.args.t.now).terms = omega (arith, c.term_count-n.ensures.0) in
     tester_lemma_is
     (list_answer tester_lemma_at tester_app old_tester_app c.loop-x.invariant.0 c.requires.check
     within c.tester_lemma_term-r.ensures.tried c.in_default.not-Sat tester_lemma_at_onward)
 
 pub loop-x-preserved : goal.loop-x-preserved
 loop-x-preserved c =
-    let within : c.loop-x.x < length (context c.args.t.now).terms = let q = c.term_count-n.ensures.0 in
-    omega arith in
+    -- the term at hand is one of the first
+    let within : c.loop-x.x < length (context c.args.t.now).terms = omega (arith, c.term_count-n.ensures.0) in
     let called = c.tester_lemma_term-r in (
       list_next tester_lemma_at tester_app old_tester_app c.loop-x.invariant.0 c.requires.check
           within called.ensures.tried c.in-Sat.is,

@@ -28,12 +28,14 @@ returns-in-Eq c e w C =
 
 pub returns-in-NoRoom : goal.returns-in-NoRoom
 returns-in-NoRoom c e w C =
-    let own : c.requires.a.ctor ≡ c.args.ctor.0 = let pre = c.requires in
-    its_ctor _ pre.a pre.is_app c.op.ensures c.in-Uninterpreted.is ∙ c.if-g-ctor.false in
+    -- the test of the constructor holds
+    let own : c.requires.a.ctor ≡ c.args.ctor.0 =
+    its_ctor _ c.requires.a c.requires.is_app c.op.ensures c.in-Uninterpreted.is ∙ c.if-g-ctor.false in
     test_none c.requires e w C own c.mk_app.ensures c.in-NoRoom.is
 
 pub returns-in-At : goal.returns-in-At
 returns-in-At c e w C =
-    let own : c.requires.a.ctor ≡ c.args.ctor.0 = let pre = c.requires in
-    its_ctor _ pre.a pre.is_app c.op.ensures c.in-Uninterpreted.is ∙ c.if-g-ctor.false in
+    -- the test of the constructor holds
+    let own : c.requires.a.ctor ≡ c.args.ctor.0 =
+    its_ctor _ c.requires.a c.requires.is_app c.op.ensures c.in-Uninterpreted.is ∙ c.if-g-ctor.false in
     test_some c.requires e w C own c.mk_app.ensures c.in-At.is c.hand_out.ensures
