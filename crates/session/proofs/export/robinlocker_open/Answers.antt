@@ -1,9 +1,0 @@
--- By what was told.
-use Rattle.session.proofs.Memory.Keeping.{opened_by, refused_by}
-use Rattle.session.proofs.export.robinlocker_open.Goals as goal
-
-pub returns-then-open : goal.returns-then-open
-returns-then-open c = opened_by c.«open».ensures c.if-open.true
-
-pub returns : goal.returns
-returns c = refused_by c.«open».ensures c.if-open.false
