@@ -2,8 +2,7 @@
 // and written; else a line there says what went wrong, with the number of the question that the run answered no.
 #![tactic(auto)]
 
-ghost use Rattle.std.specs.Prelude.{◌≤◌, length};
-ghost use Rattle.io.specs.Counts.{IsPrefixLen};
+ghost use Rattle.std.specs.Prelude.{◌≡◌, ◌≤◌, length, take};
 
 use session::run::{Ending, Ran, run};
 use std::io;
@@ -18,7 +17,8 @@ struct Input {
 
 // Reads until the input ends, the buffer is full or a read fails.
 fn read_script<R: Read>(from: &mut R, buf: &mut [u8]) -> Input
-    ensures { IsPrefixLen result.bytes buf.new }
+    ensures within { result.bytes ≤ length buf.new }
+    ensures count { result.bytes ≡ length (take result.bytes buf.new) }
 {
     let mut n = 0;
     while n < buf.len() {
@@ -72,14 +72,19 @@ fn say_ending<R: Eprint>(rt: &R, ran: Ran) {
     say(rt, " bytes written\n");
 }
 
-// One line: what failed, and the system's words for it, which std's text has before the error's number.
+// The system's words for an error: std's text for it up to the error's number.
+fn words(text: &str) -> &str {
+    match text.split_once(" (os error ") {
+        Some((words, _)) => words,
+        None => text,
+    }
+}
+
+// One line: what failed, and why.
 fn say_failure<R: Eprint + Alloc>(rt: &R, what: &str, error: &io::Error) -> io::Result<()> {
     let text = format!(in rt.alloc(); "{error}")?;
-    let words = match text.as_str().split_once(" (os error ") {
-        Some((words, _)) => words,
-        None => text.as_str(),
-    };
-    eprintln!(rt; "robinlocker: {what}: {words}")
+    let why = words(text.as_str());
+    eprintln!(rt; "robinlocker: {what}: {why}")
 }
 
 // Prints the first bytes of the output.
