@@ -535,14 +535,19 @@ fn try_list<R: Print, F: Read>(rt: &R, from: &mut F) -> Tally {
     t
 }
 
-// One line: the list, and the system's words for what opening it failed with, which std's text has before the error's number.
+// The system's words for an error: std's text for it up to the error's number.
+fn words(text: &str) -> &str {
+    match text.split_once(" (os error ") {
+        Some((words, _)) => words,
+        None => text,
+    }
+}
+
+// One line: the list, and why it cannot be opened.
 fn say_failure<R: Eprint + Alloc>(rt: &R, error: &io::Error) -> io::Result<()> {
     let text = format!(in rt.alloc(); "{error}")?;
-    let words = match text.as_str().split_once(" (os error ") {
-        Some((words, _)) => words,
-        None => text.as_str(),
-    };
-    eprintln!(rt; "list: {words}")
+    let why = words(text.as_str());
+    eprintln!(rt; "list: {why}")
 }
 
 fn main(rt: HostRuntime) {
