@@ -65,7 +65,7 @@ impl Ending {
 // ---- the lines
 
 // The length of an answer line is known before its first byte is written: one that does not fit leaves the output as it was.
-fn put_answer(a: Answer, answer: &[u32], output: &mut [u8], written: usize) -> Placed
+pub fn put_answer(a: Answer, answer: &[u32], output: &mut [u8], written: usize) -> Placed
     requires { Printable a answer.now × (written ≤ length output.old) }
     ensures { Puts result output.old written (line_text a answer.now) output.new
         × (length (line_text a answer.now) ≤ longest_answer) }

@@ -1,0 +1,2 @@
+-- Keeping: a session kept open.
+pub mod Keeping

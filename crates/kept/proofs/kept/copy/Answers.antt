@@ -1,0 +1,11 @@
+use Rattle.kept.proofs.Memory.Keeping.{whole_first, whole_next, whole_done}
+use Rattle.kept.proofs.kept.copy.Goals as goal
+
+pub loop-i-init : goal.loop-i-init
+loop-i-init c = whole_first c.requires
+
+pub loop-i-preserved : goal.loop-i-preserved
+loop-i-preserved c = whole_next c.loop-i.invariant c.loop-i-test.true
+
+pub returns : goal.returns
+returns c = whole_done c.loop-i.invariant c.loop-i-test.false
