@@ -1,4 +1,4 @@
-//! Links the proved library: the file that `ROBINLOCKER_LIBRARY` names, else the one that `rt staticlib session` makes.
+//! Links the proved library: the file that `ROBINLOCKER_LIBRARY` names, else the one that `tools/library` makes.
 
 use std::path::PathBuf;
 use std::{env, fs};
@@ -12,7 +12,7 @@ fn main() {
     } else {
         // Not an error: the documentation can be made without the library.
         println!(
-            "cargo:warning=no proved library at {}, so nothing will link: `rt staticlib session` at the top of the \
+            "cargo:warning=no proved library at {}, so nothing will link: `tools/library` at the top of the \
              repository makes it, or ROBINLOCKER_LIBRARY names another",
             library.display()
         );

@@ -2,7 +2,7 @@
  *
  *   session [--compare] < script
  *
- * Built at the top of the repository, once `rt staticlib session` has made the library:
+ * Built at the top of the repository, once `tools/library` has made the library:
  *
  *   cc -std=c11 -I include examples/c/session.c target/staticlib/libsession.a -o session
  *

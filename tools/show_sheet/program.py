@@ -8,7 +8,7 @@ from typing import NamedTuple
 from show_sheet import script
 
 MAX_BYTES = 65536  # of a script, and of all its answers
-HINT = "`rt check robinlocker` at the top of the repository builds it; --program or ROBINLOCKER names another"
+HINT = "`rt run < stdin` in crates/robinlocker builds it; --program or ROBINLOCKER names another"
 
 
 class Unavailable(Exception):
@@ -22,8 +22,8 @@ class Run(NamedTuple):
 
 
 def find(named):
-    """The program: the named one, else that of the environment, else the one that `rt check robinlocker` leaves."""
-    built = Path(__file__).resolve().parents[2] / "target" / "bin" / "robinlocker"
+    """The program: the named one, else that of the environment, else the one that `rt run` in crates/robinlocker leaves."""
+    built = Path(__file__).resolve().parents[2] / "crates" / "robinlocker" / "out" / "robinlocker"
     path = named or os.environ.get("ROBINLOCKER") or str(built)
     if not os.access(path, os.X_OK) or os.path.isdir(path):
         raise Unavailable(f"no program {path}: {HINT}")

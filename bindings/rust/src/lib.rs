@@ -25,7 +25,7 @@
 //! ```
 //!
 //! The library is linked statically: the file that `ROBINLOCKER_LIBRARY` names at build time, else `target/staticlib/libsession.a`
-//! of the repository, which `rt staticlib session` makes. `examples/search` is a search core over this crate.
+//! of the repository, which `tools/library` makes. `examples/search` is a search core over this crate.
 //!
 //! What the C interface can be asked wrongly cannot be asked here: a session's memory is its own, of the right size and open from
 //! the start; every line is lent as much output as the longest answer takes; and closing a session takes it away.
