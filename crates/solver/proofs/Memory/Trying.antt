@@ -1,6 +1,8 @@
 -- Rules tried one after the other: what the rest of a loop makes of the present tables is what the whole made of those at the start.
 -- Until an answer only the terms grow.
 use Rattle.shinri_core.proofs.Kit.{ℕ, ◌≡◌, refl, ap, ◌∙◌, subst, subst⁻¹, List, [], ◌∷◌, none, some, Option, arith}
+use types.Run.{OneOf, miss}
+use denote.Enum.Declared.{tag_of}
 use Rattle.shinri_core.specs.Formed.{Extends}
 use Rattle.shinri_core.specs.Memory.Table.{context}
 use Rattle.solver.specs.State.{State}
@@ -9,12 +11,17 @@ use Rattle.solver.specs.Rules.{Ruled, pass, answered, go_on, then, try_each}
 use Rattle.solver.specs.declared.answer.TCheck as TCheck
 use Rattle.solver.specs.Memory.Work.{state_at, CheckSound}
 use Rattle.solver.specs.Memory.Answer.{Outcome, Tried}
+use Rattle.solver.specs.contracts.answer.TCheck.{the_type}
 use Rattle.solver.proofs.Terms.{extends_self, extends_then}
 use Rattle.solver.proofs.Memory.Unfitting.{Onward, then_unfit}
 
 -- `Sat` is no split
 pub sat_split : (r : TCheck.TCheck) → r ≡ TCheck.TheVariants.Sat → r ≡ TCheck.TheVariants.Split → ⊥
 sat_split r p q = let z : ◌≡◌ {A = ℕ} 0 1 = cc in omega arith
+
+-- the other arms of a match on an answer
+pub not_sat : {r : TCheck.TCheck} → OneOf (1 ∷ 2 ∷ 3 ∷ 4 ∷ []) (tag_of the_type r) → r ≡ TCheck.TheVariants.Sat → ⊥
+not_sat k q = miss (1 ∷ 2 ∷ 3 ∷ 4 ∷ []) 0 tt (subst (λ (z : TCheck.TCheck). OneOf (1 ∷ 2 ∷ 3 ∷ 4 ∷ []) (tag_of the_type z)) q k)
 
 -- an answer stays, whatever comes behind it
 outcome_then : (r : TCheck.TCheck) (a : Ruled) (next : State → Ruled) (S : State) (o : List ℕ) → (r ≡ TCheck.TheVariants.Sat → ⊥) →
