@@ -113,10 +113,10 @@ mapped_same f [] (p ∷ ps) l h = absurd (omega arith)
 mapped_same f (x ∷ xs) [] l h = absurd (omega arith)
 mapped_same f (x ∷ xs) (p ∷ ps) l h = rw (h 0 (omega arith), mapped_same f xs ps (omega arith) (λ k m. h (suc k) (omega arith)))
 
-get_d_map : (f : ℕ → ℕ) (xs : List ℕ) (k : ℕ) → k < length xs → get_or (map f xs) k 0 ≡ f (get_or xs k 0)
-get_d_map f [] k l = absurd (omega arith)
-get_d_map f (x ∷ xs) zero l = refl
-get_d_map f (x ∷ xs) (suc k) l = get_d_map f xs k (omega arith)
+get_or_map : (f : ℕ → ℕ) (xs : List ℕ) (k : ℕ) → k < length xs → get_or (map f xs) k 0 ≡ f (get_or xs k 0)
+get_or_map f [] k l = absurd (omega arith)
+get_or_map f (x ∷ xs) zero l = refl
+get_or_map f (x ∷ xs) (suc k) l = get_or_map f xs k (omega arith)
 
 pub sorts_done : {cx : Context} {ps xs : List ℕ} {i n : ℕ} → SortsTo cx ps xs i → length xs ≤ i → n ≡ length ps → n ≡ length xs →
     true ≡ same_list (map (sort_of cx) xs) ps
@@ -132,7 +132,7 @@ pub sorts_differ : (cx : Context) (ps xs : List ℕ) (i a b : ℕ) → i < lengt
     (a ≡ b → ⊥) → false ≡ same_list (map (sort_of cx) xs) ps
 sorts_differ cx ps xs i a b l p q h =
     sym (same_list_not (map (sort_of cx) xs) ps (λ e.
-    h (p ∙ sym (get_d_map (sort_of cx) xs i l) ∙ ap (λ (ys : List ℕ). get_or ys i 0) e ∙ sym q)))
+    h (p ∙ sym (get_or_map (sort_of cx) xs i l) ∙ ap (λ (ys : List ℕ). get_or ys i 0) e ∙ sym q)))
 
 -- ---- operations
 

@@ -258,24 +258,24 @@ pub root_word : {c e w : List ℕ} {x root word : ℕ} → ClassAsked c e w x �
     word ≡ class_word (context c) (merges e) w x 0
 root_word {w = w} {x = x} z p q = q ∙ ap (at w LOWEST) p ∙ z.work.lowest x z.is_node
 
-module _ (c e w : List ℕ) (x word : ℕ) (is_IsWord : word ≡ class_word (context c) (merges e) w x 0) where
+module _ (c e w : List ℕ) (x word : ℕ) (is_word : word ≡ class_word (context c) (merges e) w x 0) where
   pub no_ctor : word ≡ 0 → CtorOfClass c e w x CtorOf.TheVariants.Nothing
   unfolding ctor_meaning
   no_ctor d = record {
-    is = sym (class_empty (context c) (merges e) w x word is_IsWord d);
+    is = sym (class_empty (context c) (merges e) w x word is_word d);
     within = λ a h. absurd (none_some a h);
     declared = λ a h. absurd (none_some a h);
   }
 
   pub lowest_within : (word ≡ 0 → ⊥) → word - 1 < length (context c).terms
   lowest_within d =
-      let a = class_app (context c) (merges e) w x word is_IsWord d in
+      let a = class_app (context c) (merges e) w x word is_word d in
       app_within (context c) (word - 1) a.app.ctor a.ctor.op
 
   pub no_equation : {o : Op.Op} → (word ≡ 0 → ⊥) → OpAt c (word - 1) o → o ≡ Op.TheVariants.Eq → ⊥
   unfolding op_meaning
   no_equation {o} d r s =
-      let a = class_app (context c) (merges e) w x word is_IsWord d in
+      let a = class_app (context c) (merges e) w x word is_word d in
       let n = ap op_meaning (sym s) ∙ r.is ∙ a.ctor.op in
       let k : ◌≡◌ {A = ℕ} 0 1 = cc in
       omega arith
@@ -292,7 +292,7 @@ module _ (c e w : List ℕ) (x word : ℕ) (is_IsWord : word ≡ class_word (con
   }
     where
       a : LowestApp (context c) (merges e) w x (word - 1)
-      a = class_app (context c) (merges e) w x word is_IsWord d
+      a = class_app (context c) (merges e) w x word is_word d
 
       ctor_is : f.0 ≡ a.app.ctor
       ctor_is = op_is f.0 a.app.ctor (ap op_meaning (sym s) ∙ r.is ∙ a.ctor.op)

@@ -31,9 +31,9 @@ pub tested : (t : List ℕ) (a b j : ℕ) {x y : ℕ} {r : Bool} → x ≡ left_
 tested t a b j p q e = e ∙ ap₂ (λ (u v : ℕ). same_pair u v (a, b)) p q
 
 -- the region of the marks begins at 0, so a place of it is a place of the list
-get_d_at : (ks : List ℕ) (i : ℕ) → get_or ks i 0 ≡ at ks MARKS i
+get_or_at : (ks : List ℕ) (i : ℕ) → get_or ks i 0 ≡ at ks MARKS i
 unfolding at
-get_d_at ks i = ap (λ (x : ℕ). get_or ks x 0) (sym (zero-add i))
+get_or_at ks i = ap (λ (x : ℕ). get_or ks x 0) (sym (zero-add i))
 
 set_put : (ks : List ℕ) (i v : ℕ) → set ks i v ≡ put ks MARKS i v
 unfolding put
@@ -111,7 +111,7 @@ module _ {t : List ℕ} {j : ℕ} (z : EngineSound t) (l : j < pairs_in_force (m
 pub mark_read : (t ks : List ℕ) (j : ℕ) {v : ℕ} → v ≡ at t LEFT j → not (eqb (get_or ks (v / max_terms) 0) 0) ≡ mark_of t ks j
 unfolding marked
 mark_read t ks j {v} e =
-    go (get_or ks (v / max_terms) 0) ∙ ap marked (get_d_at ks (v / max_terms) ∙ ap (λ (w : ℕ). at ks MARKS (w / max_terms)) e)
+    go (get_or ks (v / max_terms) 0) ∙ ap marked (get_or_at ks (v / max_terms) ∙ ap (λ (w : ℕ). at ks MARKS (w / max_terms)) e)
   where
     go : (n : ℕ) → not (eqb n 0) ≡ marked n
     go zero = refl

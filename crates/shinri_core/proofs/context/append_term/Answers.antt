@@ -4,7 +4,7 @@ use Rattle.shinri_core.proofs.context.append_term.Goals as goal
 
 pub returns : goal.returns
 returns c =
-    append c.before.before.before.requires c.hash_app-h.ensures.0 c.hash_app-h.ensures.1
+    append c.requires c.hash_app-h.ensures.0 c.hash_app-h.ensures.1
     c.get_at-older.ensures.0
     c.put_at.ensures c.put_at-2.ensures c.copy_words.ensures c.put_at-3.ensures
     c.put_at-4.ensures

@@ -9,9 +9,8 @@ hash_app-h-requires c = search last_code
 
 pub returns : goal.returns
 returns c =
-    let entry = c.before.before.before in
-    let z = entry.requires in
+    let z = c.requires in
     let h = c.hash_app-h.ensures in
     let b = stored_bucket _ _ (omega arith) c.get_at-code.ensures.0 c.children.ensures h.0 in
-    dropped entry.args.i z.0 z.1 b h.1 c.get_at-older.ensures.0 c.put_at.ensures
+    dropped c.args.i z.0 z.1 b h.1 c.get_at-older.ensures.0 c.put_at.ensures
     c.put_at-2.ensures

@@ -11,12 +11,12 @@ add_symbol-requires c = search constructor_room
 
 pub add_symbol-requires-2 : goal.add_symbol-requires-2
 add_symbol-requires-2 c =
-    tester_room c.get_at-n.ensures.0 c.add_symbol.ensures c.before.before.before.before.requires
+    tester_room c.get_at-n.ensures.0 c.add_symbol.ensures c.requires
     (omega (arith, c.if-n-fields.false))
 
 pub add_selectors-requires : goal.add_selectors-requires
 add_selectors-requires c =
-    selectors_room c.get_at-n.ensures.0 c.add_symbol.ensures c.before.before.before.before.requires
+    selectors_room c.get_at-n.ensures.0 c.add_symbol.ensures c.requires
     (omega (arith, c.if-n-fields.false)) c.add_symbol-2.ensures
 
 pub returns : goal.returns

@@ -17,10 +17,10 @@ returns-then-start-args c = search no_more_places
 
 pub append_term-requires : goal.append_term-requires
 append_term-requires c =
-    appendable c.before.before.before.before.requires c.get_at-n.ensures.0 c.find_app-k.ensures (omega arith)
+    appendable c.requires c.get_at-n.ensures.0 c.find_app-k.ensures (omega arith)
     c.get_at-start.ensures.0 (omega arith) (omega arith)
 
 pub returns : goal.returns
 returns c =
-    made_new c.before.before.before.before.requires c.get_at-n.ensures.0 c.find_app-k.ensures (omega arith)
+    made_new c.requires c.get_at-n.ensures.0 c.find_app-k.ensures (omega arith)
     c.get_at-start.ensures.0 (omega arith) (omega arith) c.append_term.ensures

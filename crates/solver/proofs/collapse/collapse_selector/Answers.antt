@@ -22,9 +22,6 @@ bounds-children-0 c =
     subst⁻¹ (λ (xs : List ℕ). 0 < length xs) c.children.ensures
     (subst⁻¹ (λ (xs : List ℕ). 0 < length xs) argument.1 (omega arith))
 
-pub overflow_cast-arg : goal.overflow_cast-arg
-overflow_cast-arg c = record { fits = omega (arith, c.shared_slice_known-in-Selector-1.given 0) }
-
 pub collapse_argument-requires : goal.collapse_argument-requires
 collapse_argument-requires c =
     let on =
