@@ -5,30 +5,25 @@
 ghost use Rattle.std.specs.Prelude.{◌<◌, length};
 ghost use Rattle.shinri_core.specs.Memory.Table.{ContextSound, context, MayApply, MayDeclare};
 
-use shinri_core::{context as cx, ids as id, term as tm};
+use generator::{draw, mix};
+use shinri_core::{context as cx, ids as id, limits as lm, term as tm};
 
-// The k-th number up to n that a seed gives.
-fn draw(seed: u32, k: u32, n: u32) -> u32 {
-    let x = (seed as u64 * 48271 + k as u64 * 16807) % 2147483647;
-    let y = (x ^ (x >> 12)) % 2147483648 * 69621 % 2147483647;
-    y as u32 % (n % 65536 + 1)
+fn declared(d: Result<(), lm::NoRoom>) -> u32 {
+    match d {
+        Ok(()) => 1,
+        Err(lm::NoRoom) => 2,
+    }
 }
 
-// The checksum with one more answer.
-fn mix(sum: u32, answer: u32) -> u32 {
-    ((sum as u64 * 48271 + answer as u64) % 4294967291) as u32
-}
-
-fn declared(d: cx::Declared) -> u32 {
-    if let cx::Declared::Done = d { 1 } else { 2 }
-}
-
-fn made(m: cx::Made) -> u32 {
-    if let cx::Made::At(x) = m { x.0 } else { 9999 }
+fn made(m: Result<id::TermId, lm::NoRoom>) -> u32 {
+    match m {
+        Ok(x) => x.0,
+        Err(lm::NoRoom) => 9999,
+    }
 }
 
 fn element(xs: &[u32], k: usize) -> u32 {
-    if k < xs.len() { xs[k] } else { 9999 }
+    xs.get(k).copied().unwrap_or(9999)
 }
 
 fn ask_symbol(t: &[u32], f: id::SymbolId, k: usize) -> u32
@@ -50,7 +45,11 @@ fn ask_sort(t: &[u32], s: id::SortId, from: usize) -> u32
 {
     let a = cx::is_datatype_sort(t, s) as u32;
     let b = cx::all_grounded(t) as u32;
-    mix(mix(a, b), cx::next_constructor(t, s, from) as u32)
+    let c = match cx::next_constructor(t, s, from) {
+        Some(c) => c.0,
+        None => cx::symbol_count(t) as u32,
+    };
+    mix(mix(a, b), c)
 }
 
 fn ask_term(t: &[u32], x: id::TermId, k: usize) -> u32
@@ -137,12 +136,8 @@ fn command(t: &mut [u32], i: u32) -> u32
     over(t, i, f, s)
 }
 
-// A write that fails is let go: the lines are all that the program says.
-fn print<R: Print>(rt: &R, n: usize) {
-    let _ = print!(rt; "{n} ");
-}
-
-// A run of 400 commands ends with a line, and the first runs of each half with an empty table.
+// A run of 400 commands ends with a line, and the first runs of each half with an empty table. A write that fails is let go: the lines are
+// all that the program says.
 fn step<R: Print>(rt: &R, t: &mut [u32], i: u32, sum: u32) -> u32
     requires { ContextSound t.old }
     ensures { ContextSound t.new }
@@ -150,11 +145,11 @@ fn step<R: Print>(rt: &R, t: &mut [u32], i: u32, sum: u32) -> u32
     if i % 400 != 0 {
         return mix(sum, command(t, i));
     }
-    print(rt, cx::sort_count(t));
-    print(rt, cx::symbol_count(t));
-    print(rt, cx::term_count(t));
-    print(rt, cx::place_count(t));
-    let _ = println!(rt; "{sum}");
+    let sorts = cx::sort_count(t);
+    let symbols = cx::symbol_count(t);
+    let terms = cx::term_count(t);
+    let places = cx::place_count(t);
+    let _ = println!(rt; "{sorts} {symbols} {terms} {places} {sum}");
     if i % 12000 < 2400 {
         cx::clear(t);
     }
@@ -165,9 +160,7 @@ fn main(rt: HostRuntime) {
     let mut t = [7u32; 16384];
     cx::clear(&mut t);
     let mut sum = 0;
-    let mut i = 1;
-    while i <= 24000 {
+    for i in 1..24001 {
         sum = step(&rt, &mut t, i, sum);
-        i += 1;
     }
 }

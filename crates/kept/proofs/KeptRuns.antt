@@ -1,35 +1,24 @@
--- The lines of a script by one call each are the run's lines: each call does what one turn of the run does, on the tables and the output
--- that the calls before it left.
-use Rattle.shinri_core.proofs.Kit.{ℕ, suc, ◌+◌, ◌-◌, ◌≤◌, ◌<◌, ◌≡◌, refl, sym, ap, ◌∙◌, ◌⊎◌, inl, inr, Bool, true, false, false≢true, cond, ◌&&◌, leb, List, [], ◌∷◌, ◌++◌, append_assoc, arith, le-leb, eqb, eqb-true, eqb-false, length, length-append, length-drop, take, drop}
+-- Session's theorems about calls one after another hold where the room for a call is lent: a call that is answered is one of session's, also
+-- on tables that hold the same session with other words in that room; and a call that is not answered leaves what the tables hold.
+use Rattle.std.specs.Prelude.{Result, Ok, Err}
+use Rattle.shinri_core.proofs.Kit.{ℕ, suc, ◌+◌, ◌≤◌, ◌≡◌, refl, sym, ap, subst, ◌∙◌, ◌⊎◌, inl, inr, Bool, true, false, cond, List, [], ◌∷◌, ◌++◌, arith, eqb, eqb-true, eqb-false, length, take, drop}
 use mathlib.Core.Logic.{◌≢◌}
-use lib.Seq.{take_at, drop_at, drop-drop}
-use borrow.Author.Tests.{leb-true, leb-false}
-use Rattle.shinri_core.specs.Limits.{table_words, max_script}
-use Rattle.session.specs.Text.{lines}
-use Rattle.session.specs.Session as Session
-use Rattle.session.specs.Session.{empty_session, step}
-use Rattle.session.specs.Run as Run
-use Rattle.session.specs.Run.{Ran, result_number, answers_none, one_more, answer_line, run_lines, output_after}
-use Rattle.session.specs.Promise.{ending_meaning, Reports}
-use Rattle.session.specs.RunClaim.{answers, answer_lines}
-use Rattle.session.specs.Memory.Running.{TablesLong, Zeroed}
-use Rattle.kept.specs.Memory.Kept.{Tables, SameLengths, kept_words, Open, suffice, held, KeptSound}
-use Rattle.kept.specs.Kept as Kept
-use Rattle.kept.specs.Kept.{Replied, unanswered, answer_held, answer_in, reply_number, OpensBy, Replies, Call, Sent, Stopped, GoesOn, Calls, Sends, Refuses, KeptRuns, Row, KeptHolds}
-use Rattle.session.specs.declared.run.Ending as Given
-use Rattle.session.proofs.Claim.{claim}
-use Rattle.session.proofs.Memory.Running.{zeros_same, line_fits, line_full, run_short, run_started}
-use Rattle.kept.proofs.Memory.Keeping.{suffices, all_same}
+use Rattle.shinri_core.specs.Limits.{table_words}
+use Rattle.session.specs.Kept as Own
+use Rattle.session.specs.Kept.{Reply, Done, ShortTable, Full, NotOpen, Replied, reply_number, error_meaning, reply_meaning, Closes, Call, Sent, Stopped, GoesOn}
+use Rattle.session.specs.Memory.Kept as OwnTables
+use Rattle.session.specs.Memory.Kept.{Tables, SameLengths, Held, Closed, Open, is_open, close_accepted, mark_counts, part, session_in, held}
+use Rattle.session.specs.Memory.Sessions.{beside, session}
+use Rattle.session.specs.declared.kept.LineError.{LineError}
+use Rattle.session.specs.declared.kept.LineError.TheVariants as Given
+use Rattle.session.proofs.KeptRuns as OwnRuns
+use Rattle.session.proofs.Memory.Running.{zeros_same}
+use Rattle.session.proofs.Memory.Keeping.{all_same}
+use Rattle.kept.specs.Memory.Kept.{SameSession, kept_words, suffice, KeptSound}
+use Rattle.kept.specs.Kept.{answer_in, OpensBy, Answered, Replies, Calls, Sends, KeptRuns, Row, KeptHolds}
+use Rattle.kept.proofs.Memory.Keeping.{same_mark, same_closed, same_counts, kept_long, own_suffice, as_own, all_long, own_answer, same_session}
 
--- ---- a row of calls
-
--- it ended as d
-pub record AsRun (d : Ran) (t : Tables) (o : List ℕ) (z : Sent) (t' : Tables) (o' : List ℕ) : Type 0 where
-  pub number : z.number ≡ result_number d.ending
-  pub answered : z.answered ≡ d.answered
-  pub written : z.written ≡ length d.written
-  pub output : o' ≡ output_after o d
-  pub lengths : SameLengths t t'
+-- ---- tables that hold the same session
 
 lengths_on : {t u v : Tables} → SameLengths t u → SameLengths u v → SameLengths t v
 lengths_on a b = record {
@@ -39,316 +28,229 @@ lengths_on a b = record {
   kept = b.kept ∙ a.kept;
 }
 
+lengths_back : {t u : Tables} → SameLengths t u → SameLengths u t
+lengths_back a = record { core = sym a.core; theory = sym a.theory; solver = sym a.solver; kept = sym a.kept }
+
 still_suffice : (t u : Tables) → SameLengths t u → suffice t ≡ true → suffice u ≡ true
-unfolding suffice
+unfolding suffice OwnTables.suffice
 still_suffice t u l h = rw (l.core, l.theory, l.solver, l.kept) h
 
--- no line is left
-none_left : (s : Session.Session) (t t' : Tables) (o o' : List ℕ) (z : Sent) → Calls [] t o z t' o' →
-    AsRun (run_lines (length o) s []) t o z t' o'
-unfolding run_lines result_number output_after
-none_left s t t' o o' z w =
-    rw (w.0, w.1, w.2) (record { number = refl; answered = refl; written = refl; output = refl; lengths = all_same t })
+pub record Same (t u : Tables) : Type 0 where
+  pub long : suffice t ≡ true
+  pub session : SameSession t u
+  pub lengths : SameLengths t u
 
--- ---- a call of the row
+itself : (t : Tables) → suffice t ≡ true → Same t t
+itself t h = record { long = h; session = same_session t; lengths = all_same t }
 
--- by what is held, and whether the answer line fits
-module _ (s : Session.Session) (l : List ℕ) (t : Tables) (o : List ℕ) (h : suffice t ≡ true) (q : held t ≡ Open s) where
-  abbrev text : List ℕ
-  text = answer_line (step s l)
+-- what tables hold, by what it comes from
+hold : (c e s n : List ℕ) → Bool → Bool → Held
+hold c e s n closed opened = cond opened (Open (session (part c) (part e) (part s) (beside (part e) n closed))) Closed
 
-  call_is : (b : Bool) → leb (length text) (length o) ≡ b →
-      answer_in t (length o) l
-      ≡ cond b (record { reply = Kept.Done; written = text; held = Open (step s l).session }) (unanswered Kept.Full (Open s))
-  unfolding answer_in answer_held
-  call_is b e = rw (h, q, e)
+held_is : (t : Tables) → held t ≡ hold t.core t.theory t.solver (mark_counts t.kept) (close_accepted t.kept) (is_open t.kept)
+unfolding held session_in hold
+held_is t = refl
 
-  module _ {n w : ℕ} {t₁ : Tables} {o₁ : List ℕ} (r : Replies l t o n w t₁ o₁) where
-    abbrev d : Replied
-    d = answer_in t (length o) l
+module _ (t u : Tables) (same : Same t u) where
+  same_held : held u ≡ held t
+  same_held =
+      let x = same.session in
+      let work :
+      hold u.core u.theory u.solver (mark_counts u.kept) (close_accepted u.kept) (is_open u.kept)
+      ≡ hold t.core t.theory t.solver (mark_counts t.kept) (close_accepted t.kept) (is_open t.kept) =
+      rw (
+        x.core,
+        x.theory,
+        x.solver,
+        same_mark t.kept u.kept x.kept,
+        same_closed t.kept u.kept x.kept,
+        same_counts t.kept u.kept x.kept (kept_long t same.long) same.lengths.kept,
+      ) in
+      held_is u ∙ work ∙ sym (held_is t)
 
-    number_is : n ≡ reply_number d.reply
-    number_is = r.number ∙ ap reply_number r.answers.reply
+  long_too : suffice u ≡ true
+  long_too = still_suffice t u same.lengths same.long
 
-    -- it fits
-    module _ (e : leb (length text) (length o) ≡ true) where
-      fits_number : n ≡ 0
-      unfolding reply_number
-      fits_number = number_is ∙ rw (call_is true e)
+  same_answer : (room : ℕ) (line : List ℕ) → answer_in u room line ≡ Own.answer_in t room line
+  unfolding Own.answer_in
+  same_answer room line = own_answer u room line long_too ∙ rw (own_suffice u long_too, own_suffice t same.long, same_held)
 
-      fits_written : w ≡ length text
-      fits_written = r.written ∙ r.answers.written ∙ rw (call_is true e)
+-- ---- a call
 
-      fits_output : o₁ ≡ text ++ drop (length text) o
-      fits_output = r.answers.output ∙ rw (call_is true e)
+is_done : (r : Reply) → reply_number r ≡ 0 → r ≡ Done
+unfolding reply_number
+is_done Done e = refl
+is_done ShortTable e = absurd (omega (arith, e))
+is_done Full e = absurd (omega (arith, e))
+is_done NotOpen e = absurd (omega (arith, e))
 
-      fits_held : held t₁ ≡ Open (step s l).session
-      fits_held = r.answers.held ∙ rw (call_is true e)
+module _ {l o : List ℕ} {n w : ℕ} {t u v : Tables} {o₁ : List ℕ} (same : Same t u) (r : Replies l u o n w v o₁) where
+  abbrev d : Replied
+  d = Own.answer_in t (length o) l
 
-    -- it does not
-    module _ (e : leb (length text) (length o) ≡ false) where
-      full_number : n ≡ 12
-      unfolding reply_number unanswered
-      full_number = number_is ∙ rw (call_is false e)
+  as_answered : Answered d u o r.replied v o₁
+  as_answered = subst (λ (x : Replied). Answered x u o r.replied v o₁) (same_answer t u same (length o) l) r.answers
 
-      full_held : held t₁ ≡ Open s
-      unfolding unanswered
-      full_held = r.answers.held ∙ rw (call_is false e)
+  number_is : reply_number d.reply ≡ n
+  number_is = ap reply_number (sym as_answered.reply) ∙ sym r.number
 
-      full_output : o₁ ≡ o
-      unfolding unanswered
-      full_output = r.answers.output ∙ rw (call_is false e)
+  on_lengths : SameLengths t v
+  on_lengths = lengths_on same.lengths r.answers.lengths
 
--- the output behind the answer line, then all of it
-output_more : (o text : List ℕ) (d : Ran) →
-    output_after o (one_more text d) ≡ text ++ output_after (drop (length text) o) d
-unfolding output_after one_more
-output_more o text d = rw (length-append text d.written, append_assoc, drop-drop (length d.written) (length text) o)
+  -- its line was answered
+  own_done : n ≡ 0 → Own.Replies l t o n w v o₁
+  own_done z =
+      let a = as_answered in record {
+        replied = r.replied;
+        answers =
+            record {
+              reply = a.reply;
+              written = a.written;
+              output = a.output;
+              fits = a.fits;
+              held = a.held;
+              untouched = inl (is_done d.reply (number_is ∙ z));
+              room = a.room;
+              sound = λ h o. a.sound (still_suffice t v on_lengths same.long) o;
+              lengths = on_lengths;
+              behind =
+                  record {
+                    core = a.behind.core ∙ ap (drop table_words) same.session.core;
+                    theory = a.behind.theory ∙ ap (drop table_words) same.session.theory;
+                    solver = a.behind.solver ∙ ap (drop table_words) same.session.solver;
+                  };
+            };
+        number = r.number;
+        written = r.written;
+      }
 
--- ---- the row is the run's lines
+  -- it was not
+  same_on : n ≢ 0 → Same t v
+  unfolding reply_number
+  same_on z = record { long = same.long; session = go as_answered.unperformed; lengths = on_lengths }
+    where
+      go : (d.reply ≡ Done) ⊎ SameSession u v → SameSession t v
+      go (inl e) = absurd (z (sym number_is ∙ ap reply_number e))
+      go (inr x) =
+          let y = same.session in
+          record { core = x.core ∙ y.core; theory = x.theory ∙ y.theory; solver = x.solver ∙ y.solver; kept = x.kept ∙ y.kept }
 
-module _ (s : Session.Session) (l : List ℕ) (ls : List (List ℕ)) (t t' : Tables) (o o' : List ℕ) (z : Sent) where
-  abbrev answer : List ℕ
-  answer = answer_line (step s l)
+-- a call that was not answered is one of session's that leaves the tables alone
+own_refused : {l o : List ℕ} {n w : ℕ} {t v : Tables} {o₁ : List ℕ} → suffice t ≡ true → KeptSound t → Replies l t o n w v o₁ → n ≢ 0 →
+    Own.Replies l t o n w t o₁
+own_refused {t = t} {v} h k r z =
+    let same = itself t h in
+    let a = as_answered same r in record {
+      replied = r.replied;
+      answers =
+          record {
+            reply = a.reply;
+            written = a.written;
+            output = a.output;
+            fits = a.fits;
+            held = sym (same_held t v (same_on same r z)) ∙ a.held;
+            untouched = inr refl;
+            room = a.room;
+            sound = λ _. k h;
+            lengths = all_same t;
+            behind = record { core = refl; theory = refl; solver = refl };
+          };
+      number = r.number;
+      written = r.written;
+    }
 
-  -- the line is answered, and the rest was sent as the definition says
-  turn_fits : {c : Call} {rest : Sent} {o₂ : List ℕ} → length answer ≤ length o → GoesOn c rest o₂ z o' → SameLengths t c.tables →
-      c.written ≡ length answer → c.output ≡ answer ++ drop (length answer) o →
-      AsRun (run_lines (length o - length answer) (step s l).session ls) c.tables (drop (length answer) o) rest t' o₂ →
-      AsRun (run_lines (length o) s (l ∷ ls)) t o z t' o'
-  unfolding one_more
-  turn_fits {c} {rest} {o₂} h g same w out i =
-      let on = run_lines (length o - length answer) (step s l).session ls in
-      let front : take c.written c.output ≡ answer = rw (w, out) (take_at answer (drop (length answer) o) (length answer) refl) in
-      let written : c.written + rest.written ≡ length (answer ++ on.written) =
-      rw (w, i.written, length-append answer on.written) in
-      rw (line_fits (length o) s l ls h, g.sent) (record {
-        number = i.number;
-        answered = ap suc i.answered;
-        written = written;
-        output = g.output ∙ (rw (front, i.output) (sym (output_more o answer on)));
-        lengths = lengths_on same i.lengths;
-      })
+-- ---- calls one after another
 
-  -- its answer line does not fit
-  turn_full : {c : Call} → length o < length answer → Stopped c z t' o' → t' ≡ c.tables → SameLengths t c.tables → c.number ≡ 12 →
-      c.output ≡ o → AsRun (run_lines (length o) s (l ∷ ls)) t o z t' o'
-  unfolding answers_none result_number output_after
-  turn_full h x at_end same n out =
-      rw (line_full (length o) s l ls h, x.sent, at_end) (record {
-        number = n;
-        answered = refl;
-        written = refl;
-        output = x.output ∙ out;
-        lengths = same;
-      })
+own_calls : (ls : List (List ℕ)) (t t' : Tables) (o o' : List ℕ) (z : Sent) → suffice t ≡ true → KeptSound t → Calls ls t o z t' o' →
+    (u : Tables) × SameLengths u t' × Own.Calls ls t o z u o'
+own_calls [] t t' o o' z h k w = (t', all_same t', w)
+own_calls (l ∷ ls) t t' o o' z h k (c, r, inl x) =
+    let left : Call = record { number = c.number; written = c.written; tables = t; output = c.output } in
+    let stop : Stopped left z t o' = record { unanswered = x.unanswered; sent = x.sent; tables = refl; output = x.output } in
+    (t, rw x.tables r.answers.lengths, (left, own_refused h k r x.unanswered, inl stop))
+own_calls (l ∷ ls) t t' o o' z h k (c, r, inr (rest, o₂, g, more)) =
+    let on =
+    own_calls ls c.tables t' (drop c.written c.output) o₂ rest (still_suffice t c.tables r.answers.lengths h) r.answers.sound more in
+    (on.0, on.1, (c, own_done (itself t h) r g.done, inr (rest, o₂, g, on.2)))
 
-  -- the rest of the row, if it goes on, is the run's rest
-  module _ (c : Call) (h : suffice t ≡ true) (q : held t ≡ Open s) (r : Replies l t o c.number c.written c.tables c.output)
-      (on : (rest : Sent) (o₂ : List ℕ) → suffice c.tables ≡ true → held c.tables ≡ Open (step s l).session →
-      Calls ls c.tables (drop c.written c.output) rest t' o₂ →
-      AsRun (run_lines (length (drop c.written c.output)) (step s l).session ls) c.tables (drop c.written c.output) rest t'
-      o₂) where
-    turn : (b : Bool) → leb (length answer) (length o) ≡ b →
-        Stopped c z t' o'
-        ⊎ ((rest : Sent) × (o₂ : List ℕ) × GoesOn c rest o₂ z o' × Calls ls c.tables (drop c.written c.output) rest t' o₂) →
-        AsRun (run_lines (length o) s (l ∷ ls)) t o z t' o'
-    turn true e (inl x) = absurd (x.unanswered (fits_number s l t o h q r e))
-    turn true e (inr (rest, o₂, g, more)) =
-        let w = fits_written s l t o h q r e in
-        let out = fits_output s l t o h q r e in
-        let same = r.answers.lengths in
-        let left : drop c.written c.output ≡ drop (length answer) o =
-        rw (w, out) (drop_at answer (drop (length answer) o) (length answer) refl) in
-        let i = on rest o₂ (still_suffice t c.tables same h) (fits_held s l t o h q r e) more in
-        turn_fits (leb-true (length answer) (length o) e) g same w out (rw (sym (length-drop (length answer) o), sym left) i)
-    turn false e (inl x) =
-        turn_full (leb-false (length answer) (length o) e) x x.tables r.answers.lengths (full_number s l t o h q r e)
-        (full_output s l t o h q r e)
-    turn false e (inr (rest, o₂, g, more)) =
-        let full = full_number s l t o h q r e in
-        let done = g.done in
-        absurd (omega arith)
-
-calls_run : (s : Session.Session) (ls : List (List ℕ)) (t t' : Tables) (o o' : List ℕ) (z : Sent) → suffice t ≡ true →
-    held t ≡ Open s → Calls ls t o z t' o' → AsRun (run_lines (length o) s ls) t o z t' o'
-calls_run s [] t t' o o' z h q w = none_left s t t' o o' z w
-calls_run s (l ∷ ls) t t' o o' z h q (c, r, w) =
-    turn s l ls t t' o o' z c h q r
-    (λ rest o₂ h₁ q₁ more. calls_run (step s l).session ls c.tables t' (drop c.written c.output) o₂ rest h₁ q₁ more)
-    (leb (length (answer_line (step s l))) (length o)) refl w
-
--- ---- calls with outputs of their own
-
--- one call of such a row, given what holds of the rest
-module _ (calls : List (List ℕ × List ℕ)) (s : Session.Session) (l o : List ℕ) (t t' : Tables) (ls : List (List ℕ)) (bytes : List ℕ)
-    (c : Call) (h : suffice t ≡ true) (q : held t ≡ Open s) (r : Replies l t o c.number c.written c.tables c.output)
-    (on : (u : Session.Session) (ls₁ : List (List ℕ)) (bytes₁ : List ℕ) → suffice c.tables ≡ true → held c.tables ≡ Open u →
-    Row calls c.tables ls₁ bytes₁ t' → bytes₁ ≡ answer_lines (answers u ls₁)) where
-  abbrev line_text : List ℕ
-  line_text = answer_line (step s l)
-
-  still_long : suffice c.tables ≡ true
-  still_long = still_suffice t c.tables r.answers.lengths h
-
-  row_turn : (b : Bool) → leb (length line_text) (length o) ≡ b →
-      ((c.number ≡ 0) × ((ls₁ : List (List ℕ)) × (bytes₁ : List ℕ) × Row calls c.tables ls₁ bytes₁ t'
-      × (ls ≡ l ∷ ls₁) × (bytes ≡ take c.written c.output ++ bytes₁)))
-      ⊎ ((c.number ≢ 0) × Row calls c.tables ls bytes t') →
-      bytes ≡ answer_lines (answers s ls)
-  unfolding answers answer_lines answer_line
-  row_turn true e (inl (n, (ls₁, bytes₁, more, p, b))) =
-      let w = fits_written s l t o h q r e in
-      let out = fits_output s l t o h q r e in
-      let front : take c.written c.output ≡ line_text =
-      rw (w, out) (take_at line_text (drop (length line_text) o) (length line_text) refl) in
-      b ∙ rw (front, p, on (step s l).session ls₁ bytes₁ still_long (fits_held s l t o h q r e) more)
-  row_turn true e (inr (n, more)) = absurd (n (fits_number s l t o h q r e))
-  row_turn false e (inl (n, (ls₁, bytes₁, more, p, b))) = let full = full_number s l t o h q r e in absurd (omega arith)
-  row_turn false e (inr (n, more)) = on s ls bytes still_long (full_held s l t o h q r e) more
+-- calls with outputs of their own; those that were not answered are left out
+own_row : (calls : List (List ℕ × List ℕ)) (t u u' : Tables) (ls : List (List ℕ)) (bytes : List ℕ) → Same t u →
+    Row calls u ls bytes u' → (answered : List (List ℕ × List ℕ)) × (t' : Tables) × Own.Row answered t ls bytes t'
+own_row [] t u u' ls bytes same (p, b, e) = ([], t, (p, b, refl))
+own_row ((l, o) ∷ calls) t u u' ls bytes same (c, r, inl (n, (ls₁, bytes₁, more, p, b))) =
+    let long = still_suffice t c.tables (on_lengths same r) same.long in
+    let on = own_row calls c.tables c.tables u' ls₁ bytes₁ (itself c.tables long) more in
+    ((l, o) ∷ on.0, on.1, (c, own_done same r n, inl (n, (ls₁, bytes₁, on.2, p, b))))
+own_row ((l, o) ∷ calls) t u u' ls bytes same (c, r, inr (n, more)) =
+    own_row calls t c.tables u' ls bytes (same_on same r n) more
 
 -- ---- opened and closed
 
-was_opened : {t opened : Tables} (w : OpensBy t 0 opened) → w.opened ≡ true
-unfolding reply_number
-was_opened w = go w.opened w.number
-  where
-    go : (b : Bool) → 0 ≡ cond b (reply_number Kept.Done) (reply_number Kept.ShortTable) → b ≡ true
-    go true e = refl
-    go false e = absurd (omega (arith, e))
+own_opens : {t t' : Tables} {n : ℕ} → kept_words ≤ length t.kept → OpensBy t n t' → Own.OpensBy t n t'
+own_opens {t} {t'} l w =
+    let same = as_own t l in
+    let x = w.opens in record {
+      opened = w.opened;
+      opens =
+          record {
+            told = rw (sym same) x.told;
+            opened = λ h. x.opened (same ∙ h);
+            untouched = λ h. x.untouched (same ∙ h);
+            sound = λ h. let lengths = x.lengths in let long = lengths.kept in x.sound (all_long t' (omega arith) h);
+            lengths = x.lengths;
+            behind = x.behind;
+          };
+      number = w.number;
+    }
 
 module _ {t opened : Tables} (w : OpensBy t 0 opened) where
   long_tables : suffice t ≡ true
-  long_tables = sym w.opens.told ∙ was_opened w
+  unfolding reply_number reply_meaning error_meaning
+  long_tables = go (suffice t) w.opens.told
+    where
+      go : (b : Bool) → w.opened ≡ cond b (Ok tt) (Err Given.ShortTable) → b ≡ true
+      go true e = refl
+      go false e =
+          let no = w.number ∙ ap (λ (r : Result (Unit {0}) LineError). reply_number (reply_meaning r)) e in
+          absurd (omega arith)
 
   opened_long : suffice opened ≡ true
   opened_long = still_suffice t opened w.opens.lengths long_tables
 
-  opened_empty : held opened ≡ Open empty_session
-  opened_empty = w.opens.opened (was_opened w)
+own_closes : {t u v : Tables} → SameLengths u t → Closes t v → Closes u v
+own_closes {t} {u} same x = record {
+  core = x.core ∙ zeros_same t.core u.core same.core;
+  theory = x.theory ∙ zeros_same t.theory u.theory same.theory;
+  solver = x.solver ∙ zeros_same t.solver u.solver same.solver;
+  kept = x.kept ∙ zeros_same t.kept u.kept same.kept;
+  closed = x.closed;
+  sound = x.sound;
+}
 
-module _ {ls : List (List ℕ)} {t t' : Tables} {o o' : List ℕ} {z : Sent} (w : Sends ls t o z t' o') where
-  sent_run : AsRun (run_lines (length o) empty_session ls) w.opened o z w.left o'
-  sent_run =
-      calls_run empty_session ls w.opened w.left o o' z (opened_long w.opens) (opened_empty w.opens) w.calls
-
-  left_zeroed : Zeroed t.core t.theory t.solver t'.core t'.theory t'.solver
-  left_zeroed =
-      let same = lengths_on w.opens.opens.lengths sent_run.lengths in
-      record {
-        core = w.closes.core ∙ zeros_same w.left.core t.core same.core;
-        theory = w.closes.theory ∙ zeros_same w.left.theory t.theory same.theory;
-        solver = w.closes.solver ∙ zeros_same w.left.solver t.solver same.solver;
-      }
-
--- ---- the theorem
-
--- the code's ending
-abbrev ending_of : Run.Ending → Given.Ending
-ending_of Run.Complete = Given.TheVariants.Complete
-ending_of Run.ShortTable = Given.TheVariants.ShortTable
-ending_of Run.LongScript = Given.TheVariants.LongScript
-ending_of Run.Full = Given.TheVariants.Full
-
-ending_back : (e : Run.Ending) → ending_meaning (ending_of e) ≡ e
-unfolding ending_meaning
-ending_back Run.Complete = refl
-ending_back Run.ShortTable = refl
-ending_back Run.LongScript = refl
-ending_back Run.Full = refl
-
-sent_reports : (script : List ℕ) (t t' : Tables) (o o' : List ℕ) (z : Sent) → length script ≤ max_script →
-    Sends (lines script) t o z t' o' →
-    Reports script t.core t.theory t.solver o z.number z.answered z.written t'.core t'.theory t'.solver o'
-sent_reports script t t' o o' z short w =
-    let d = run_lines (length o) empty_session (lines script) in
-    let as_run = sent_run w in
-    let suffices = suffices (long_tables w.opens) in
-    let tables : TablesLong t.core t.theory t.solver =
-    record { core = suffices.core; theory = suffices.theory; solver = suffices.solver } in
+own_sends : {ls : List (List ℕ)} {t t' : Tables} {o o' : List ℕ} {z : Sent} → kept_words ≤ length t.kept → Sends ls t o z t' o' →
+    Own.Sends ls t o z t' o'
+own_sends {ls} {o = o} {o'} {z} l w =
+    let on = own_calls ls w.opened w.left o o' z (opened_long w.opens) w.opens.opens.sound w.calls in
     record {
-      ran = record { ending = ending_of d.ending; answered = z.answered; written = z.written };
-      runs =
-          run_started script t.core t.theory t.solver o (record { short = short; tables = tables })
-          (record {
-            result =
-                record {
-                  ending = ending_back d.ending;
-                  answered = as_run.answered;
-                  written = as_run.written;
-                  output = as_run.output;
-                };
-            zeroed = left_zeroed w;
-          });
-      number = as_run.number ∙ ap result_number (sym (ending_back d.ending));
-      answered = refl;
-      written = refl;
+      opened = w.opened;
+      opens = own_opens l w.opens;
+      left = on.0;
+      calls = on.2;
+      closes = own_closes on.1 w.closes;
     }
 
--- ---- tables that are too short
-
--- one of three tests says no
-one_short : (a b c : ℕ) (d : Bool) → d ≡ true → leb table_words a && leb table_words b && leb table_words c && d ≡ false →
-    (a < table_words) ⊎ ((b < table_words) ⊎ (c < table_words))
-one_short a b c d fourth = go (leb table_words a) (leb table_words b) (leb table_words c) refl refl refl
-  where
-    go : (x y u : Bool) → leb table_words a ≡ x → leb table_words b ≡ y → leb table_words c ≡ u → x && y && u && d ≡ false →
-        (a < table_words) ⊎ ((b < table_words) ⊎ (c < table_words))
-    go true true true p q r e = absurd (false≢true (sym e ∙ fourth))
-    go true true false p q r e = inr (inr (leb-false table_words c r))
-    go true false u p q r e = inr (inl (leb-false table_words b q))
-    go false y u p q r e = inl (leb-false table_words a p)
-
-tables_short : (t : Tables) → kept_words ≤ length t.kept → suffice t ≡ false →
-    (length t.core < table_words) ⊎ ((length t.theory < table_words) ⊎ (length t.solver < table_words))
-unfolding suffice
-tables_short t k e =
-    one_short (length t.core) (length t.theory) (length t.solver) (leb kept_words (length t.kept))
-    (le-leb kept_words (length t.kept) k) e
-
-was_refused : {t t' : Tables} (w : OpensBy t 1 t') → w.opened ≡ false
-unfolding reply_number
-was_refused w = go w.opened w.number
-  where
-    go : (b : Bool) → 1 ≡ cond b (reply_number Kept.Done) (reply_number Kept.ShortTable) → b ≡ false
-    go true e = absurd (omega (arith, e))
-    go false e = refl
-
-refused_reports : (script : List ℕ) (t t' : Tables) (o o' : List ℕ) (z : Sent) → kept_words ≤ length t.kept → Refuses t o z t' o' →
-    Reports script t.core t.theory t.solver o z.number z.answered z.written t'.core t'.theory t'.solver o'
-unfolding ending_meaning result_number
-refused_reports script t t' o o' z k w =
-    let short = was_refused w.refuses in
-    let opens = w.refuses.opens in
-    rw (w.sent, opens.untouched short, w.output) (record {
-      ran = record { ending = Given.TheVariants.ShortTable; answered = 0; written = 0 };
-      runs = run_short script t.core t.theory t.solver o (tables_short t k (sym opens.told ∙ short));
-      number = refl;
-      answered = refl;
-      written = refl;
-    })
+-- ---- the theorems
 
 pub kept_runs : KeptRuns
-kept_runs script t t' o o' z short k (inl w) = sent_reports script t t' o o' z short w
-kept_runs script t t' o o' z short k (inr w) = refused_reports script t t' o o' z k w
-
--- ---- the claim
-
--- The answers of a row are the definition's, from the session that the tables hold.
-row_answers : (calls : List (List ℕ × List ℕ)) (s : Session.Session) (t t' : Tables) (ls : List (List ℕ)) (bytes : List ℕ) →
-    suffice t ≡ true → held t ≡ Open s → Row calls t ls bytes t' → bytes ≡ answer_lines (answers s ls)
-unfolding answers answer_lines
-row_answers [] s t t' ls bytes h q (p, b, same) = rw (p, b)
-row_answers ((l, o) ∷ calls) s t t' ls bytes h q (c, r, w) =
-    row_turn calls s l o t t' ls bytes c h q r
-    (λ u ls₁ bytes₁ h₁ q₁ on. row_answers calls u c.tables t' ls₁ bytes₁ h₁ q₁ on)
-    (leb (length (answer_line (step s l))) (length o)) refl w
+kept_runs script t t' o o' z short k (inl w) = OwnRuns.kept_runs script t t' o o' z short (omega (arith, k)) (inl (own_sends k w))
+kept_runs script t t' o o' z short k (inr w) =
+    OwnRuns.kept_runs script t t' o o' z short (omega (arith, k))
+    (inr (record { refuses = own_opens k w.refuses; sent = w.sent; output = w.output }))
 
 pub kept_claim : KeptHolds
-kept_claim calls t opened t' ls bytes w row = record {
-  written = row_answers calls empty_session opened t' ls bytes (opened_long w) (opened_empty w) row;
-  claim = claim ls;
-}
+kept_claim calls t opened t' ls bytes w row =
+    let own = own_row calls opened opened t' ls bytes (itself opened (opened_long w)) row in
+    OwnRuns.kept_claim own.0 t opened own.1 ls bytes (own_opens (kept_long t (long_tables w)) w) own.2
 
 -- ---- there are such rows
 

@@ -5,10 +5,6 @@ use Rattle.session.specs.Memory.Answers.{longest_answer}
 use Rattle.session.specs.Memory.Commands.{max_numbers}
 use Rattle.kept.specs.Memory.Kept.{kept_words}
 
--- 10000 times the first number of the version, 100 times the second, the third
-abbrev pub version : ℕ
-version = 10000
-
 -- the limits in the order of their names
 unfoldable pub limits : List ℕ
 limits =

@@ -3,11 +3,15 @@
 #![tactic(auto)]
 
 ghost use Rattle.std.specs.Prelude.{◌≡◌};
-ghost use Rattle.kept.specs.Kept.{OpensBy, Replies, Closes};
-ghost use Rattle.kept.specs.Library.{version, limit};
-ghost use Rattle.kept.specs.Memory.Kept.{tables, KeptSound};
+ghost use Rattle.session.specs.Kept.{Closes};
+ghost use Rattle.session.specs.Library.{version};
+ghost use Rattle.session.specs.Memory.Kept.{tables};
+ghost use Rattle.kept.specs.Kept.{OpensBy, Replies};
+ghost use Rattle.kept.specs.Library.{limit};
+ghost use Rattle.kept.specs.Memory.Kept.{KeptSound};
 
-use kept::kept::{KEPT_WORDS, LONGEST_ANSWER, close, line, open};
+use kept::kept::{KEPT_WORDS, close, line, open};
+use session::kept::LONGEST_ANSWER;
 use session::run::{MAX_NUMBERS, MAX_SCRIPT, TABLE_WORDS};
 use shinri_core::limits::{
     MAX_LEVELS, MAX_PAIRS, MAX_PLACES, MAX_SORTS, MAX_SYMBOLS, MAX_TERMS, MAX_VARS,
@@ -23,10 +27,10 @@ pub extern "C" fn robinlocker_open(
     ensures { OpensBy (tables core.old theory.old solver.old kept.old) result
         (tables core.new theory.new solver.new kept.new) }
 {
-    if open(core, theory, solver, kept) {
-        return 0;
+    match open(core, theory, solver, kept) {
+        Ok(()) => 0,
+        Err(e) => u32::from(e),
     }
-    1
 }
 
 // It asks of its caller that tables which are marked as open are as the last call left them.
@@ -46,10 +50,16 @@ pub extern "C" fn robinlocker_line(
         result written.new
         (tables core.new theory.new solver.new kept.new) output.new }
 {
-    let replied = line(text, core, theory, solver, kept, output);
-    *written = replied.written;
-    let reply = replied.reply;
-    reply.number()
+    match line(text, core, theory, solver, kept, output) {
+        Ok(n) => {
+            *written = n;
+            0
+        }
+        Err(e) => {
+            *written = 0;
+            u32::from(e)
+        }
+    }
 }
 
 #[unsafe(no_mangle)]

@@ -4,18 +4,19 @@
 
 ghost use Rattle.std.specs.Prelude.{◌≡◌, ◌≤◌, length, take};
 
+use failures::words;
 use session::run::{Ending, Ran, run};
 use std::io;
 use std::io::Read;
 
-// How many bytes were read, and what a read after them failed with, if one did.
+// How many bytes were read, and what a read after them failed with, if one did: the bytes are counted either way, so no Result stands here.
 #[derive(Drop)]
 struct Input {
     bytes: usize,
     failed: Option<io::Error>,
 }
 
-// Reads until the input ends, the buffer is full or a read fails.
+// Reads until the input ends, the buffer is full or a read fails. A read gives any number of bytes, so no `for` counts the place.
 fn read_script<R: Read>(from: &mut R, buf: &mut [u8]) -> Input
     ensures within { result.bytes ≤ length buf.new }
     ensures count { result.bytes ≡ length (take result.bytes buf.new) }
@@ -39,45 +40,28 @@ fn read_script<R: Read>(from: &mut R, buf: &mut [u8]) -> Input
     }
 }
 
-// What cannot be said on standard error is let go.
-fn say<R: Eprint>(rt: &R, what: &str) {
-    let _ = rt.eprint(what);
-}
-
-fn say_number<R: Eprint>(rt: &R, n: usize) {
-    let _ = rt.eprint(n);
-}
-
 // How a run ended, in words.
-fn say_question<R: Eprint>(rt: &R, ending: Ending) {
+fn question(ending: Ending) -> &'static str {
     match ending {
-        Ending::Complete => say(rt, "the run went to the end"),
-        Ending::ShortTable => say(rt, "a work table has fewer than 16384 words"),
-        Ending::LongScript => say(rt, "the script is longer than 65536 bytes"),
-        Ending::Full => say(rt, "the answer line does not fit the output left"),
+        Ending::Complete => "the run went to the end",
+        Ending::ShortTable => "a work table has fewer than 16384 words",
+        Ending::LongScript => "the script is longer than 65536 bytes",
+        Ending::Full => "the answer line does not fit the output left",
     }
 }
 
-// One line: the result, its question, the lines answered and the bytes written.
+// One line: the result, its question, the lines answered and the bytes written. What cannot be said on standard error is let go.
 fn say_ending<R: Eprint>(rt: &R, ran: Ran) {
-    let ending = ran.ending;
-    say(rt, "robinlocker: ");
-    say_number(rt, ending.number() as usize);
-    say(rt, ": ");
-    say_question(rt, ending);
-    say(rt, "; ");
-    say_number(rt, ran.answered);
-    say(rt, " lines answered, ");
-    say_number(rt, ran.written);
-    say(rt, " bytes written\n");
-}
-
-// The system's words for an error: std's text for it up to the error's number.
-fn words(text: &str) -> &str {
-    match text.split_once(" (os error ") {
-        Some((words, _)) => words,
-        None => text,
-    }
+    let Ran {
+        ending,
+        answered,
+        written,
+    } = ran;
+    let number = u32::from(ending);
+    let question = question(ending);
+    let _ = eprintln!(rt;
+        "robinlocker: {number}: {question}; {answered} lines answered, {written} bytes written"
+    );
 }
 
 // One line: what failed, and why.
@@ -95,6 +79,7 @@ fn print<R: Print>(rt: &R, output: &[u8], written: usize) -> io::Result<()>
 }
 
 // Lends three work tables and the output, and prints what the run wrote.
+#[tactic(auto, unfolding(session::specs::Run::output_after))]
 fn answer<R: Print + Eprint + Alloc>(rt: &R, script: &[u8]) {
     let mut core = [0u32; 16384];
     let mut theory = [0u32; 16384];
@@ -104,8 +89,7 @@ fn answer<R: Print + Eprint + Alloc>(rt: &R, script: &[u8]) {
     if let Err(e) = print(rt, &output, ran.written) {
         let _ = say_failure(rt, "standard output", &e);
     }
-    let ending = ran.ending;
-    if ending.number() != 0 {
+    if ran.ending != Ending::Complete {
         say_ending(rt, ran);
     }
 }

@@ -1,5 +1,6 @@
 -- The lines of a script by one call each are the run's lines: each call does what one turn of the run does, on the tables and the output
 -- that the calls before it left.
+use Rattle.std.specs.Prelude.{Result, Ok, Err}
 use Rattle.shinri_core.proofs.Kit.{ℕ, suc, ◌+◌, ◌-◌, ◌≤◌, ◌<◌, ◌≡◌, refl, sym, ap, ◌∙◌, ◌⊎◌, inl, inr, Bool, true, false, false≢true, cond, ◌&&◌, leb, List, [], ◌∷◌, ◌++◌, append_assoc, arith, le-leb, eqb, eqb-true, eqb-false, length, length-append, length-drop, take, drop}
 use mathlib.Core.Logic.{◌≢◌}
 use lib.Seq.{take_at, drop_at, drop-drop}
@@ -15,8 +16,10 @@ use Rattle.session.specs.RunClaim.{answers, answer_lines}
 use Rattle.session.specs.Memory.Running.{TablesLong, Zeroed}
 use Rattle.session.specs.Memory.Kept.{Tables, SameLengths, kept_words, Open, suffice, held, KeptSound}
 use Rattle.session.specs.Kept as Kept
-use Rattle.session.specs.Kept.{Replied, unanswered, answer_held, answer_in, reply_number, OpensBy, Replies, Call, Sent, Stopped, GoesOn, Calls, Sends, Refuses, KeptRuns, Row, KeptHolds}
+use Rattle.session.specs.Kept.{Replied, unanswered, answer_held, answer_in, reply_number, error_meaning, reply_meaning, OpensBy, Replies, Call, Sent, Stopped, GoesOn, Calls, Sends, Refuses, KeptRuns, Row, KeptHolds}
 use Rattle.session.specs.declared.run.Ending as Given
+use Rattle.session.specs.declared.kept.LineError.{LineError}
+use Rattle.session.specs.declared.kept.LineError.TheVariants.{ShortTable}
 use Rattle.session.proofs.Claim.{claim}
 use Rattle.session.proofs.Memory.Running.{zeros_same, line_fits, line_full, run_short, run_started}
 use Rattle.session.proofs.Memory.Keeping.{suffices, all_same}
@@ -209,23 +212,22 @@ module _ (calls : List (List ℕ × List ℕ)) (s : Session.Session) (l o : List
 
 -- ---- opened and closed
 
-was_opened : {t opened : Tables} (w : OpensBy t 0 opened) → w.opened ≡ true
-unfolding reply_number
-was_opened w = go w.opened w.number
-  where
-    go : (b : Bool) → 0 ≡ cond b (reply_number Kept.Done) (reply_number Kept.ShortTable) → b ≡ true
-    go true e = refl
-    go false e = absurd (omega (arith, e))
-
 module _ {t opened : Tables} (w : OpensBy t 0 opened) where
   long_tables : suffice t ≡ true
-  long_tables = sym w.opens.told ∙ was_opened w
+  unfolding reply_number reply_meaning error_meaning
+  long_tables = go (suffice t) w.opens.told
+    where
+      go : (b : Bool) → w.opened ≡ cond b (Ok tt) (Err ShortTable) → b ≡ true
+      go true e = refl
+      go false e =
+          let no = w.number ∙ ap (λ (r : Result (Unit {0}) LineError). reply_number (reply_meaning r)) e in
+          absurd (omega arith)
 
   opened_long : suffice opened ≡ true
   opened_long = still_suffice t opened w.opens.lengths long_tables
 
   opened_empty : held opened ≡ Open empty_session
-  opened_empty = w.opens.opened (was_opened w)
+  opened_empty = w.opens.opened long_tables
 
 module _ {ls : List (List ℕ)} {t t' : Tables} {o o' : List ℕ} {z : Sent} (w : Sends ls t o z t' o') where
   sent_run : AsRun (run_lines (length o) empty_session ls) w.opened o z w.left o'
@@ -306,23 +308,25 @@ tables_short t k e =
     one_short (length t.core) (length t.theory) (length t.solver) (leb kept_words (length t.kept))
     (le-leb kept_words (length t.kept) k) e
 
-was_refused : {t t' : Tables} (w : OpensBy t 1 t') → w.opened ≡ false
-unfolding reply_number
-was_refused w = go w.opened w.number
+short_tables : {t t' : Tables} (w : OpensBy t 1 t') → suffice t ≡ false
+unfolding reply_number reply_meaning error_meaning
+short_tables {t} w = go (suffice t) w.opens.told
   where
-    go : (b : Bool) → 1 ≡ cond b (reply_number Kept.Done) (reply_number Kept.ShortTable) → b ≡ false
-    go true e = absurd (omega (arith, e))
+    go : (b : Bool) → w.opened ≡ cond b (Ok tt) (Err ShortTable) → b ≡ false
+    go true e =
+        let yes = w.number ∙ ap (λ (r : Result (Unit {0}) LineError). reply_number (reply_meaning r)) e in
+        absurd (omega arith)
     go false e = refl
 
 refused_reports : (script : List ℕ) (t t' : Tables) (o o' : List ℕ) (z : Sent) → kept_words ≤ length t.kept → Refuses t o z t' o' →
     Reports script t.core t.theory t.solver o z.number z.answered z.written t'.core t'.theory t'.solver o'
 unfolding ending_meaning result_number
 refused_reports script t t' o o' z k w =
-    let short = was_refused w.refuses in
+    let short = short_tables w.refuses in
     let opens = w.refuses.opens in
     rw (w.sent, opens.untouched short, w.output) (record {
       ran = record { ending = Given.TheVariants.ShortTable; answered = 0; written = 0 };
-      runs = run_short script t.core t.theory t.solver o (tables_short t k (sym opens.told ∙ short));
+      runs = run_short script t.core t.theory t.solver o (tables_short t k short);
       number = refl;
       answered = refl;
       written = refl;

@@ -1,6 +1,6 @@
 -- A session kept open: a call opens it on lent tables, a call answers one line, a call closes it. What each call promises, and the theorem
 -- that the lines of a script, sent by one call each, are answered as by `run`, so that the claim holds of a session kept open.
-use Rattle.std.specs.Prelude.{ℕ, suc, ◌+◌, ◌≤◌, ◌≡◌, ◌⊎◌, ◌≢◌, Bool, true, false, cond, List, [], ◌∷◌, ◌++◌, leb, length, take, drop}
+use Rattle.std.specs.Prelude.{ℕ, suc, ◌+◌, ◌≤◌, ◌≡◌, ◌⊎◌, ◌≢◌, true, false, cond, List, [], ◌∷◌, ◌++◌, leb, length, take, drop, Result, Ok, Err}
 use Rattle.shinri_core.specs.Limits.{max_script}
 use Rattle.session.specs.Text.{lines}
 use Rattle.session.specs.Session.{empty_session, step}
@@ -10,8 +10,7 @@ use Rattle.session.specs.Claim.{Claim}
 use Rattle.session.specs.RunClaim.{answers, answer_lines}
 use Rattle.session.specs.Memory.Answers.{longest_answer}
 use Rattle.session.specs.Memory.Kept.{kept_words, Held, Closed, Open, Tables, SameLengths, SameBehind, suffice, held, KeptSound}
-use Rattle.session.specs.declared.kept.Reply as Given
-use Rattle.session.specs.declared.kept.Replied as GivenReplied
+use Rattle.session.specs.declared.kept.LineError as Given
 
 -- ---- the definition of a call
 
@@ -50,26 +49,35 @@ answer_in t room line = cond (suffice t) (answer_held room (held t) line) (unans
 
 -- ---- what the calls promise
 
--- the code's replies in the definition
-unfoldable pub reply_meaning : Given.Reply → Reply
-reply_meaning Given.TheVariants.Done = Done
-reply_meaning Given.TheVariants.ShortTable = ShortTable
-reply_meaning Given.TheVariants.Full = Full
-reply_meaning Given.TheVariants.NotOpen = NotOpen
+-- why a call did nothing, in the definition
+unfoldable pub error_meaning : Given.LineError → Reply
+error_meaning Given.TheVariants.ShortTable = ShortTable
+error_meaning Given.TheVariants.Full = Full
+error_meaning Given.TheVariants.NotOpen = NotOpen
+
+-- what the code says of a call, in the definition
+unfoldable pub reply_meaning : {T : Type 0} → Result T Given.LineError → Reply
+reply_meaning (Ok x) = Done
+reply_meaning (Err e) = error_meaning e
+
+-- how many bytes it says that it wrote
+abbrev pub bytes_written : Result ℕ Given.LineError → ℕ
+bytes_written (Ok n) = n
+bytes_written (Err e) = 0
 
 -- An empty session is open on tables that are long enough, whatever they held; others are untouched.
-pub record Opens (t : Tables) (r : Bool) (t' : Tables) : Type 0 where
-  pub told : r ≡ suffice t
-  pub opened : r ≡ true → held t' ≡ Open empty_session
-  pub untouched : r ≡ false → t' ≡ t
+pub record Opens (t : Tables) (r : Result (Unit {0}) Given.LineError) (t' : Tables) : Type 0 where
+  pub told : r ≡ cond (suffice t) (Ok tt) (Err Given.TheVariants.ShortTable)
+  pub opened : suffice t ≡ true → held t' ≡ Open empty_session
+  pub untouched : suffice t ≡ false → t' ≡ t
   pub sound : KeptSound t'
   pub lengths : SameLengths t t'
   pub behind : SameBehind t t'
 
 -- A line was answered as d says; the output was o and is o'.
-pub record Answered (d : Replied) (t : Tables) (o : List ℕ) (r : GivenReplied.Replied) (t' : Tables) (o' : List ℕ) : Type 0 where
-  pub reply : reply_meaning r.reply ≡ d.reply
-  pub written : r.written ≡ length d.written
+pub record Answered (d : Replied) (t : Tables) (o : List ℕ) (r : Result ℕ Given.LineError) (t' : Tables) (o' : List ℕ) : Type 0 where
+  pub reply : reply_meaning r ≡ d.reply
+  pub written : bytes_written r ≡ length d.written
   -- output past the answer line is untouched
   pub output : o' ≡ d.written ++ drop (length d.written) o
   pub fits : length d.written ≤ length o
@@ -82,7 +90,7 @@ pub record Answered (d : Replied) (t : Tables) (o : List ℕ) (r : GivenReplied.
   pub lengths : SameLengths t t'
   pub behind : SameBehind t t'
 
-abbrev pub AnswersHeld : List ℕ → Tables → List ℕ → GivenReplied.Replied → Tables → List ℕ → Type 0
+abbrev pub AnswersHeld : List ℕ → Tables → List ℕ → Result ℕ Given.LineError → Tables → List ℕ → Type 0
 AnswersHeld line t o r t' o' = Answered (answer_in t (length o) line) t o r t' o'
 
 -- All words of the tables are 0, so no session is open on them.
@@ -96,15 +104,15 @@ pub record Closes (t t' : Tables) : Type 0 where
 
 -- The same by numbers: n for the reply, w bytes written.
 pub record Replies (line : List ℕ) (t : Tables) (o : List ℕ) (n w : ℕ) (t' : Tables) (o' : List ℕ) : Type 0 where
-  pub replied : GivenReplied.Replied
+  pub replied : Result ℕ Given.LineError
   pub answers : AnswersHeld line t o replied t' o'
-  pub number : n ≡ reply_number (reply_meaning replied.reply)
-  pub written : w ≡ replied.written
+  pub number : n ≡ reply_number (reply_meaning replied)
+  pub written : w ≡ bytes_written replied
 
 pub record OpensBy (t : Tables) (n : ℕ) (t' : Tables) : Type 0 where
-  pub opened : Bool
+  pub opened : Result (Unit {0}) Given.LineError
   pub opens : Opens t opened t'
-  pub number : n ≡ cond opened (reply_number Done) (reply_number ShortTable)
+  pub number : n ≡ reply_number (reply_meaning opened)
 
 -- ---- calls one after another
 

@@ -1,25 +1,23 @@
 // Reading a line: question 3 whole (specs/Line.antt, specs/Memory/Commands.antt).
-ghost use Rattle.std.specs.Prelude.{◌≡◌, cond, List, [], ◌∷◌, ℕ, ◌≤◌, eqb, length, take};
+ghost use Rattle.std.specs.Prelude.{◌≡◌, [], ◌∷◌, ◌≤◌, ◌<◌, length, Some};
 ghost use Rattle.shinri_core.specs.Lists.{first, same_list};
 ghost use Rattle.session.specs.Line as Line;
 ghost use Rattle.session.specs.Memory.Lines.{KeyRoom};
-ghost use Rattle.session.specs.Memory.Commands.{max_numbers, key_meaning, list_key, one_key, pair_key, others, by_known, by_numbers, NumbersStand, OthersStand, ReadsAs, ReadsLine};
+ghost use Rattle.session.specs.Memory.Commands.{max_numbers, list_key, one_key, pair_key, key_meaning, ReadsKey, ReadsAs, ReadsLine};
 
 use crate::numbers::read_numbers;
 use crate::reader::first_byte;
 use shinri_core::ids::{Lit, SortId, SymbolId, TermId, Var};
 use theory::types::TheoryJust;
 
-// A line that reads, or that does not. Where a line has a list of numbers behind its first, it is held how many: they stand in the
-// table of numbers from its second word on.
+// A line that reads. The numbers behind the first of a list stand in the table of numbers.
 #[derive(Clone, Copy)]
-pub enum Command {
-    Unreadable,
+pub enum Command<'a> {
     DeclareSort(bool),
-    DeclareCtor(SortId, usize),
-    DeclareFun(SortId, usize),
+    DeclareCtor(SortId, &'a [u32]),
+    DeclareFun(SortId, &'a [u32]),
     Close,
-    MkTerm(SymbolId, usize),
+    MkTerm(SymbolId, &'a [u32]),
     MkEq(TermId, TermId),
     Register(Var, TermId),
     Equate(Lit),
@@ -38,7 +36,7 @@ const KEY_ROOM: usize = 7;
 // ---- keys
 
 // The keys of one number or more.
-#[derive(Clone, Copy)]
+#[derive(Clone, Copy, PartialEq, Eq)]
 pub enum ListKey {
     Ctor,
     Fun,
@@ -46,7 +44,7 @@ pub enum ListKey {
 }
 
 // The keys of one number.
-#[derive(Clone, Copy)]
+#[derive(Clone, Copy, PartialEq, Eq)]
 pub enum OneKey {
     Close,
     Equate,
@@ -58,76 +56,86 @@ pub enum OneKey {
 }
 
 // The keys of two numbers.
-#[derive(Clone, Copy)]
+#[derive(Clone, Copy, PartialEq, Eq)]
 pub enum PairKey {
     Eq,
     Var,
     Cong,
 }
 
-// The fifteen keys by how many numbers they take, and a key that is not known.
-#[derive(Clone, Copy)]
+// The fifteen keys by how many numbers they take.
+#[derive(Clone, Copy, PartialEq, Eq)]
 pub enum Key {
     Sort,
     List(ListKey),
     One(OneKey),
     Pair(PairKey),
     Iface,
-    Unknown,
 }
 
-fn same_text(a: &[u8], b: &[u8]) -> bool
-    ensures { result ≡ same_list a.now b.now }
-{
-    if a.len() != b.len() {
-        return false;
-    }
-    let mut i = 0;
-    while i < a.len() {
-        if a[i] != b[i] {
-            return false;
+// In the order in which they are tried.
+const KEYS: [Key; 15] = [
+    Key::Sort,
+    Key::List(ListKey::Ctor),
+    Key::List(ListKey::Fun),
+    Key::One(OneKey::Close),
+    Key::List(ListKey::Term),
+    Key::Pair(PairKey::Eq),
+    Key::Pair(PairKey::Var),
+    Key::One(OneKey::Equate),
+    Key::Pair(PairKey::Cong),
+    Key::Iface,
+    Key::One(OneKey::Assert),
+    Key::One(OneKey::Differ),
+    Key::One(OneKey::Push),
+    Key::One(OneKey::Pop),
+    Key::One(OneKey::Check),
+];
+
+impl Key {
+    #[tactic(auto, unfolding(crate::specs::Line::key_text, crate::specs::Text::bytes))]
+    fn text(self) -> &'static [u8]
+        ensures { result.now ≡ Line.key_text (key_meaning self) }
+    {
+        match self {
+            Key::Sort => b"sort",
+            Key::List(ListKey::Ctor) => b"ctor",
+            Key::List(ListKey::Fun) => b"fun",
+            Key::One(OneKey::Close) => b"close",
+            Key::List(ListKey::Term) => b"term",
+            Key::Pair(PairKey::Eq) => b"eq",
+            Key::Pair(PairKey::Var) => b"var",
+            Key::One(OneKey::Equate) => b"equate",
+            Key::Pair(PairKey::Cong) => b"cong",
+            Key::Iface => b"iface",
+            Key::One(OneKey::Assert) => b"assert",
+            Key::One(OneKey::Differ) => b"differ",
+            Key::One(OneKey::Push) => b"push",
+            Key::One(OneKey::Pop) => b"pop",
+            Key::One(OneKey::Check) => b"check",
         }
-        i += 1;
     }
-    true
 }
 
-// The key of a text if k is that text, else another.
-fn key_or(k: &[u8], text: &[u8], key: Key, other: Key) -> Key
-    ensures { result ≡ cond (same_list k.now text.now) key other }
+// The key of a text. A `match` on the byte strings tests byte by byte, and its proof has 55 cases in which no key fits.
+fn read_key(k: &[u8]) -> Option<Key>
+    ensures { ReadsKey (first (λ x. same_list k.now (Line.key_text x)) Line.keys) result }
 {
-    if same_text(k, text) {
-        return key;
+    for key in &KEYS {
+        if k == key.text() {
+            return Some(*key);
+        }
     }
-    other
-}
-
-// The keys in the order of the definition, tried from the last to the first: an earlier one takes the place of a later one.
-fn read_key(k: &[u8]) -> Key
-    ensures { key_meaning result ≡ first (λ x. same_list k.now (Line.key_text x)) Line.keys }
-{
-    let check = key_or(k, b"check", Key::One(OneKey::Check), Key::Unknown);
-    let pop = key_or(k, b"pop", Key::One(OneKey::Pop), check);
-    let push = key_or(k, b"push", Key::One(OneKey::Push), pop);
-    let differ = key_or(k, b"differ", Key::One(OneKey::Differ), push);
-    let assert = key_or(k, b"assert", Key::One(OneKey::Assert), differ);
-    let iface = key_or(k, b"iface", Key::Iface, assert);
-    let cong = key_or(k, b"cong", Key::Pair(PairKey::Cong), iface);
-    let equate = key_or(k, b"equate", Key::One(OneKey::Equate), cong);
-    let var = key_or(k, b"var", Key::Pair(PairKey::Var), equate);
-    let eq = key_or(k, b"eq", Key::Pair(PairKey::Eq), var);
-    let term = key_or(k, b"term", Key::List(ListKey::Term), eq);
-    let close = key_or(k, b"close", Key::One(OneKey::Close), term);
-    let fun = key_or(k, b"fun", Key::List(ListKey::Fun), close);
-    let ctor = key_or(k, b"ctor", Key::List(ListKey::Ctor), fun);
-    key_or(k, b"sort", Key::Sort, ctor)
+    None
 }
 
 // ---- the numbers of a key
 
-// A first number, and how many others stand behind it.
-fn by_list(k: ListKey, x: u32, more: usize) -> Command
-    ensures { (ns : List ℕ) → OthersStand more ns → ReadsAs (Line.by_key (list_key k) (x ∷ others more ns)) result ns }
+// A first number and those behind it.
+#[tactic(auto, unfolding(crate::specs::Line::by_key, crate::specs::Line::some_or_more))]
+fn by_list(k: ListKey, x: u32, more: &[u32]) -> Command<'_>
+    requires { length more.now < max_numbers }
+    ensures { ReadsAs (Line.by_key (list_key k) (x ∷ more.now)) (Some result) }
 {
     match k {
         ListKey::Ctor => Command::DeclareCtor(SortId(x), more),
@@ -136,45 +144,37 @@ fn by_list(k: ListKey, x: u32, more: usize) -> Command
     }
 }
 
-// A command if the number is 1.
-fn only_one(c: Command, x: u32) -> Command
-    ensures { result ≡ cond (eqb x 1) c Command.Unreadable }
-{
-    if x == 1 {
-        return c;
-    }
-    Command::Unreadable
-}
-
 // 0 or 1 after `check`.
-fn effort(x: u32) -> Command
-    ensures { (ns : List ℕ) → ReadsAs (Line.effort x) result ns }
+#[tactic(auto, unfolding(crate::specs::Line::effort))]
+fn effort<'a>(x: u32) -> Option<Command<'a>>
+    ensures { ReadsAs (Line.effort x) result }
 {
-    if x == 1 {
-        return Command::Check(true);
+    match x {
+        1 => Some(Command::Check(true)),
+        0 => Some(Command::Check(false)),
+        _ => None,
     }
-    if x == 0 {
-        return Command::Check(false);
-    }
-    Command::Unreadable
 }
 
-fn by_one(k: OneKey, x: u32) -> Command
-    ensures { (ns : List ℕ) → ReadsAs (Line.by_key (one_key k) (x ∷ [])) result ns }
+// `close` and `push` are written only with 1.
+#[tactic(auto, unfolding(crate::specs::Line::by_key, crate::specs::Line::just_one, crate::specs::Line::only_one))]
+fn by_one<'a>(k: OneKey, x: u32) -> Option<Command<'a>>
+    ensures { ReadsAs (Line.by_key (one_key k) (x ∷ [])) result }
 {
     match k {
-        OneKey::Close => only_one(Command::Close, x),
-        OneKey::Equate => Command::Equate(Lit(x)),
-        OneKey::Assert => Command::Assert(Lit(x)),
-        OneKey::Differ => Command::Differ(Lit(x)),
-        OneKey::Push => only_one(Command::Push, x),
-        OneKey::Pop => Command::Pop(x),
+        OneKey::Close => (x == 1).then_some(Command::Close),
+        OneKey::Equate => Some(Command::Equate(Lit(x))),
+        OneKey::Assert => Some(Command::Assert(Lit(x))),
+        OneKey::Differ => Some(Command::Differ(Lit(x))),
+        OneKey::Push => (x == 1).then_some(Command::Push),
+        OneKey::Pop => Some(Command::Pop(x)),
         OneKey::Check => effort(x),
     }
 }
 
-fn by_pair(k: PairKey, x: u32, y: u32) -> Command
-    ensures { (ns : List ℕ) → ReadsAs (Line.by_key (pair_key k) (x ∷ y ∷ [])) result ns }
+#[tactic(auto, unfolding(crate::specs::Line::by_key, crate::specs::Line::just_two))]
+fn by_pair<'a>(k: PairKey, x: u32, y: u32) -> Command<'a>
+    ensures { ReadsAs (Line.by_key (pair_key k) (x ∷ y ∷ [])) (Some result) }
 {
     match k {
         PairKey::Eq => Command::MkEq(TermId(x), TermId(y)),
@@ -184,84 +184,74 @@ fn by_pair(k: PairKey, x: u32, y: u32) -> Command
 }
 
 // H at most 65,535.
-fn iface(t: u32, u: u32, h: u32, g: u32) -> Command
-    ensures { (ns : List ℕ) → ReadsAs (Line.iface t u h g) result ns }
+#[tactic(auto, unfolding(crate::specs::Line::iface))]
+fn iface<'a>(t: u32, u: u32, h: u32, g: u32) -> Option<Command<'a>>
+    ensures { ReadsAs (Line.iface t u h g) result }
 {
-    if 65535 < h {
-        return Command::Unreadable;
-    }
     let just = TheoryJust {
-        theory: h as u16,
+        theory: u16::try_from(h).ok()?,
         tag: g,
     };
-    Command::Iface(TermId(t), TermId(u), just)
+    Some(Command::Iface(TermId(t), TermId(u), just))
 }
 
-// The first n numbers of the table, after a key.
-fn by_key(k: Key, n: usize, numbers: &[u32]) -> Command
-    requires { NumbersStand n numbers.now }
-    ensures { ReadsAs (by_known (key_meaning k) (take n numbers.now)) result numbers.now }
+// The numbers after a key: each asks for its count of them. The counts are tested by length, since a proof knows no length where
+// a slice's pattern of so many fails.
+fn by_key(k: Key, numbers: &[u32]) -> Option<Command<'_>>
+    requires { length numbers.now ≤ max_numbers }
+    ensures { ReadsAs (Line.by_key (key_meaning k) numbers.now) result }
 {
     match k {
-        Key::Sort => Command::Unreadable,
-        Key::List(l) => by_list(l, numbers[0], n - 1),
+        Key::Sort => None,
+        Key::List(l) => match numbers {
+            [x, more @ ..] => Some(by_list(l, *x, more)),
+            [] => None,
+        },
         Key::One(o) => {
-            if n != 1 {
-                return Command::Unreadable;
+            if numbers.len() != 1 {
+                return None;
             }
             by_one(o, numbers[0])
         }
         Key::Pair(p) => {
-            if n != 2 {
-                return Command::Unreadable;
+            if numbers.len() != 2 {
+                return None;
             }
-            by_pair(p, numbers[0], numbers[1])
+            Some(by_pair(p, numbers[0], numbers[1]))
         }
         Key::Iface => {
-            if n != 4 {
-                return Command::Unreadable;
+            if numbers.len() != 4 {
+                return None;
             }
             iface(numbers[0], numbers[1], numbers[2], numbers[3])
         }
-        Key::Unknown => Command::Unreadable,
     }
 }
 
 // ---- the value
 
 // The letter of a sort.
-fn letter_sort(v: &[u8]) -> Command
-    ensures { (ns : List ℕ) → ReadsAs (Line.letter_sort v.now) result ns }
+fn letter_sort<'a>(v: &[u8]) -> Option<Command<'a>>
+    ensures { ReadsAs (Line.letter_sort v.now) result }
 {
-    if same_text(v, b"d") {
-        return Command::DeclareSort(true);
+    if v == b"d".as_slice() {
+        return Some(Command::DeclareSort(true));
     }
-    if same_text(v, b"u") {
-        return Command::DeclareSort(false);
+    if v == b"u".as_slice() {
+        return Some(Command::DeclareSort(false));
     }
-    Command::Unreadable
+    None
 }
 
-// Numbers after a key other than that of a sort.
-fn with_numbers(k: Key, v: &[u8], numbers: &mut [u32]) -> Command
+// Only the key of a sort takes a letter.
+fn by_value<'a>(k: Key, v: &[u8], numbers: &'a mut [u32]) -> Option<Command<'a>>
     requires { max_numbers ≤ length numbers.old }
-    ensures { ReadsAs (by_numbers (key_meaning k) v.now) result numbers.new }
+    ensures { ReadsAs (Line.by_value (key_meaning k) v.now) result }
 {
-    let n = read_numbers(v, numbers);
-    if n == 0 {
-        return Command::Unreadable;
+    match k {
+        Key::Sort => letter_sort(v),
+        _ => by_key(k, read_numbers(v, numbers)?),
     }
-    by_key(k, n, numbers)
-}
-
-fn by_value(k: Key, v: &[u8], numbers: &mut [u32]) -> Command
-    requires { max_numbers ≤ length numbers.old }
-    ensures { ReadsAs (Line.known (key_meaning k) v.now) result numbers.new }
-{
-    if let Key::Sort = k {
-        return letter_sort(v);
-    }
-    with_numbers(k, v, numbers)
 }
 
 // ---- the line
@@ -270,22 +260,15 @@ fn by_value(k: Key, v: &[u8], numbers: &mut [u32]) -> Command
 fn key_room(line: &[u8]) -> usize
     ensures { KeyRoom line.now result }
 {
-    if line.len() < KEY_ROOM {
-        return line.len();
-    }
-    KEY_ROOM
+    line.len().min(KEY_ROOM)
 }
 
 // Question 3: does a line read? Its numbers go to the table.
-pub fn read_line(line: &[u8], numbers: &mut [u32]) -> Command
+pub fn read_line<'a>(line: &[u8], numbers: &'a mut [u32]) -> Option<Command<'a>>
     requires { max_numbers ≤ length numbers.old }
-    ensures { ReadsLine line.now result numbers.new }
+    ensures { ReadsLine line.now result }
 {
-    let head = key_room(line);
-    let at = first_byte(&line[..head], 0, b'=');
-    if at == head {
-        return Command::Unreadable;
-    }
-    let k = read_key(&line[..at]);
+    let at = first_byte(&line[..key_room(line)], 0, b'=')?;
+    let k = read_key(&line[..at])?;
     by_value(k, &line[at + 1..], numbers)
 }

@@ -20,43 +20,55 @@ fn merge_sides(c: &[u32], e: &mut [u32], s: &[u32], l: Lit)
     merge(e, TermId(sides[0]), TermId(sides[1]), EqJust::Asserted(l));
 }
 
-pub fn equate_line(c: &[u32], e: &mut [u32], s: &[u32], closed: bool, l: Lit) -> Answer
+pub fn equate_line(
+    c: &[u32],
+    e: &mut [u32],
+    s: &[u32],
+    closed: bool,
+    l: Lit,
+) -> Result<Answer, Refusal>
     requires { StateSound c.now e.old s.now }
     ensures { AnswersEquate closed (Line.Equate l.0) c.now e.old s.now result e.new }
 {
     if !closed {
-        return Answer::Refused(Refusal::Misplaced);
+        return Err(Refusal::Misplaced);
     }
     if !var_exists(s, l) {
-        return Answer::Refused(Refusal::Missing);
+        return Err(Refusal::Missing);
     }
     if !equation(c, s, l) {
-        return Answer::Refused(Refusal::NotEquation);
+        return Err(Refusal::NotEquation);
     }
     merge_sides(c, e, s, l);
-    Answer::Ok
+    Ok(Answer::Ok)
 }
 
-pub fn cong_line(c: &[u32], e: &mut [u32], closed: bool, t: TermId, u: TermId) -> Answer
+pub fn cong_line(
+    c: &[u32],
+    e: &mut [u32],
+    closed: bool,
+    t: TermId,
+    u: TermId,
+) -> Result<Answer, Refusal>
     requires { Merging c.now e.old }
     ensures { AnswersEngine closed (Line.Cong t.0 u.0) c.now e.old result e.new }
 {
     if !closed {
-        return Answer::Refused(Refusal::Misplaced);
+        return Err(Refusal::Misplaced);
     }
     if !two_exist(c, t, u) {
-        return Answer::Refused(Refusal::Missing);
+        return Err(Refusal::Missing);
     }
     if !congruent(c, e, t, u) {
-        return Answer::Refused(Refusal::NotCongruent);
+        return Err(Refusal::NotCongruent);
     }
     let xs = children(c, t);
     let ys = children(c, u);
     if !pairs_fit(e, t, u, xs, ys) {
-        return Answer::Refused(Refusal::NoRoom);
+        return Err(Refusal::NoRoom);
     }
     merge_congruence(e, t, u, xs, ys);
-    Answer::Ok
+    Ok(Answer::Ok)
 }
 
 pub fn iface_line(
@@ -66,20 +78,20 @@ pub fn iface_line(
     t: TermId,
     u: TermId,
     j: TheoryJust,
-) -> Answer
+) -> Result<Answer, Refusal>
     requires { Merging c.now e.old }
     ensures { AnswersEngine closed (Line.Iface t.0 u.0 j.theory j.tag) c.now e.old result
         e.new }
 {
     if !closed {
-        return Answer::Refused(Refusal::Misplaced);
+        return Err(Refusal::Misplaced);
     }
     if !two_exist(c, t, u) {
-        return Answer::Refused(Refusal::Missing);
+        return Err(Refusal::Missing);
     }
     if !one_sort(c, t, u) {
-        return Answer::Refused(Refusal::Disagreeing);
+        return Err(Refusal::Disagreeing);
     }
     merge(e, t, u, EqJust::Interface(j));
-    Answer::Ok
+    Ok(Answer::Ok)
 }

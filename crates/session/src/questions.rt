@@ -22,14 +22,7 @@ use theory::eq_engine::{are_equal, pairs_in_force};
 fn all_below(xs: &[u32], n: usize) -> bool
     ensures { result ≡ all_below n xs.now }
 {
-    let mut i = 0;
-    while i < xs.len() {
-        if xs[i] as usize >= n {
-            return false;
-        }
-        i += 1;
-    }
-    true
+    xs.iter().all(|x| (*x as usize) < n)
 }
 
 // A sort, and others.
@@ -38,10 +31,7 @@ pub fn sorts_exist(c: &[u32], x: SortId, others: &[u32]) -> bool
     ensures { result ≡ sorts_exist c.now x.0 others.now }
 {
     let n = sort_count(c);
-    if x.0 as usize >= n {
-        return false;
-    }
-    all_below(others, n)
+    (x.0 as usize) < n && all_below(others, n)
 }
 
 // A symbol, and terms.
@@ -49,10 +39,7 @@ pub fn app_exists(c: &[u32], f: SymbolId, args: &[u32]) -> bool
     requires { ContextSound c.now }
     ensures { result ≡ app_exists c.now f.0 args.now }
 {
-    if f.0 as usize >= symbol_count(c) {
-        return false;
-    }
-    all_below(args, term_count(c))
+    (f.0 as usize) < symbol_count(c) && all_below(args, term_count(c))
 }
 
 pub fn term_exists(c: &[u32], x: TermId) -> bool
@@ -66,10 +53,7 @@ pub fn two_exist(c: &[u32], t: TermId, u: TermId) -> bool
     requires { ContextSound c.now }
     ensures { result ≡ two_exist c.now t.0 u.0 }
 {
-    if !term_exists(c, t) {
-        return false;
-    }
-    term_exists(c, u)
+    term_exists(c, t) && term_exists(c, u)
 }
 
 pub fn var_exists(s: &[u32], l: Lit) -> bool
@@ -89,12 +73,10 @@ pub fn sorts_agree(c: &[u32], f: SymbolId, args: &[u32]) -> bool
     if arity(c, f) != args.len() {
         return false;
     }
-    let mut i = 0;
-    while i < args.len() {
-        if sort_of(c, TermId(args[i])).0 != param(c, f, i).0 {
+    for (i, x) in args.iter().enumerate() {
+        if sort_of(c, TermId(*x)) != param(c, f, i) {
             return false;
         }
-        i += 1;
     }
     true
 }
@@ -103,7 +85,7 @@ pub fn one_sort(c: &[u32], t: TermId, u: TermId) -> bool
     requires { NamesTwo c.now t.0 u.0 }
     ensures { result ≡ one_sort c.now t.0 u.0 }
 {
-    sort_of(c, t).0 == sort_of(c, u).0
+    sort_of(c, t) == sort_of(c, u)
 }
 
 // Two different terms of one sort?
@@ -111,10 +93,7 @@ pub fn may_equate(c: &[u32], t: TermId, u: TermId) -> bool
     requires { NamesTwo c.now t.0 u.0 }
     ensures { result ≡ may_equate c.now t.0 u.0 }
 {
-    if t.0 == u.0 {
-        return false;
-    }
-    one_sort(c, t, u)
+    t != u && one_sort(c, t, u)
 }
 
 // ---- 8. Is the literal positive and its atom an equation?
@@ -123,20 +102,14 @@ fn is_equation(c: &[u32], x: TermId) -> bool
     requires { ContextSound c.now × (x.0 < length (context c.now).terms) }
     ensures { result ≡ is_equation c.now x.0 }
 {
-    match op(c, x) {
-        Op::Eq => true,
-        Op::Uninterpreted(_) => false,
-    }
+    op(c, x) == Op::Eq
 }
 
 pub fn equation(c: &[u32], s: &[u32], l: Lit) -> bool
     requires { NamesLit c.now s.now l.0 }
     ensures { result ≡ equation c.now s.now l.0 }
 {
-    if !l.is_positive() {
-        return false;
-    }
-    is_equation(c, atom(s, l.var()))
+    l.is_positive() && is_equation(c, atom(s, l.var()))
 }
 
 // ---- 13. Is the literal negative and its atom an equation?
@@ -145,44 +118,26 @@ pub fn disequality(c: &[u32], s: &[u32], l: Lit) -> bool
     requires { NamesLit c.now s.now l.0 }
     ensures { result ≡ disequality c.now s.now l.0 }
 {
-    if l.is_positive() {
-        return false;
-    }
-    is_equation(c, atom(s, l.var()))
+    !l.is_positive() && is_equation(c, atom(s, l.var()))
 }
 
 // ---- 9. Same operation, and each argument pair equal now?
-
-fn applies(c: &[u32], x: TermId, f: SymbolId) -> bool
-    requires { ContextSound c.now × (x.0 < length (context c.now).terms) }
-    ensures { result ≡ same_op (Term.Uninterpreted f.0) (term (context c.now) x.0).op }
-{
-    match op(c, x) {
-        Op::Eq => false,
-        Op::Uninterpreted(g) => f.0 == g.0,
-    }
-}
 
 fn same_op(c: &[u32], t: TermId, u: TermId) -> bool
     requires { NamesTwo c.now t.0 u.0 }
     ensures { result ≡ one_op c.now t.0 u.0 }
 {
-    match op(c, t) {
-        Op::Eq => is_equation(c, u),
-        Op::Uninterpreted(f) => applies(c, u, f),
-    }
+    op(c, t) == op(c, u)
 }
 
 fn pairs_equal(e: &[u32], xs: &[u32], ys: &[u32]) -> bool
     requires { NodePairs e.now xs.now ys.now }
     ensures { result ≡ pairs_equal e.now xs.now ys.now }
 {
-    let mut i = 0;
-    while i < xs.len() {
-        if !are_equal(e, TermId(xs[i]), TermId(ys[i])) {
+    for (x, y) in xs.iter().zip(ys) {
+        if !are_equal(e, TermId(*x), TermId(*y)) {
             return false;
         }
-        i += 1;
     }
     true
 }
@@ -191,10 +146,7 @@ pub fn congruent(c: &[u32], e: &[u32], t: TermId, u: TermId) -> bool
     requires { PairsNamed c.now e.now t.0 u.0 }
     ensures { result ≡ congruent c.now e.now t.0 u.0 }
 {
-    if !same_op(c, t, u) {
-        return false;
-    }
-    pairs_equal(e, children(c, t), children(c, u))
+    same_op(c, t, u) && pairs_equal(e, children(c, t), children(c, u))
 }
 
 // ---- 11. Do the pairs of a congruence fit?
@@ -203,9 +155,5 @@ pub fn pairs_fit(e: &[u32], t: TermId, u: TermId, xs: &[u32], ys: &[u32]) -> boo
     requires { NodePairs e.now (t.0 ∷ xs.now) (u.0 ∷ ys.now) }
     ensures { result ≡ pairs_fit e.now t.0 u.0 xs.now ys.now }
 {
-    let n = pairs_in_force(e);
-    if are_equal(e, t, u) {
-        return true;
-    }
-    xs.len() <= MAX_PAIRS - n
+    are_equal(e, t, u) || xs.len() <= MAX_PAIRS - pairs_in_force(e)
 }

@@ -1,21 +1,21 @@
 // The run: questions 1, 2 and 12, the counts, and what lent memory holds at the end (specs/Run.antt, specs/Promise.antt).
 ghost use Rattle.std.specs.Prelude.{◌≤◌, ◌≡◌, length};
-ghost use Rattle.session.specs.Run.{result_number, zeros};
+ghost use Rattle.session.specs.Run.{result_number};
 ghost use Rattle.session.specs.Promise.{ending_meaning, Runs};
 ghost use Rattle.session.specs.Memory.Sessions.{beside};
 ghost use Rattle.session.specs.Memory.Answers.{Printable, line_text, longest_answer};
 ghost use Rattle.session.specs.Memory.Running.{TablesLong, EmptyTables, Puts, Answerable, AnswersLine, MayRun, RunsLines, MayStart, Zeroed, RunsStarted};
 
-use crate::answer::{Answer, line_length, write_answer};
+use crate::answer::{Answer, Refusal, line_length, write_answer};
 use crate::reader::line_end;
-use crate::session::step;
+use crate::session::{Beside, step};
 use shinri_core::context as context;
 use shinri_core::limits::MAX_LEVELS;
 use solver::records as records;
 use theory::eq_engine as engine;
 
 // How a run ends.
-#[derive(Clone, Copy)]
+#[derive(Clone, Copy, PartialEq, Eq)]
 pub enum Ending {
     Complete,
     ShortTable,
@@ -23,15 +23,8 @@ pub enum Ending {
     Full,
 }
 
-// Where an answer line ends in the output, or that it does not fit there.
-#[derive(Clone, Copy)]
-pub enum Placed {
-    Ends(usize),
-    Full,
-}
-
 // How a run ended, how many lines it answered, and how many bytes it wrote.
-#[derive(Clone, Copy)]
+#[derive(Clone, Copy, PartialEq, Eq)]
 pub struct Ran {
     pub ending: Ending,
     pub answered: usize,
@@ -48,12 +41,13 @@ pub const MAX_NUMBERS: usize = 17;
 // Words of an answer table.
 pub const ANSWER_SIZE: usize = 3324;
 
-impl Ending {
-    // The number of the question that was answered no, or 0.
-    pub fn number(self) -> u32
-        ensures { result ≡ result_number (ending_meaning self) }
-    {
-        match self {
+// The number of the question that was answered no, or 0.
+impl From<Ending> for u32 {
+    ghost from_gives = { λ e n. n ≡ result_number (ending_meaning e) };
+
+    #[tactic(auto, unfolding(crate::specs::Run::result_number, crate::specs::Promise::ending_meaning))]
+    fn from(e: Ending) -> u32 {
+        match e {
             Ending::Complete => 0,
             Ending::ShortTable => 1,
             Ending::LongScript => 2,
@@ -64,37 +58,43 @@ impl Ending {
 
 // ---- the lines
 
-// The length of an answer line is known before its first byte is written: one that does not fit leaves the output as it was.
-pub fn put_answer(a: Answer, answer: &[u32], output: &mut [u8], written: usize) -> Placed
+// Where the answer line ends in the output, or None if it does not fit. Its length is known before its first byte is written, so an output
+// that it does not fit is left as it was.
+pub fn put_answer(
+    a: Result<Answer, Refusal>,
+    answer: &[u32],
+    output: &mut [u8],
+    written: usize,
+) -> Option<usize>
     requires { Printable a answer.now × (written ≤ length output.old) }
     ensures { Puts result output.old written (line_text a answer.now) output.new
         × (length (line_text a answer.now) ≤ longest_answer) }
 {
     if line_length(a, answer) > output.len() - written {
-        return Placed::Full;
+        return None;
     }
-    Placed::Ends(write_answer(a, answer, output, written))
+    Some(write_answer(a, answer, output, written))
 }
 
-// Answers a line; its answer line goes to the output at a place, if it fits.
+// Answers a line; its answer line goes to the output at a place, if it fits. `numbers` and `answer` are lent apart: the command that was
+// read borrows the one while the line is answered into the other.
 pub fn answer_line(
     c: &mut [u32],
     e: &mut [u32],
     s: &mut [u32],
-    counts: &mut [u32; MAX_LEVELS],
-    closed: &mut bool,
+    kept: &mut Beside,
     line: &[u8],
     numbers: &mut [u32; MAX_NUMBERS],
     answer: &mut [u32; ANSWER_SIZE],
     output: &mut [u8],
     written: usize,
-) -> Placed
-    requires { Answerable c.old e.old s.old (beside e.old counts.old closed.old) × (written ≤ length output.old) }
+) -> Option<usize>
+    requires { Answerable c.old e.old s.old (beside e.old kept.old.counts kept.old.closed) × (written ≤ length output.old) }
     ensures { AnswersLine line.now c.old e.old s.old
-        (beside e.old counts.old closed.old) result c.new e.new s.new
-        (beside e.new counts.new closed.new) output.old written output.new }
+        (beside e.old kept.old.counts kept.old.closed) result c.new e.new s.new
+        (beside e.new kept.new.counts kept.new.closed) output.old written output.new }
 {
-    let a = step(c, e, s, counts, closed, line, numbers, answer);
+    let a = step(c, e, s, kept, line, numbers, answer);
     put_answer(a, answer, output, written)
 }
 
@@ -105,26 +105,27 @@ fn run_lines(script: &[u8], c: &mut [u32], e: &mut [u32], s: &mut [u32], output:
 {
     let mut numbers = [0u32; MAX_NUMBERS];
     let mut answer = [0u32; ANSWER_SIZE];
-    let mut counts = [0u32; MAX_LEVELS];
-    let mut closed = false;
+    let mut kept = Beside {
+        counts: [0; MAX_LEVELS],
+        closed: false,
+    };
     let mut at = 0;
     let mut answered = 0;
     let mut written = 0;
+    // no counted index: each turn goes on behind the line it answered
     while at < script.len() {
         let end = line_end(script, at);
-        let placed = answer_line(
+        let Some(next) = answer_line(
             c,
             e,
             s,
-            &mut counts,
-            &mut closed,
+            &mut kept,
             &script[at..end],
             &mut numbers,
             &mut answer,
             output,
             written,
-        );
-        let Placed::Ends(next) = placed else {
+        ) else {
             return Ran {
                 ending: Ending::Full,
                 answered,
@@ -154,23 +155,13 @@ pub fn clear_all(c: &mut [u32], e: &mut [u32], s: &mut [u32])
     records::clear(s);
 }
 
-pub fn zero(t: &mut [u32])
-    ensures { t.new ≡ zeros t.old }
-{
-    let mut i = 0;
-    while i < t.len() {
-        t[i] = 0;
-        i += 1;
-    }
-}
-
 // The work tables are all zero at the end, also the words that no session uses.
 pub fn zero_all(c: &mut [u32], e: &mut [u32], s: &mut [u32])
     ensures { Zeroed c.old e.old s.old c.new e.new s.new }
 {
-    zero(c);
-    zero(e);
-    zero(s);
+    c.fill(0);
+    e.fill(0);
+    s.fill(0);
 }
 
 // ---- the run

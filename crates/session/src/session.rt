@@ -10,31 +10,35 @@ use crate::merging::{cong_line, equate_line, iface_line};
 use crate::solving::{assert_line, check_line, differ_line, var_line};
 use shinri_core::limits::MAX_LEVELS;
 
-// A line that was read is answered: `counts` has the mark counts of the records, `closed` whether a `close` was accepted.
+// What a session keeps beside the three tables: the mark counts of the records, and whether a `close` was accepted.
+#[derive(Clone, Copy)]
+pub struct Beside {
+    pub counts: [u32; MAX_LEVELS],
+    pub closed: bool,
+}
+
+// A line that was read is answered.
 fn perform(
     c: &mut [u32],
     e: &mut [u32],
     s: &mut [u32],
-    counts: &mut [u32; MAX_LEVELS],
-    closed: &mut bool,
-    k: Command,
-    numbers: &[u32],
+    kept: &mut Beside,
+    k: Command<'_>,
     out: &mut [u32],
-) -> Answer
-    requires { Performable c.old e.old s.old (beside e.old counts.old closed.old) k numbers.now out.old }
-    ensures { Performs k numbers.now c.old e.old s.old
-        (beside e.old counts.old closed.old) result c.new e.new s.new
-        (beside e.new counts.new closed.new) out.new }
+) -> Result<Answer, Refusal>
+    requires { Performable c.old e.old s.old (beside e.old kept.old.counts kept.old.closed) k out.old }
+    ensures { Performs k.entry c.old e.old s.old
+        (beside e.old kept.old.counts kept.old.closed) result c.new e.new s.new
+        (beside e.new kept.new.counts kept.new.closed) out.new }
 {
     // whether the line stands behind a `close`
-    let late = *closed;
+    let late = kept.closed;
     match k {
-        Command::Unreadable => Answer::Refused(Refusal::Unreadable),
         Command::DeclareSort(datatype) => sort_line(c, late, datatype),
-        Command::DeclareCtor(dt, n) => ctor_line(c, late, dt, &numbers[1..n + 1]),
-        Command::DeclareFun(result, n) => fun_line(c, late, result, &numbers[1..n + 1]),
-        Command::Close => close_line(c, closed),
-        Command::MkTerm(f, n) => term_line(c, late, f, &numbers[1..n + 1]),
+        Command::DeclareCtor(dt, fields) => ctor_line(c, late, dt, fields),
+        Command::DeclareFun(result, args) => fun_line(c, late, result, args),
+        Command::Close => close_line(c, &mut kept.closed),
+        Command::MkTerm(f, args) => term_line(c, late, f, args),
         Command::MkEq(t, u) => eq_line(c, late, t, u),
         Command::Register(v, x) => var_line(c, s, late, v, x),
         Command::Equate(l) => equate_line(c, e, s, late, l),
@@ -42,8 +46,8 @@ fn perform(
         Command::Iface(t, u, j) => iface_line(c, e, late, t, u, j),
         Command::Assert(l) => assert_line(c, e, s, late, l, out),
         Command::Differ(l) => differ_line(c, s, late, l),
-        Command::Push => push_line(e, s, counts, late),
-        Command::Pop(to) => pop_line(e, s, counts, late, to),
+        Command::Push => push_line(e, s, &mut kept.counts, late),
+        Command::Pop(to) => pop_line(e, s, &mut kept.counts, late, to),
         Command::Check(full) => check_line(c, e, s, late, full, out),
     }
 }
@@ -53,17 +57,16 @@ pub fn step(
     c: &mut [u32],
     e: &mut [u32],
     s: &mut [u32],
-    counts: &mut [u32; MAX_LEVELS],
-    closed: &mut bool,
+    kept: &mut Beside,
     line: &[u8],
     numbers: &mut [u32],
     out: &mut [u32],
-) -> Answer
-    requires { Steppable c.old e.old s.old (beside e.old counts.old closed.old) numbers.old out.old }
+) -> Result<Answer, Refusal>
+    requires { Steppable c.old e.old s.old (beside e.old kept.old.counts kept.old.closed) numbers.old out.old }
     ensures { Steps line.now c.old e.old s.old
-        (beside e.old counts.old closed.old) result c.new e.new s.new
-        (beside e.new counts.new closed.new) out.new }
+        (beside e.old kept.old.counts kept.old.closed) result c.new e.new s.new
+        (beside e.new kept.new.counts kept.new.closed) out.new }
 {
-    let k = read_line(line, numbers);
-    perform(c, e, s, counts, closed, k, numbers, out)
+    let k = read_line(line, numbers).ok_or(Refusal::Unreadable)?;
+    perform(c, e, s, kept, k, out)
 }

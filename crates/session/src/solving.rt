@@ -1,5 +1,5 @@
 // The lines of the solver: `var`, `assert`, `differ`, `check`.
-ghost use Rattle.std.specs.Prelude.{◌≡◌, ◌≤◌, length};
+ghost use Rattle.std.specs.Prelude.{◌≡◌, ◌≤◌, length, Ok};
 ghost use Rattle.shinri_core.specs.Memory.Table.{ContextSound};
 ghost use Rattle.theory.specs.Memory.Answer.{answer_size};
 ghost use Rattle.solver.specs.Memory.Table.{StateSound};
@@ -25,46 +25,47 @@ fn var_named(c: &[u32], v: Var, x: TermId) -> bool
     requires { ContextSound c.now }
     ensures { result ≡ var_named c.now v.0 x.0 }
 {
-    if v.0 as usize >= MAX_VARS {
-        return false;
-    }
-    term_exists(c, x)
+    (v.0 as usize) < MAX_VARS && term_exists(c, x)
 }
 
-pub fn var_line(c: &[u32], s: &mut [u32], closed: bool, v: Var, x: TermId) -> Answer
+pub fn var_line(
+    c: &[u32],
+    s: &mut [u32],
+    closed: bool,
+    v: Var,
+    x: TermId,
+) -> Result<Answer, Refusal>
     requires { FitsWith c.now s.old }
     ensures { AnswersSolver closed (Line.Register v.0 x.0) c.now s.old result s.new }
 {
     if !closed {
-        return Answer::Refused(Refusal::Misplaced);
+        return Err(Refusal::Misplaced);
     }
     if !var_named(c, v, x) {
-        return Answer::Refused(Refusal::Missing);
+        return Err(Refusal::Missing);
     }
     if sort_of(c, x).0 != 0 {
-        return Answer::Refused(Refusal::Disagreeing);
+        return Err(Refusal::Disagreeing);
     }
     if is_registered(s, v) {
-        return Answer::Refused(Refusal::Registered);
+        return Err(Refusal::Registered);
     }
     register(s, v, x);
     new_var(c, s, x);
-    Answer::Ok
+    Ok(Answer::Ok)
 }
 
 // ---- `assert`
 
 // An `assert` without conflict is done.
+#[tactic(auto, unfolding(crate::specs::Memory::Sessions::asserted_answer, crate::specs::Memory::Sessions::checked_answer))]
 fn asserted(r: TCheck) -> Answer
-    ensures { result ≡ asserted_answer r }
+    ensures { Ok result ≡ asserted_answer r }
 {
-    match r {
-        TCheck::Sat => Answer::Ok,
-        TCheck::Conflict => Answer::Conflict,
-        TCheck::Split => Answer::Split,
-        TCheck::Unknown => Answer::Unknown,
-        TCheck::NoRoom => Answer::Refused(Refusal::NoRoom),
+    if r == TCheck::Sat {
+        return Answer::Ok;
     }
+    Answer::from(r)
 }
 
 pub fn assert_line(
@@ -74,49 +75,52 @@ pub fn assert_line(
     closed: bool,
     l: Lit,
     out: &mut [u32],
-) -> Answer
+) -> Result<Answer, Refusal>
     requires { StateSound c.now e.now s.old × (answer_size ≤ length out.old) }
     ensures { AnswersWith closed (Line.Assert l.0) c.now e.now s.old result c.now e.now s.new out.new }
 {
     if !closed {
-        return Answer::Refused(Refusal::Misplaced);
+        return Err(Refusal::Misplaced);
     }
     if !var_exists(s, l) {
-        return Answer::Refused(Refusal::Missing);
+        return Err(Refusal::Missing);
     }
-    asserted(assert(c, e, s, l, out))
+    Ok(asserted(assert(c, e, s, l, out)))
 }
 
 // ---- `differ`
 
-pub fn differ_line(c: &[u32], s: &mut [u32], closed: bool, l: Lit) -> Answer
+pub fn differ_line(c: &[u32], s: &mut [u32], closed: bool, l: Lit) -> Result<Answer, Refusal>
     requires { FitsWith c.now s.old }
     ensures { AnswersSolver closed (Line.Differ l.0) c.now s.old result s.new }
 {
     if !closed {
-        return Answer::Refused(Refusal::Misplaced);
+        return Err(Refusal::Misplaced);
     }
     if !var_exists(s, l) {
-        return Answer::Refused(Refusal::Missing);
+        return Err(Refusal::Missing);
     }
     if !disequality(c, s, l) {
-        return Answer::Refused(Refusal::NotDisequality);
+        return Err(Refusal::NotDisequality);
     }
     differ(s, l);
-    Answer::Ok
+    Ok(Answer::Ok)
 }
 
 // ---- `check`
 
-fn checked(r: TCheck) -> Answer
-    ensures { result ≡ checked_answer r }
-{
-    match r {
-        TCheck::Sat => Answer::Sat,
-        TCheck::Conflict => Answer::Conflict,
-        TCheck::Split => Answer::Split,
-        TCheck::Unknown => Answer::Unknown,
-        TCheck::NoRoom => Answer::Refused(Refusal::NoRoom),
+// What the solver answers a check, a line is answered.
+impl From<TCheck> for Answer {
+    ghost from_gives = { λ r a. Ok a ≡ checked_answer (Ok r) };
+
+    #[tactic(auto, unfolding(crate::specs::Memory::Sessions::checked_answer))]
+    fn from(r: TCheck) -> Answer {
+        match r {
+            TCheck::Sat => Answer::Sat,
+            TCheck::Conflict => Answer::Conflict,
+            TCheck::Split => Answer::Split,
+            TCheck::Unknown => Answer::Unknown,
+        }
     }
 }
 
@@ -127,13 +131,13 @@ pub fn check_line(
     closed: bool,
     full: bool,
     out: &mut [u32],
-) -> Answer
+) -> Result<Answer, Refusal>
     requires { StateSound c.old e.now s.old × (answer_size ≤ length out.old) }
     ensures { AnswersCheck closed full c.old e.now s.old result c.new s.new
         out.new }
 {
     if !closed {
-        return Answer::Refused(Refusal::Misplaced);
+        return Err(Refusal::Misplaced);
     }
-    checked(check(c, e, s, full, out))
+    Ok(Answer::from(check(c, e, s, full, out)?))
 }

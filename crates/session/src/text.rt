@@ -16,25 +16,16 @@ pub fn write_text(buf: &mut [u8], at: usize, text: &[u8]) -> usize
     requires { Room buf.old at text.now }
     ensures { Written buf.old at text.now buf.new result }
 {
-    let mut i = 0;
-    while i < text.len() {
-        buf[at + i] = text[i];
-        i += 1;
-    }
-    at + i
+    let end = at + text.len();
+    buf[at..end].copy_from_slice(text);
+    end
 }
 
 // How many digits a number has.
 pub fn decimal_length(n: u32) -> usize
     ensures { (result ≡ length (decimal n)) × (result ≤ 10) }
 {
-    let mut rest = n;
-    let mut digits = 1;
-    while rest >= 10 {
-        rest /= 10;
-        digits += 1;
-    }
-    digits
+    n.checked_ilog10().unwrap_or(0) as usize + 1
 }
 
 // Without leading zeros, from the last digit to the first.
@@ -43,13 +34,10 @@ pub fn write_decimal(buf: &mut [u8], at: usize, n: u32) -> usize
     ensures { Written buf.old at (decimal n) buf.new result }
 {
     let end = at + decimal_length(n);
-    let mut i = end - 1;
     let mut rest = n;
-    while rest >= 10 {
-        buf[i] = 48 + (rest % 10) as u8;
+    for place in (at..end).rev() {
+        buf[place] = b'0' + (rest % 10) as u8;
         rest /= 10;
-        i -= 1;
     }
-    buf[i] = 48 + rest as u8;
     end
 }

@@ -32,8 +32,7 @@ pub extern "C" fn robinlocker_run(
     let ran = run(script, core, theory, solver, output);
     *answered = ran.answered;
     *written = ran.written;
-    let ending = ran.ending;
-    ending.number()
+    u32::from(ran.ending)
 }
 
 #[unsafe(no_mangle)]
@@ -46,10 +45,10 @@ pub extern "C" fn robinlocker_open(
     ensures { OpensBy (tables core.old theory.old solver.old kept.old) result
         (tables core.new theory.new solver.new kept.new) }
 {
-    if open(core, theory, solver, kept) {
-        return 0;
+    match open(core, theory, solver, kept) {
+        Ok(()) => 0,
+        Err(e) => u32::from(e),
     }
-    1
 }
 
 // It asks of its caller that tables which are marked as open are as the last call left them.
@@ -69,10 +68,16 @@ pub extern "C" fn robinlocker_line(
         result written.new
         (tables core.new theory.new solver.new kept.new) output.new }
 {
-    let replied = line(text, core, theory, solver, kept, output);
-    *written = replied.written;
-    let reply = replied.reply;
-    reply.number()
+    match line(text, core, theory, solver, kept, output) {
+        Ok(n) => {
+            *written = n;
+            0
+        }
+        Err(e) => {
+            *written = 0;
+            u32::from(e)
+        }
+    }
 }
 
 #[unsafe(no_mangle)]

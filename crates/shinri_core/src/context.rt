@@ -2,31 +2,17 @@
 ghost use Rattle.std.specs.Prelude.{◌≡◌, ◌+◌, ◌<◌, ◌≤◌, length, get_or, [], ◌∷◌};
 ghost use Rattle.shinri_core.specs.Limits.{max_sorts, max_symbols, max_terms, max_places, max_params, table_words};
 ghost use Rattle.shinri_core.specs.Context.{empty_context, cut_terms, declare_sort, declare_fun, selectors_from, dt_add_constructor, builds, dt_tester, datatypes, ready, has_ready_fields, all_grounded, places, is_datatype_sort, symbol, children, sort_of};
-ghost use Rattle.shinri_core.specs.Memory.Words.{put_all, stretch};
-ghost use Rattle.shinri_core.specs.Memory.Table.{POOL, sorts#, symbols#, terms#, digit, packed, param_at, node_of, op_of, term_at, context, buckets, bucket, AllBelow, ContextSound, HasParam, HasParamWord, FindsApp, MayIntern, MayApply, MayEquate, Appendable, Appended, MayDeclare, SymbolRoom, SymbolAdded, SelectorRoom, SymbolsAdded, NoTerms, NextConstructor, marked, adds, Marks, MarkRound};
-ghost use Rattle.shinri_core.specs.Lists.{every, same_list};
+ghost use Rattle.shinri_core.specs.Memory.Words.{put_all};
+ghost use Rattle.shinri_core.specs.Memory.Table.{symbols#, terms#, digit, packed, term_at, context, buckets, bucket, AllBelow, ContextSound, HasParam, FindsApp, MayIntern, MayApply, MayEquate, Appendable, Appended, MayDeclare, SymbolRoom, SymbolAdded, SelectorRoom, SymbolsAdded, NoTerms, NextConstructor, marked, adds, Marks, MarkRound};
+ghost use Rattle.shinri_core.specs.Lists.{every};
 ghost use Rattle.shinri_core.specs.Term.{same_term};
-ghost use Rattle.shinri_core.specs.Memory.Codes.{OpAt, RoleAt, MkApp, Declares, declared_node};
+ghost use Rattle.shinri_core.specs.Memory.Codes.{op_code, op_meaning, owner_code, OpAt, RoleAt, MkApp, Declares, declared_node};
 ghost use Rattle.shinri_core.specs.Term as Term;
 
 use crate::ids::{SortId, SymbolId, TermId};
-use crate::limits::{MAX_PLACES, MAX_SORTS, MAX_SYMBOLS, MAX_TERMS};
+use crate::limits::{MAX_PLACES, MAX_SORTS, MAX_SYMBOLS, MAX_TERMS, NoRoom};
 use crate::table::{get_at, put_at};
-use crate::term::{DtRole, Op, op_from, role_from};
-
-// The answer to making a term.
-#[derive(Clone, Copy)]
-pub enum Made {
-    At(TermId),
-    NoRoom,
-}
-
-// The answer to a declaration.
-#[derive(Clone, Copy)]
-pub enum Declared {
-    Done,
-    NoRoom,
-}
+use crate::term::{DtRole, Op, role_from};
 
 // ---- the layout of the table (specs/Memory/Table.antt)
 
@@ -39,10 +25,11 @@ const SYMBOLS: usize = 1;
 
 const TERMS: usize = 2;
 
-// For each sort: its kind.
+// For each sort: its kind, as the number of a `SortNode`.
 const SORT: usize = 64;
 
-// For each symbol: one more than the constructor it belongs to, its result sort, how many parameters, and four to a word their sorts.
+// For each symbol: one more than the constructor it belongs to, or 0, its result sort, how many parameters, and four to a word their
+// sorts. (The table's words and places are fixed, so numbers are packed in them, and 0 stands for none there and nowhere else.)
 const OWNER: usize = 128;
 
 const RESULT: usize = 640;
@@ -65,12 +52,18 @@ const LINK: usize = 11264;
 
 const BUCKETS: usize = 1021;
 
-// A sort is below it; its square and its cube.
+// A sort is below it, and takes a digit of a word; what the four digits count by.
 const RADIX: usize = 64;
 
-const RADIX_SQUARED: usize = 4096;
+const PLACES: [usize; 4] = [1, 64, 4096, 262144];
 
-const RADIX_CUBED: usize = 262144;
+// Bool, a datatype, or another sort.
+#[derive(Clone, Copy)]
+enum SortNode {
+    Bool,
+    Datatype,
+    Uninterpreted,
+}
 
 // ---- an empty table
 
@@ -78,11 +71,7 @@ fn clear_buckets(t: &mut [u32])
     requires { table_words ≤ length t.old }
     ensures { NoTerms t.new }
 {
-    let mut h = 0;
-    while h < BUCKETS {
-        put_at(t, BUCKET, h, 0);
-        h += 1;
-    }
+    t[BUCKET..BUCKET + BUCKETS].fill(0);
 }
 
 // Whatever the table held, it is now that of an empty session.
@@ -94,11 +83,11 @@ pub fn clear(t: &mut [u32])
     put_at(t, COUNTS, SORTS, 1);
     put_at(t, COUNTS, SYMBOLS, 0);
     put_at(t, COUNTS, TERMS, 0);
-    put_at(t, SORT, 0, 0);
+    put_at(t, SORT, 0, SortNode::Bool as usize);
     put_at(t, OFFSET, 0, 0);
 }
 
-// ---- counts
+// ---- counts: each is one call of `get_at`, under a contract of its own
 
 pub fn sort_count(t: &[u32]) -> usize
     requires { ContextSound t.now }
@@ -128,7 +117,7 @@ pub fn is_datatype_sort(t: &[u32], s: SortId) -> bool
     ensures { result ≡ is_datatype_sort (context t.now) s.0 }
 {
     let i = s.0 as usize;
-    get_at(t, SORT, i) == 1
+    get_at(t, SORT, i) == SortNode::Datatype as usize
 }
 
 pub fn result_sort(t: &[u32], f: SymbolId) -> SortId
@@ -153,23 +142,7 @@ fn digit(w: usize, d: usize) -> usize
     requires { d < 4 }
     ensures { result ≡ digit w d }
 {
-    if d == 0 {
-        return w % RADIX;
-    }
-    if d == 1 {
-        return w / RADIX % RADIX;
-    }
-    if d == 2 {
-        return w / RADIX_SQUARED % RADIX;
-    }
-    w / RADIX_CUBED % RADIX
-}
-
-fn param_sort(t: &[u32], s: usize, i: usize) -> usize
-    requires { HasParamWord t.now s i }
-    ensures { (result ≡ param_at t.now s i) × (result < sorts# t.now) }
-{
-    digit(get_at(t, PARAMS, 4 * s + i / 4), i % 4)
+    w / PLACES[d] % RADIX
 }
 
 // Parameter i of a symbol.
@@ -177,8 +150,8 @@ pub fn param(t: &[u32], f: SymbolId, i: usize) -> SortId
     requires { HasParam t.now f.0 i }
     ensures { (result.0 ≡ get_or (symbol (context t.now) f.0).params i 0) × (result.0 < length (context t.now).sorts) }
 {
-    let s = f.0 as usize;
-    SortId(param_sort(t, s, i) as u32)
+    let word = get_at(t, PARAMS, 4 * f.0 as usize + i / 4);
+    SortId(digit(word, i % 4) as u32)
 }
 
 pub fn dt_role(t: &[u32], f: SymbolId) -> DtRole
@@ -196,7 +169,7 @@ pub fn op(t: &[u32], x: TermId) -> Op
     ensures { OpAt t.now x.0 result }
 {
     let i = x.0 as usize;
-    op_from(get_at(t, OP, i) as u32)
+    Op::from(get_at(t, OP, i) as u32)
 }
 
 // The children of a term are the very stretch of the argument pool.
@@ -222,66 +195,41 @@ pub fn sort_of(t: &[u32], x: TermId) -> SortId
 
 // ---- making terms
 
-// Are the words of the pool from a place on the given arguments?
-fn same_args(t: &[u32], start: usize, args: &[u32]) -> bool
-    requires { (table_words ≤ length t.now) × (start + length args.now ≤ max_places) }
-    ensures { result ≡ same_list args.now (stretch t.now POOL start (length args.now)) }
+// Is a term the operation over the given arguments? The operation is compared first.
+fn is_app(t: &[u32], x: TermId, operation: Op, args: &[u32]) -> bool
+    requires { ContextSound t.now × (x.0 < terms# t.now) }
+    ensures { result ≡ same_term (op_meaning operation) args.now (term_at t.now x.0) }
 {
-    let mut i = 0;
-    while i < args.len() {
-        if get_at(t, POOL, start + i) != args[i] as usize {
-            return false;
-        }
-        i += 1;
-    }
-    true
+    get_at(t, OP, x.0 as usize) == usize::from(operation) && children(t, x) == args
 }
 
-// Is term i the operation of a code over the given arguments? The operation is compared first.
-fn is_app(t: &[u32], i: usize, code: usize, args: &[u32]) -> bool
-    requires { ContextSound t.now × (i < terms# t.now) }
-    ensures { result ≡ same_term (op_of code) args.now (term_at t.now i) }
+// The bucket of an operation over the given arguments.
+fn hash_app(operation: Op, args: &[u32]) -> usize
+    requires { op_code operation < buckets }
+    ensures { (result ≡ bucket (op_code operation) args.now) × (result < buckets) }
 {
-    if get_at(t, OP, i) != code {
-        return false;
-    }
-    let start = get_at(t, OFFSET, i);
-    let end = get_at(t, OFFSET, i + 1);
-    if end - start != args.len() {
-        return false;
-    }
-    same_args(t, start, args)
-}
-
-// The bucket of a code over the given arguments.
-fn hash_app(code: usize, args: &[u32]) -> usize
-    requires { code < buckets }
-    ensures { (result ≡ bucket code args.now) × (result < buckets) }
-{
-    let mut h = code;
-    let mut i = 0;
-    while i < args.len() {
-        h = (31 * h + args[i] as usize) % BUCKETS;
-        i += 1;
+    let mut h = usize::from(operation);
+    for a in args {
+        h = (31 * h + *a as usize) % BUCKETS;
     }
     h
 }
 
-// The term that is the operation of a code over the given arguments, or the number of terms if there is none: the terms of one bucket
-// are asked, the newest first.
-fn find_app(t: &[u32], code: usize, args: &[u32]) -> usize
-    requires { ContextSound t.now × (code ≤ symbols# t.now) }
-    ensures { FindsApp t.now code args.now result }
+// The term that is the operation over the given arguments: the terms of one bucket are asked, the newest first. (The links are
+// followed, so the loop is no `for`: each word gives the next term, or is 0 at the last.)
+fn find_app(t: &[u32], operation: Op, args: &[u32]) -> Option<TermId>
+    requires { ContextSound t.now × (op_code operation ≤ symbols# t.now) }
+    ensures { FindsApp t.now (op_code operation) args.now result }
 {
-    let h = hash_app(code, args);
-    let mut k = get_at(t, BUCKET, h);
+    let mut k = get_at(t, BUCKET, hash_app(operation, args));
     while k != 0 {
-        if is_app(t, k - 1, code, args) {
-            return k - 1;
+        let x = TermId(k as u32 - 1);
+        if is_app(t, x, operation, args) {
+            return Some(x);
         }
         k = get_at(t, LINK, k - 1);
     }
-    get_at(t, COUNTS, TERMS)
+    None
 }
 
 // The words are copied to a region, from a place of it on.
@@ -290,63 +238,57 @@ fn copy_words(t: &mut [u32], base: usize, at: usize, words: &[u32])
     ensures { t.new ≡ put_all t.old base at words.now }
 {
     let from = base + at;
-    let mut i = 0;
-    while i < words.len() {
-        t[from + i] = words[i];
-        i += 1;
-    }
+    t[from..from + words.len()].copy_from_slice(words);
 }
 
 // One more term, the n-th, whose arguments go to a place of the pool.
-fn append_term(t: &mut [u32], n: usize, start: usize, code: usize, args: &[u32])
-    requires { Appendable t.old n start code args.now }
-    ensures { Appended t.old code args.now t.new }
+fn append_term(t: &mut [u32], n: usize, start: usize, operation: Op, args: &[u32])
+    requires { Appendable t.old n start (op_code operation) args.now }
+    ensures { Appended t.old (op_code operation) args.now t.new }
 {
-    let h = hash_app(code, args);
+    let h = hash_app(operation, args);
     let older = get_at(t, BUCKET, h);
     put_at(t, LINK, n, older);
     put_at(t, BUCKET, h, n + 1);
     copy_words(t, POOL, start, args);
-    put_at(t, OP, n, code);
+    put_at(t, OP, n, usize::from(operation));
     put_at(t, OFFSET, n + 1, start + args.len());
     put_at(t, COUNTS, TERMS, n + 1);
 }
 
-// The term of a code over the given arguments: the old one, or a new one if there is room.
-fn intern(t: &mut [u32], code: usize, args: &[u32]) -> Made
-    requires { MayIntern t.old code args.now }
-    ensures { MkApp t.old (op_of code) args.now result t.new }
+// The term of an operation over the given arguments: the old one, or a new one if there is room.
+fn intern(t: &mut [u32], operation: Op, args: &[u32]) -> Result<TermId, NoRoom>
+    requires { MayIntern t.old (op_code operation) args.now }
+    ensures { MkApp t.old (op_meaning operation) args.now result t.new }
 {
-    let n = get_at(t, COUNTS, TERMS);
-    let k = find_app(t, code, args);
-    if k < n {
-        return Made::At(TermId(k as u32));
+    if let Some(x) = find_app(t, operation, args) {
+        return Ok(x);
     }
+    let n = get_at(t, COUNTS, TERMS);
     if n == MAX_TERMS {
-        return Made::NoRoom;
+        return Err(NoRoom);
     }
     let start = get_at(t, OFFSET, n);
     if MAX_PLACES - start < args.len() {
-        return Made::NoRoom;
+        return Err(NoRoom);
     }
-    append_term(t, n, start, code, args);
-    Made::At(TermId(n as u32))
+    append_term(t, n, start, operation, args);
+    Ok(TermId(n as u32))
 }
 
-pub fn mk_app(t: &mut [u32], f: SymbolId, args: &[u32]) -> Made
+pub fn mk_app(t: &mut [u32], f: SymbolId, args: &[u32]) -> Result<TermId, NoRoom>
     requires { MayApply t.old f.0 args.now }
     ensures { MkApp t.old (Term.Uninterpreted f.0) args.now result t.new }
 {
-    let code = f.0 as usize + 1;
-    intern(t, code, args)
+    intern(t, Op::Uninterpreted(f), args)
 }
 
-pub fn mk_eq(t: &mut [u32], a: TermId, b: TermId) -> Made
+pub fn mk_eq(t: &mut [u32], a: TermId, b: TermId) -> Result<TermId, NoRoom>
     requires { MayEquate t.old a.0 b.0 }
     ensures { MkApp t.old Term.Eq (a.0 ∷ b.0 ∷ []) result t.new }
 {
     let sides = [a.0, b.0];
-    intern(t, 0, &sides)
+    intern(t, Op::Eq, &sides)
 }
 
 // ---- undoing terms
@@ -356,8 +298,8 @@ fn drop_term(t: &mut [u32], i: usize)
     requires { ContextSound t.old × (terms# t.old ≡ i + 1) }
     ensures { ContextSound t.new × (context t.new ≡ cut_terms i (context t.old)) }
 {
-    let code = get_at(t, OP, i);
-    let h = hash_app(code, children(t, TermId(i as u32)));
+    let x = TermId(i as u32);
+    let h = hash_app(op(t, x), children(t, x));
     let older = get_at(t, LINK, i);
     put_at(t, BUCKET, h, older);
     put_at(t, COUNTS, TERMS, i);
@@ -368,32 +310,29 @@ pub fn truncate(t: &mut [u32], n: usize)
     requires { ContextSound t.old × (n ≤ length (context t.old).terms) }
     ensures { ContextSound t.new × (context t.new ≡ cut_terms n (context t.old)) }
 {
-    let mut i = get_at(t, COUNTS, TERMS);
-    while n < i {
-        i -= 1;
+    for i in (n..get_at(t, COUNTS, TERMS)).rev() {
         drop_term(t, i);
     }
 }
 
 // ---- declarations
 
-fn node_code(datatype: bool) -> usize
-    ensures { (node_of result ≡ declared_node datatype) × (result < 3) }
-{
-    if datatype { 1 } else { 2 }
-}
-
-pub fn declare_sort(t: &mut [u32], datatype: bool) -> Declared
+pub fn declare_sort(t: &mut [u32], datatype: bool) -> Result<(), NoRoom>
     requires { ContextSound t.old }
     ensures { Declares t.old (declare_sort (context t.old) (declared_node datatype)) result t.new }
 {
     let n = get_at(t, COUNTS, SORTS);
     if n == MAX_SORTS {
-        return Declared::NoRoom;
+        return Err(NoRoom);
     }
-    put_at(t, SORT, n, node_code(datatype));
+    let node = if datatype {
+        SortNode::Datatype
+    } else {
+        SortNode::Uninterpreted
+    };
+    put_at(t, SORT, n, node as usize);
     put_at(t, COUNTS, SORTS, n + 1);
-    Declared::Done
+    Ok(())
 }
 
 // A number of a list of sorts, or 0 past its end.
@@ -401,11 +340,7 @@ fn sort_or_0(sorts: &[u32], i: usize) -> usize
     requires { AllBelow max_sorts sorts.now }
     ensures { (result ≡ get_or sorts.now i 0) × (result < max_sorts) }
 {
-    if i < sorts.len() {
-        sorts[i] as usize
-    } else {
-        0
-    }
+    sorts.get(i).map_or(0, |s| *s as usize)
 }
 
 // Four sorts of a list in a word, from number 4 q on.
@@ -413,18 +348,24 @@ fn pack(sorts: &[u32], q: usize) -> u32
     requires { AllBelow max_sorts sorts.now × (q < 4) }
     ensures { result ≡ packed sorts.now q }
 {
-    let i = 4 * q;
-    let word = sort_or_0(sorts, i)
-        + RADIX * sort_or_0(sorts, i + 1)
-        + RADIX_SQUARED * sort_or_0(sorts, i + 2)
-        + RADIX_CUBED * sort_or_0(sorts, i + 3);
+    let mut word = 0;
+    for d in 0..4 {
+        word += PLACES[d] * sort_or_0(sorts, 4 * q + d);
+    }
     word as u32
 }
 
-// One more symbol, the n-th.
-fn add_symbol(t: &mut [u32], n: usize, owner: usize, res: usize, params: &[u32])
-    requires { SymbolRoom t.old n owner res params.now }
-    ensures { SymbolAdded t.old n owner res params.now t.new }
+// The word for the constructor that a symbol belongs to.
+fn owner_word(owner: Option<SymbolId>) -> usize
+    ensures { (result ≡ owner_code owner) × (result ≤ 4294967296) }
+{
+    owner.map_or(0, |c| c.0 as usize + 1)
+}
+
+// One more symbol, the n-th; a constructor, its tester and its selectors belong to it.
+fn add_symbol(t: &mut [u32], n: usize, owner: Option<SymbolId>, res: SortId, params: &[u32])
+    requires { SymbolRoom t.old n (owner_code owner) res.0 params.now }
+    ensures { SymbolAdded t.old n (owner_code owner) res.0 params.now t.new }
 {
     let words = [
         pack(params, 0),
@@ -433,83 +374,74 @@ fn add_symbol(t: &mut [u32], n: usize, owner: usize, res: usize, params: &[u32])
         pack(params, 3),
     ];
     copy_words(t, PARAMS, 4 * n, &words);
-    put_at(t, OWNER, n, owner);
-    put_at(t, RESULT, n, res);
+    put_at(t, OWNER, n, owner_word(owner));
+    put_at(t, RESULT, n, res.0 as usize);
     put_at(t, ARITY, n, params.len());
     put_at(t, COUNTS, SYMBOLS, n + 1);
 }
 
-pub fn declare_fun(t: &mut [u32], res: SortId, params: &[u32]) -> Declared
+pub fn declare_fun(t: &mut [u32], res: SortId, params: &[u32]) -> Result<(), NoRoom>
     requires { MayDeclare t.old res.0 params.now }
     ensures { Declares t.old (declare_fun (context t.old) res.0 params.now) result t.new }
 {
     let n = get_at(t, COUNTS, SYMBOLS);
     if n == MAX_SYMBOLS {
-        return Declared::NoRoom;
+        return Err(NoRoom);
     }
-    let sort = res.0 as usize;
-    add_symbol(t, n, 0, sort, params);
-    Declared::Done
+    add_symbol(t, n, None, res, params);
+    Ok(())
 }
 
 // The selectors of constructor c, from symbol c + 2 on.
-fn add_selectors(t: &mut [u32], c: usize, dt: u32, fields: &[u32])
-    requires { SelectorRoom t.old c dt fields.now }
-    ensures { SymbolsAdded t.old (selectors_from c dt 0 fields.now) t.new }
+fn add_selectors(t: &mut [u32], c: SymbolId, dt: SortId, fields: &[u32])
+    requires { SelectorRoom t.old c.0 dt.0 fields.now }
+    ensures { SymbolsAdded t.old (selectors_from c.0 dt.0 0 fields.now) t.new }
 {
-    let own = [dt];
-    let mut i = 0;
-    while i < fields.len() {
-        add_symbol(t, c + 2 + i, c + 1, fields[i] as usize, &own);
-        i += 1;
+    let own = [dt.0];
+    let first = c.0 as usize + 2;
+    for (i, field) in fields.iter().enumerate() {
+        add_symbol(t, first + i, Some(c), SortId(*field), &own);
     }
 }
 
 // A constructor takes symbols for itself, its tester and each selector, in this order.
-pub fn dt_add_constructor(t: &mut [u32], dt: SortId, fields: &[u32]) -> Declared
+pub fn dt_add_constructor(t: &mut [u32], dt: SortId, fields: &[u32]) -> Result<(), NoRoom>
     requires { MayDeclare t.old dt.0 fields.now }
     ensures { Declares t.old (dt_add_constructor (context t.old) dt.0 fields.now) result t.new }
 {
     let n = get_at(t, COUNTS, SYMBOLS);
     if MAX_SYMBOLS - n < fields.len() + 2 {
-        return Declared::NoRoom;
+        return Err(NoRoom);
     }
-    let sort = dt.0;
-    add_symbol(t, n, n + 1, sort as usize, fields);
-    let own = [sort];
-    add_symbol(t, n + 1, n + 1, 0, &own);
-    add_selectors(t, n, sort, fields);
-    Declared::Done
+    let c = SymbolId(n as u32);
+    add_symbol(t, n, Some(c), dt, fields);
+    add_symbol(t, n + 1, Some(c), SortId(0), &[dt.0]);
+    add_selectors(t, c, dt, fields);
+    Ok(())
 }
 
 // ---- constructors
 
 // Does symbol s build datatype dt?
-fn builds(t: &[u32], dt: usize, s: usize) -> bool
-    requires { ContextSound t.now × (s < symbols# t.now) }
-    ensures { result ≡ builds (context t.now) dt s }
+fn builds(t: &[u32], dt: SortId, s: SymbolId) -> bool
+    requires { ContextSound t.now × (s.0 < length (context t.now).symbols) }
+    ensures { result ≡ builds (context t.now) dt.0 s.0 }
 {
-    if get_at(t, OWNER, s) != s + 1 {
-        return false;
-    }
-    get_at(t, RESULT, s) == dt
+    dt_role(t, s) == DtRole::Constructor && result_sort(t, s) == dt
 }
 
-// The lowest constructor of dt from symbol `from` on, or the number of symbols if there is none.
-pub fn next_constructor(t: &[u32], dt: SortId, from: usize) -> usize
+// The lowest constructor of dt from symbol `from` on.
+pub fn next_constructor(t: &[u32], dt: SortId, from: usize) -> Option<SymbolId>
     requires { ContextSound t.now × (from ≤ length (context t.now).symbols) }
     ensures { NextConstructor t.now dt.0 from result }
 {
-    let n = get_at(t, COUNTS, SYMBOLS);
-    let sort = dt.0 as usize;
-    let mut s = from;
-    while s < n {
-        if builds(t, sort, s) {
-            return s;
+    for s in from..symbol_count(t) {
+        let c = SymbolId(s as u32);
+        if builds(t, dt, c) {
+            return Some(c);
         }
-        s += 1;
     }
-    s
+    None
 }
 
 pub fn dt_tester(c: SymbolId) -> SymbolId
@@ -530,74 +462,59 @@ pub fn first_selector(c: SymbolId) -> SymbolId
 // ---- question 10
 
 // Is a sort no datatype, or one that was found?
-fn is_ready(t: &[u32], found: &[u32], s: usize) -> bool
-    requires { ContextSound t.now × (max_sorts ≤ length found.now) × (s < sorts# t.now) }
-    ensures { result ≡ ready (context t.now) (marked found.now) s }
+fn is_ready(t: &[u32], found: &[bool], s: SortId) -> bool
+    requires { ContextSound t.now × (max_sorts ≤ length found.now) × (s.0 < length (context t.now).sorts) }
+    ensures { result ≡ ready (context t.now) (marked found.now) s.0 }
 {
-    if get_at(t, SORT, s) != 1 {
-        return true;
-    }
-    get_at(found, 0, s) == 1
+    !is_datatype_sort(t, s) || found[s.0 as usize]
 }
 
-fn has_ready_fields(t: &[u32], found: &[u32], c: usize) -> bool
-    requires { ContextSound t.now × (max_sorts ≤ length found.now) × (c < symbols# t.now) }
-    ensures { result ≡ has_ready_fields (context t.now) (marked found.now) c }
+fn has_ready_fields(t: &[u32], found: &[bool], c: SymbolId) -> bool
+    requires { ContextSound t.now × (max_sorts ≤ length found.now) × (c.0 < length (context t.now).symbols) }
+    ensures { result ≡ has_ready_fields (context t.now) (marked found.now) c.0 }
 {
-    let n = get_at(t, ARITY, c);
-    let mut i = 0;
-    while i < n {
-        if !is_ready(t, found, param_sort(t, c, i)) {
+    for i in 0..arity(t, c) {
+        if !is_ready(t, found, param(t, c, i)) {
             return false;
         }
-        i += 1;
     }
     true
 }
 
 // Is the datatype of constructor c found by it now? Other symbols find none.
-fn adds(t: &[u32], found: &[u32], c: usize) -> bool
-    requires { ContextSound t.now × (max_sorts ≤ length found.now) × (c < symbols# t.now) }
-    ensures { result ≡ adds (context t.now) (marked found.now) c }
+fn adds(t: &[u32], found: &[bool], c: SymbolId) -> bool
+    requires { ContextSound t.now × (max_sorts ≤ length found.now) × (c.0 < length (context t.now).symbols) }
+    ensures { result ≡ adds (context t.now) (marked found.now) c.0 }
 {
-    if get_at(t, OWNER, c) != c + 1 {
-        return false;
-    }
-    if is_ready(t, found, get_at(t, RESULT, c)) {
-        return false;
-    }
-    has_ready_fields(t, found, c)
+    dt_role(t, c) == DtRole::Constructor
+        && !is_ready(t, found, result_sort(t, c))
+        && has_ready_fields(t, found, c)
 }
 
 // Marks the datatypes that the symbols find, in their order; one that is marked counts at once for those after it. Was any added?
-fn mark_round(t: &[u32], found: &mut [u32]) -> bool
+fn mark_round(t: &[u32], found: &mut [bool]) -> bool
     requires { ContextSound t.now × Marks t.now found.old }
     ensures { MarkRound t.now found.old result found.new }
 {
-    let n = get_at(t, COUNTS, SYMBOLS);
     let mut added = false;
-    let mut c = 0;
-    while c < n {
+    for s in 0..symbol_count(t) {
+        let c = SymbolId(s as u32);
         if adds(t, found, c) {
-            put_at(found, 0, get_at(t, RESULT, c), 1);
+            found[result_sort(t, c).0 as usize] = true;
             added = true;
         }
-        c += 1;
     }
     added
 }
 
-fn all_found(t: &[u32], found: &[u32]) -> bool
+fn all_found(t: &[u32], found: &[bool]) -> bool
     requires { ContextSound t.now × (max_sorts ≤ length found.now) }
     ensures { result ≡ every (marked found.now) (datatypes (context t.now)) }
 {
-    let n = get_at(t, COUNTS, SORTS);
-    let mut s = 0;
-    while s < n {
-        if !is_ready(t, found, s) {
+    for s in 0..sort_count(t) {
+        if !is_ready(t, found, SortId(s as u32)) {
             return false;
         }
-        s += 1;
     }
     true
 }
@@ -607,11 +524,8 @@ pub fn all_grounded(t: &[u32]) -> bool
     requires { ContextSound t.now }
     ensures { result ≡ all_grounded (context t.now) }
 {
-    let mut found = [0u32; MAX_SORTS];
-    let mut more = true;
-    while more {
-        more = mark_round(t, &mut found);
-    }
+    let mut found = [false; MAX_SORTS];
+    while mark_round(t, &mut found) {}
     all_found(t, &found)
 }
 

@@ -18,3 +18,7 @@ pub const MAX_LEVELS: usize = 64;
 
 // Variables are numbered below it.
 pub const MAX_VARS: usize = 1024;
+
+// A limit of question 11 is met: the error of what makes a term or declares.
+#[derive(Clone, Copy, PartialEq, Eq, Debug)]
+pub struct NoRoom;

@@ -1,6 +1,6 @@
 -- Lemmas about the lent tables. TableStores, WorkStores, SplitStores, RingStores: the laws of stores at each table; Flags: sets of terms
 -- as flags; Signs: the three records in one list; Frames: what stores in some regions leave; Announcing: a mark and its block;
--- Roles: the kind of a term's mark, and the applications of the definition.
+-- Roles: the kind of a term's mark, and the applications of the definition; Parts: a part of a table at once.
 pub mod TableStores
 pub mod WorkStores
 pub mod SplitStores
@@ -10,6 +10,7 @@ pub mod Signs
 pub mod Frames
 pub mod Announcing
 pub mod Roles
+pub mod Parts
 -- Registering: an empty table, the registry; Collecting: collection; Entries: the entries of the records; Recording: one more;
 -- Levels: push and pop.
 pub mod Registering
@@ -24,8 +25,9 @@ pub mod Beginning
 pub mod AppNumbers
 pub mod Blocks
 pub mod MarksOnly
--- Growing: what a table that grows at its end keeps; Unfitting: what does not fit does not fit later; Minting: terms made and marked,
--- lemmas handed out; Splits: the answer table of a split; Trying: a rule that is tried for each of a list.
+-- NoRooms: what the exit of a `?` returns; Growing: what a table that grows at its end keeps; Unfitting: what does not fit does not fit
+-- later; Minting: terms made and marked, lemmas handed out; Splits: the answer table of a split; Trying: a rule that is tried for each of a list.
+pub mod NoRooms
 pub mod Growing
 pub mod Unfitting
 pub mod Minting
@@ -33,7 +35,7 @@ pub mod Splits
 pub mod Trying
 -- The rules. Asking: the loop over the list of entries; ConstructorClash, Clashing, Owning: the three clashes; Disequalities: unequal
 -- terms; Asserting: assert; Selected, Injecting: injectivity; Chains, Collapsing, TesterLemmas, Once, TestsOnce: collapse and the tester
--- lemma; Instantiating: guarded instantiation; Splitting: exhaustiveness and unknown.
+-- lemma; Instantiating: guarded instantiation; LowestAsking, Splitting: exhaustiveness and unknown.
 pub mod Asking
 pub mod ConstructorClash
 pub mod Clashing
@@ -48,6 +50,7 @@ pub mod TesterLemmas
 pub mod Once
 pub mod TestsOnce
 pub mod Instantiating
+pub mod LowestAsking
 pub mod Splitting
 -- The ring. Resuming: the definition's walk step by step; Rings: the walk's table; RingSteps, RingWalks: its steps and loops; RingLeaves:
 -- the conflict.

@@ -1,6 +1,7 @@
--- Table: the solver's table, the state that the three tables mean, and when they fit together; Work: the work table of a check;
+-- Kinds: the kinds of marks; Table: the solver's table, the state that the three tables mean, and when they fit together; Work: the work table of a check;
 -- Answer: the answers of a check, and what a rule promises; Making: what making a term and handing out a lemma promise; Checks: what a
 -- check promises.
+pub mod Kinds
 pub mod Table
 pub mod Work
 pub mod Answer

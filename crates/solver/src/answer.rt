@@ -3,33 +3,25 @@ ghost use Rattle.std.specs.Prelude.{◌≡◌, ◌≤◌, ◌<◌, length, get_o
 ghost use Rattle.shinri_core.specs.Limits.{max_symbols};
 ghost use Rattle.theory.specs.Memory.Answer.{answer_size};
 ghost use Rattle.solver.specs.Rules.{NoPhase};
-ghost use Rattle.solver.specs.Memory.Answer.{split_atoms, split_guard, split_phases, SplitSound, phase_of, phase_meaning, guard_meaning, guarded, LemmaWritten, SplitCleared, TesterRoom, TesterPushed};
+ghost use Rattle.solver.specs.Memory.Answer.{split_atoms, split_guard, split_phases, SplitSound, phase_meaning, guard_meaning, guarded, LemmaWritten, SplitCleared, TesterRoom, TesterPushed};
 
 use shinri_core::ids::{Lit, TermId};
 use shinri_core::table::{get_at, put_at};
 
 // The kind of an answer; the leaves of a conflict and the atoms, guards and phases of a split stand in the answer table.
-#[derive(Clone, Copy)]
+#[derive(Clone, Copy, PartialEq, Eq, Debug)]
 pub enum TCheck {
     Sat,
     Conflict,
     Split,
     Unknown,
-    NoRoom,
 }
 
-// The preferred phase of a split atom.
-#[derive(Clone, Copy)]
+// The preferred phase of a split atom. The number of a phase is its word in the answer table.
+#[derive(Clone, Copy, PartialEq, Eq, Debug)]
 pub enum Phase {
-    Positive,
-    NoPhase,
-}
-
-// The literal that guards a lemma, if any.
-#[derive(Clone, Copy)]
-pub enum Guard {
-    At(Lit),
-    Nothing,
+    NoPhase = 0,
+    Positive = 1,
 }
 
 // ---- the regions of a split
@@ -66,14 +58,15 @@ pub fn split_atom(out: &[u32], i: usize) -> TermId
     TermId(get_at(out, ATOM, i) as u32)
 }
 
-pub fn split_guard(out: &[u32]) -> Guard
+// The literal that guards the split, if any.
+pub fn split_guard(out: &[u32]) -> Option<Lit>
     requires { SplitSound out.now }
     ensures { guard_meaning result ≡ split_guard out.now }
 {
     if get_at(out, COUNTS, GUARDED) == 0 {
-        return Guard::Nothing;
+        return None;
     }
-    Guard::At(Lit(get_at(out, COUNTS, GUARD) as u32))
+    Some(Lit(get_at(out, COUNTS, GUARD) as u32))
 }
 
 pub fn phase_count(out: &[u32]) -> usize
@@ -95,21 +88,21 @@ pub fn split_phase(out: &[u32], i: usize) -> Phase
 
 // ---- writing a split
 
-fn write_guard(out: &mut [u32], g: Guard)
+fn write_guard(out: &mut [u32], g: Option<Lit>)
     requires { answer_size ≤ length out.old }
     ensures { out.new ≡ guarded out.old g }
 {
     match g {
-        Guard::At(l) => {
+        Some(l) => {
             put_at(out, COUNTS, GUARDED, 1);
             put_at(out, COUNTS, GUARD, l.0 as usize);
         }
-        Guard::Nothing => put_at(out, COUNTS, GUARDED, 0),
+        None => put_at(out, COUNTS, GUARDED, 0),
     }
 }
 
 // One atom under a guard, without phases.
-pub fn write_lemma(out: &mut [u32], x: TermId, g: Guard)
+pub fn write_lemma(out: &mut [u32], x: TermId, g: Option<Lit>)
     requires { answer_size ≤ length out.old }
     ensures { LemmaWritten x.0 g out.new }
 {
@@ -129,25 +122,15 @@ pub fn clear_split(out: &mut [u32])
     put_at(out, COUNTS, PHASES, 0);
 }
 
-fn phase_word(p: Phase) -> usize
-    ensures { (phase_of result ≡ phase_meaning p) × (result < 2) }
-{
-    match p {
-        Phase::Positive => 1,
-        Phase::NoPhase => 0,
-    }
-}
-
 // One more atom with its phase.
 pub fn push_tester(out: &mut [u32], x: TermId, p: Phase)
     requires { TesterRoom out.old }
     ensures { TesterPushed out.old x.0 (phase_meaning p) out.new }
 {
-    let word = phase_word(p);
     let n = get_at(out, COUNTS, ATOMS);
     put_at(out, ATOM, n, x.0 as usize);
     put_at(out, COUNTS, ATOMS, n + 1);
     let m = get_at(out, COUNTS, PHASES);
-    put_at(out, PHASE, m, word);
+    put_at(out, PHASE, m, p as usize);
     put_at(out, COUNTS, PHASES, m + 1);
 }

@@ -4,7 +4,7 @@ ghost use Rattle.solver.specs.Memory.Asserting.{TesterAssertable, AssertsTester,
 
 use crate::answer::TCheck;
 use crate::clashes::{negative_conflict, tester_conflict};
-use crate::layout::{MARK, MARKS_SIZE, TESTER_APP};
+use crate::layout::{Kind, MARK, MARKS_SIZE};
 use crate::levels::record_tester;
 use crate::records::atom;
 use crate::roles::term_kind;
@@ -55,7 +55,7 @@ pub fn assert(t: &[u32], e: &[u32], s: &mut [u32], l: Lit, out: &mut [u32]) -> T
     ensures { Asserts t.now e.now s.old l.0 result s.new out.new }
 {
     let x = atom(s, l.var());
-    if term_kind(t, x) != TESTER_APP {
+    if term_kind(t, x) != Some(Kind::TesterApp) {
         return TCheck::Sat;
     }
     assert_tester(t, e, s, l, l.is_positive(), x, out)

@@ -7,7 +7,7 @@ ghost use Rattle.solver.specs.Memory.Table.{StateSound};
 ghost use Rattle.solver.specs.Memory.Work.{CheckSound};
 ghost use Rattle.solver.specs.Memory.Answer.{Tried};
 ghost use Rattle.solver.specs.Memory.Testing.{Lone};
-ghost use Rattle.solver.specs.Memory.Checks.{passes, has_room, from_instantiation, from_tester_lemma, from_collapse, from_injectivity, from_disequality_clash, from_negative_clash, from_tester_clash, Underway, UnmarkedAsked, Beginnable, ChecksFully, MarksFit, KeepsMarks, ChecksKept, Checks};
+ghost use Rattle.solver.specs.Memory.Checks.{from_instantiation, from_tester_lemma, from_collapse, from_injectivity, from_disequality_clash, from_negative_clash, from_tester_clash, Underway, UnmarkedAsked, Beginnable, ChecksFully, MarksFit, KeepsMarks, ChecksKept, Checks};
 
 use crate::answer::TCheck;
 use crate::clashes::{negative_clash, tester_clash};
@@ -22,35 +22,12 @@ use crate::records::{has_app, has_lasting, put_mark};
 use crate::ring::ring;
 use crate::work::{W_MARK, WORK_SIZE, begin};
 use shinri_core::context::{term_count, truncate};
+use shinri_core::limits::NoRoom;
 use shinri_core::table::get_at;
 
-// Does a rule pass on to the next?
-fn passes(r: TCheck) -> bool
-    ensures { result ≡ passes r }
-{
-    match r {
-        TCheck::Sat => true,
-        TCheck::Conflict => false,
-        TCheck::Split => false,
-        TCheck::Unknown => false,
-        TCheck::NoRoom => false,
-    }
-}
-
-// Is there room for what a check makes?
-fn has_room(r: TCheck) -> bool
-    ensures { result ≡ has_room r }
-{
-    match r {
-        TCheck::Sat => true,
-        TCheck::Conflict => true,
-        TCheck::Split => true,
-        TCheck::Unknown => true,
-        TCheck::NoRoom => false,
-    }
-}
-
 // ---- the rules before the ring, from each of them on
+
+// One after the other, each with what follows it: as closures the rules would each take the five tables once more.
 
 // Guarded instantiation, then exhaustiveness and unknown.
 fn from_instantiation(
@@ -59,14 +36,14 @@ fn from_instantiation(
     s: &mut [u32],
     w: &mut [u32],
     out: &mut [u32],
-) -> TCheck
+) -> Result<TCheck, NoRoom>
     requires { CheckSound t.old e.now s.old w.old × (answer_size ≤ length out.old) }
     ensures { Tried from_instantiation t.old e.now s.old w.old result t.new
         s.new w.new out.new }
 {
-    let r = instantiate_constructor(t, e, s, w, out);
-    if !passes(r) {
-        return r;
+    let r = instantiate_constructor(t, e, s, w, out)?;
+    if r != TCheck::Sat {
+        return Ok(r);
     }
     exhaustiveness_split(t, e, s, w, out)
 }
@@ -78,26 +55,32 @@ fn from_tester_lemma(
     s: &mut [u32],
     w: &mut [u32],
     out: &mut [u32],
-) -> TCheck
+) -> Result<TCheck, NoRoom>
     requires { Underway t.old e.now s.old w.old out.old }
     ensures { Tried from_tester_lemma t.old e.now s.old w.old result t.new
         s.new w.new out.new }
 {
-    let r = tester_lemma(t, e, s, w, out);
-    if !passes(r) {
-        return r;
+    let r = tester_lemma(t, e, s, w, out)?;
+    if r != TCheck::Sat {
+        return Ok(r);
     }
     from_instantiation(t, e, s, w, out)
 }
 
 // Collapse, and what follows it.
-fn from_collapse(t: &mut [u32], e: &[u32], s: &mut [u32], w: &mut [u32], out: &mut [u32]) -> TCheck
+fn from_collapse(
+    t: &mut [u32],
+    e: &[u32],
+    s: &mut [u32],
+    w: &mut [u32],
+    out: &mut [u32],
+) -> Result<TCheck, NoRoom>
     requires { Underway t.old e.now s.old w.old out.old }
     ensures { Tried from_collapse t.old e.now s.old w.old result t.new s.new w.new out.new }
 {
-    let r = collapse_lemma(t, e, s, w, out);
-    if !passes(r) {
-        return r;
+    let r = collapse_lemma(t, e, s, w, out)?;
+    if r != TCheck::Sat {
+        return Ok(r);
     }
     from_tester_lemma(t, e, s, w, out)
 }
@@ -109,15 +92,12 @@ fn from_injectivity(
     s: &mut [u32],
     w: &mut [u32],
     out: &mut [u32],
-) -> TCheck
+) -> Result<TCheck, NoRoom>
     requires { Underway t.old e.now s.old w.old out.old }
     ensures { Tried from_injectivity t.old e.now s.old w.old result t.new
         s.new w.new out.new }
 {
-    let r = instantiate_injectivity_selectors(t, e, w);
-    if !passes(r) {
-        return r;
-    }
+    instantiate_injectivity_selectors(t, e, w)?;
     from_collapse(t, e, s, w, out)
 }
 
@@ -128,14 +108,14 @@ fn from_disequality_clash(
     s: &mut [u32],
     w: &mut [u32],
     out: &mut [u32],
-) -> TCheck
+) -> Result<TCheck, NoRoom>
     requires { Underway t.old e.now s.old w.old out.old }
     ensures { Tried from_disequality_clash t.old e.now s.old w.old result t.new
         s.new w.new out.new }
 {
     let r = disequality_clash(t, e, s, out);
-    if !passes(r) {
-        return r;
+    if r != TCheck::Sat {
+        return Ok(r);
     }
     from_injectivity(t, e, s, w, out)
 }
@@ -147,14 +127,14 @@ fn from_negative_clash(
     s: &mut [u32],
     w: &mut [u32],
     out: &mut [u32],
-) -> TCheck
+) -> Result<TCheck, NoRoom>
     requires { Underway t.old e.now s.old w.old out.old × Lone t.old e.now w.old }
     ensures { Tried from_negative_clash t.old e.now s.old w.old result t.new
         s.new w.new out.new }
 {
     let r = negative_clash(t, e, s, w, out);
-    if !passes(r) {
-        return r;
+    if r != TCheck::Sat {
+        return Ok(r);
     }
     from_disequality_clash(t, e, s, w, out)
 }
@@ -166,26 +146,32 @@ fn from_tester_clash(
     s: &mut [u32],
     w: &mut [u32],
     out: &mut [u32],
-) -> TCheck
+) -> Result<TCheck, NoRoom>
     requires { Underway t.old e.now s.old w.old out.old × Lone t.old e.now w.old }
     ensures { Tried from_tester_clash t.old e.now s.old w.old result t.new
         s.new w.new out.new }
 {
     let r = tester_clash(t, e, s, w, out);
-    if !passes(r) {
-        return r;
+    if r != TCheck::Sat {
+        return Ok(r);
     }
     from_negative_clash(t, e, s, w, out)
 }
 
 // Constructor clash, and what follows it.
-fn before_ring(t: &mut [u32], e: &[u32], s: &mut [u32], w: &mut [u32], out: &mut [u32]) -> TCheck
+fn before_ring(
+    t: &mut [u32],
+    e: &[u32],
+    s: &mut [u32],
+    w: &mut [u32],
+    out: &mut [u32],
+) -> Result<TCheck, NoRoom>
     requires { Underway t.old e.now s.old w.old out.old }
     ensures { Tried before_ring t.old e.now s.old w.old result t.new s.new w.new out.new }
 {
     let r = constructor_clash(t, e, s, w, out);
-    if !passes(r) {
-        return r;
+    if r != TCheck::Sat {
+        return Ok(r);
     }
     from_tester_clash(t, e, s, w, out)
 }
@@ -193,16 +179,22 @@ fn before_ring(t: &mut [u32], e: &[u32], s: &mut [u32], w: &mut [u32], out: &mut
 // ---- a check
 
 // A full check on a blank work table.
-fn full_check(t: &mut [u32], e: &[u32], s: &mut [u32], w: &mut [u32], out: &mut [u32]) -> TCheck
+fn full_check(
+    t: &mut [u32],
+    e: &[u32],
+    s: &mut [u32],
+    w: &mut [u32],
+    out: &mut [u32],
+) -> Result<TCheck, NoRoom>
     requires { Beginnable t.old e.now s.old w.old out.old }
     ensures { ChecksFully t.old e.now s.old result t.new s.new w.new out.new }
 {
     begin(t, e, s, w);
-    let r = before_ring(t, e, s, w, out);
-    if !passes(r) {
-        return r;
+    let r = before_ring(t, e, s, w, out)?;
+    if r != TCheck::Sat {
+        return Ok(r);
     }
-    ring(t, e, w, out)
+    Ok(ring(t, e, w, out))
 }
 
 // The marks of the work table become the solver's. Behind the last term neither has any.
@@ -210,45 +202,40 @@ fn keep_marks(t: &[u32], s: &mut [u32], w: &[u32])
     requires { ContextSound t.now × MarksFit s.old w.now }
     ensures { KeepsMarks (length (context t.now).terms) s.old w.now s.new }
 {
-    let n = term_count(t);
-    let mut x = 0;
-    while x < n {
+    for x in 0..term_count(t) {
         let kind = get_at(w, W_MARK, x);
         if get_at(s, MARK, x) != kind {
             put_mark(s, x, kind);
         }
-        x += 1;
     }
 }
 
 // A full check with a work table; its marks are kept if its terms fit.
-fn check_classes(t: &mut [u32], e: &[u32], s: &mut [u32], out: &mut [u32]) -> TCheck
+fn check_classes(t: &mut [u32], e: &[u32], s: &mut [u32], out: &mut [u32]) -> Result<TCheck, NoRoom>
     requires { StateSound t.old e.now s.old × (answer_size ≤ length out.old) }
     ensures { ChecksKept t.old e.now s.old result t.new s.new out.new }
 {
     let mut w = [0u32; WORK_SIZE];
-    let r = full_check(t, e, s, &mut w, out);
-    if has_room(r) {
-        keep_marks(t, s, &w);
-    }
-    r
+    let r = full_check(t, e, s, &mut w, out)?;
+    keep_marks(t, s, &w);
+    Ok(r)
 }
 
 // A full check where no constructor application is marked and no tester was ever asserted positively: only unequal terms and the watched
 // terms matter, for a negative tester has nothing to conflict with.
-fn check_watched(t: &mut [u32], e: &[u32], s: &mut [u32], out: &mut [u32]) -> TCheck
+fn check_watched(t: &mut [u32], e: &[u32], s: &mut [u32], out: &mut [u32]) -> Result<TCheck, NoRoom>
     requires { UnmarkedAsked t.old e.now s.old out.old }
     ensures { ChecksKept t.old e.now s.old result t.new s.new out.new }
 {
     let r = disequality_clash(t, e, s, out);
-    if !passes(r) {
-        return r;
+    if r != TCheck::Sat {
+        return Ok(r);
     }
     split_watched(t, s, out)
 }
 
 // A full check.
-fn check_fully(t: &mut [u32], e: &[u32], s: &mut [u32], out: &mut [u32]) -> TCheck
+fn check_fully(t: &mut [u32], e: &[u32], s: &mut [u32], out: &mut [u32]) -> Result<TCheck, NoRoom>
     requires { StateSound t.old e.now s.old × (answer_size ≤ length out.old) }
     ensures { ChecksKept t.old e.now s.old result t.new s.new out.new }
 {
@@ -260,18 +247,23 @@ fn check_fully(t: &mut [u32], e: &[u32], s: &mut [u32], out: &mut [u32]) -> TChe
 
 // A check; one that is not full does nothing. If the terms that it makes do not fit, they are given back, and its marks are dropped
 // with the work table.
-pub fn check(t: &mut [u32], e: &[u32], s: &mut [u32], full: bool, out: &mut [u32]) -> TCheck
+pub fn check(
+    t: &mut [u32],
+    e: &[u32],
+    s: &mut [u32],
+    full: bool,
+    out: &mut [u32],
+) -> Result<TCheck, NoRoom>
     requires { StateSound t.old e.now s.old × (answer_size ≤ length out.old) }
     ensures { Checks full t.old e.now s.old result t.new s.new out.new }
 {
     if !full {
-        return TCheck::Sat;
+        return Ok(TCheck::Sat);
     }
     let n = term_count(t);
     let r = check_fully(t, e, s, out);
-    if has_room(r) {
-        return r;
+    if r.is_err() {
+        truncate(t, n);
     }
-    truncate(t, n);
     r
 }

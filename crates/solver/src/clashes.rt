@@ -1,16 +1,16 @@
 // Testers against the constructor of their term's class: tester clash, and negative testers.
-ghost use Rattle.std.specs.Prelude.{◌≡◌, true, false, ◌≤◌, ◌<◌, length};
+ghost use Rattle.std.specs.Prelude.{◌≡◌, true, false, ◌≤◌, ◌<◌, length, Ok};
 ghost use Rattle.theory.specs.Memory.Answer.{answer_size};
 ghost use Rattle.solver.specs.Rules.{tester_clash, negative_clash};
 ghost use Rattle.solver.specs.Memory.Table.{of_sign, key_atom};
 ghost use Rattle.solver.specs.Memory.Work.{CtorAsked, CheckSound};
 ghost use Rattle.solver.specs.Memory.Answer.{Tried};
-ghost use Rattle.solver.specs.Memory.Testing.{agreeing, clash_by, Lone, own_at, OwnAsked, OwnApp, TesterTerm, TesterCtor, DisagreeAsked, Disagrees, TesterAsked, ConflictAsked, TesterConflict, EntryAsked, EntryConflict, ClashAsked};
+ghost use Rattle.solver.specs.Memory.Testing.{clash_by, Lone, own_at, OwnAsked, OwnApp, TesterTerm, TesterCtor, DisagreeAsked, Disagrees, TesterAsked, ConflictAsked, TesterConflict, EntryAsked, EntryConflict, ClashAsked};
 
 use crate::answer::TCheck;
 use crate::constructor_clash::symbol_of;
-use crate::layout::{COUNTS, CTOR_APP, ENTRY, MAX_LITS, RECORDS, UNEQUAL};
-use crate::work::{CtorOf, W_MARK, ctor_of_class};
+use crate::layout::{COUNTS, ENTRY, Kind, MAX_LITS, RECORDS, UNEQUAL};
+use crate::work::{W_MARK, ctor_of_class};
 use shinri_core::context::{children, dt_role, op, term_count};
 use shinri_core::ids::{Lit, SymbolId, TermId};
 use shinri_core::limits::MAX_TERMS;
@@ -21,16 +21,6 @@ use theory::types::{EqLeaf, clear_leaves, push_leaf};
 
 // ---- a tester against a class
 
-// Does a positive or negative tester agree with the class, which has its constructor or another?
-fn agrees(same: bool, positive: bool) -> bool
-    ensures { result ≡ agreeing positive same }
-{
-    if positive {
-        return same;
-    }
-    !same
-}
-
 // The literal says that the term is built by the constructor c, or that it is not; found is an application of its class. The leaves are
 // the literal, then those of the term's equality with that application.
 fn disagrees(
@@ -39,27 +29,25 @@ fn disagrees(
     positive: bool,
     c: SymbolId,
     arg: TermId,
-    found: CtorOf,
+    found: Option<(SymbolId, TermId)>,
     out: &mut [u32],
 ) -> TCheck
     requires { DisagreeAsked e.now arg.0 found out.old }
     ensures { Disagrees positive e.now l.0 c.0 arg.0 found result out.new }
 {
-    match found {
-        CtorOf::Nothing => TCheck::Sat,
-        CtorOf::At(f, app) => {
-            if agrees(f.0 == c.0, positive) {
-                return TCheck::Sat;
-            }
-            clear_leaves(out);
-            push_leaf(out, EqLeaf::Asserted(l));
-            explain(e, arg, app, out);
-            TCheck::Conflict
-        }
+    let Some((f, app)) = found else {
+        return TCheck::Sat;
+    };
+    if (f == c) == positive {
+        return TCheck::Sat;
     }
+    clear_leaves(out);
+    push_leaf(out, EqLeaf::Asserted(l));
+    explain(e, arg, app, out);
+    TCheck::Conflict
 }
 
-// The constructor that a tester application asks for.
+// The constructor that a tester application asks for. No other term is given, so the other arms are never taken.
 fn tester_ctor(t: &[u32], x: TermId) -> SymbolId
     requires { TesterTerm t.now x.0 }
     ensures { TesterCtor t.now x.0 result.0 }
@@ -68,9 +56,7 @@ fn tester_ctor(t: &[u32], x: TermId) -> SymbolId
         Op::Eq => SymbolId(0),
         Op::Uninterpreted(f) => match dt_role(t, f) {
             DtRole::Tester(c) => c,
-            DtRole::Constructor => f,
-            DtRole::Selector(_, _) => f,
-            DtRole::Function => f,
+            _ => f,
         },
     }
 }
@@ -102,47 +88,35 @@ fn is_own(t: &[u32], e: &[u32], w: &[u32], c: SymbolId, root: TermId, i: usize) 
     requires { OwnAsked t.now e.now w.now i }
     ensures { result ≡ own_at t.now e.now w.now c.0 root.0 i }
 {
-    if get_at(w, W_MARK, i) != CTOR_APP {
-        return false;
-    }
-    if symbol_of(t, i) != c.0 as usize {
-        return false;
-    }
-    let other = find(e, TermId(i as u32));
-    other.0 == root.0
+    get_at(w, W_MARK, i) == Kind::CtorApp as usize
+        && symbol_of(t, i) == c.0 as usize
+        && find(e, TermId(i as u32)) == root
 }
 
 // The lowest marked application of constructor c in a term's class, if any, by a pass over the terms.
-fn search_own(t: &[u32], e: &[u32], w: &[u32], x: TermId, c: SymbolId) -> CtorOf
+fn search_own(t: &[u32], e: &[u32], w: &[u32], x: TermId, c: SymbolId) -> Option<(SymbolId, TermId)>
     requires { CtorAsked t.now e.now w.now x.0 }
     ensures { OwnApp t.now e.now w.now x.0 c.0 result }
 {
     let root = find(e, x);
-    let n = term_count(t);
-    let mut i = 0;
-    while i < n {
+    for i in 0..term_count(t) {
         if is_own(t, e, w, c, root, i) {
-            return CtorOf::At(c, TermId(i as u32));
+            return Some((c, TermId(i as u32)));
         }
-        i += 1;
     }
-    CtorOf::Nothing
+    None
 }
 
 // The same. Only a class whose lowest application is of another constructor, and so is in a clash if it has one of c, takes a search.
-fn own_app(t: &[u32], e: &[u32], w: &[u32], x: TermId, c: SymbolId) -> CtorOf
+fn own_app(t: &[u32], e: &[u32], w: &[u32], x: TermId, c: SymbolId) -> Option<(SymbolId, TermId)>
     requires { CtorAsked t.now e.now w.now x.0 }
     ensures { OwnApp t.now e.now w.now x.0 c.0 result }
 {
-    match ctor_of_class(t, e, w, x) {
-        CtorOf::Nothing => CtorOf::Nothing,
-        CtorOf::At(f, app) => {
-            if f.0 == c.0 {
-                return CtorOf::At(f, app);
-            }
-            search_own(t, e, w, x, c)
-        }
+    let (f, app) = ctor_of_class(t, e, w, x)?;
+    if f == c {
+        return Some((f, app));
     }
+    search_own(t, e, w, x, c)
 }
 
 // The conflict of a negative tester with the lowest marked application of its own constructor, or `Sat`.
@@ -208,7 +182,8 @@ fn entry_conflict(
     tester_conflict(t, e, w, l, positive, x, out)
 }
 
-// The first entry of a record that has a conflict.
+// The first entry of a record that has a conflict. The record of unequal terms has such a loop of its own: a closure that asks an entry
+// and writes the answer table would be longer than the loop.
 fn record_clash(
     t: &[u32],
     e: &[u32],
@@ -218,16 +193,13 @@ fn record_clash(
     out: &mut [u32],
 ) -> TCheck
     requires { ClashAsked positive t.now e.now s.now w.now out.old }
-    ensures { Tried (clash_by positive) t.now e.now s.now w.now result t.now s.now w.now out.new }
+    ensures { Tried (clash_by positive) t.now e.now s.now w.now (Ok result) t.now s.now w.now out.new }
 {
-    let n = get_at(s, COUNTS, RECORDS);
-    let mut i = 0;
-    while i < n {
-        match entry_conflict(t, e, s, w, positive, i, out) {
-            TCheck::Sat => {}
-            _ => return TCheck::Conflict,
+    for i in 0..get_at(s, COUNTS, RECORDS) {
+        let r = entry_conflict(t, e, s, w, positive, i, out);
+        if r != TCheck::Sat {
+            return r;
         }
-        i += 1;
     }
     TCheck::Sat
 }
@@ -235,7 +207,7 @@ fn record_clash(
 // The first entry of the level record that has a conflict.
 pub fn tester_clash(t: &[u32], e: &[u32], s: &[u32], w: &[u32], out: &mut [u32]) -> TCheck
     requires { CheckSound t.now e.now s.now w.now × (answer_size ≤ length out.old) }
-    ensures { Tried tester_clash t.now e.now s.now w.now result t.now s.now w.now out.new }
+    ensures { Tried tester_clash t.now e.now s.now w.now (Ok result) t.now s.now w.now out.new }
 {
     record_clash(t, e, s, w, true, out)
 }
@@ -243,7 +215,7 @@ pub fn tester_clash(t: &[u32], e: &[u32], s: &[u32], w: &[u32], out: &mut [u32])
 // The first negative tester that has a conflict, where a class has one constructor.
 pub fn negative_clash(t: &[u32], e: &[u32], s: &[u32], w: &[u32], out: &mut [u32]) -> TCheck
     requires { CheckSound t.now e.now s.now w.now × Lone t.now e.now w.now × (answer_size ≤ length out.old) }
-    ensures { Tried negative_clash t.now e.now s.now w.now result t.now s.now w.now out.new }
+    ensures { Tried negative_clash t.now e.now s.now w.now (Ok result) t.now s.now w.now out.new }
 {
     record_clash(t, e, s, w, false, out)
 }

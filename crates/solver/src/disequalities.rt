@@ -59,14 +59,11 @@ pub fn disequality_clash(t: &[u32], e: &[u32], s: &[u32], out: &mut [u32]) -> TC
     requires { UnequalAsked t.now e.now s.now out.old }
     ensures { UnequalClash t.now e.now s.now result out.new }
 {
-    let n = get_at(s, COUNTS, RECORDS);
-    let mut i = 0;
-    while i < n {
-        match pair_conflict(t, e, s, i, out) {
-            TCheck::Sat => {}
-            _ => return TCheck::Conflict,
+    for i in 0..get_at(s, COUNTS, RECORDS) {
+        let r = pair_conflict(t, e, s, i, out);
+        if r != TCheck::Sat {
+            return r;
         }
-        i += 1;
     }
     TCheck::Sat
 }

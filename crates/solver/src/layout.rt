@@ -1,4 +1,6 @@
 // The layout of the solver's table (specs/Memory/Table.antt).
+ghost use Rattle.std.specs.Prelude.{◌≡◌, ◌<◌};
+ghost use Rattle.solver.specs.Memory.Kinds.{mark_word};
 
 // The registry of variables, a table of its own, has the first words.
 pub const REGISTRY_SIZE: usize = 3073;
@@ -44,13 +46,22 @@ pub const UNEQUAL: usize = 2048;
 pub const MAX_LITS: usize = 2048;
 
 // What a mark says of its term: an application of a constructor, of a selector, of a selector with a datatype field, of a tester, of a
-// function with a datatype result.
-pub const CTOR_APP: usize = 1;
+// function with a datatype result. The number of a kind is its word in a table.
+#[derive(Clone, Copy, PartialEq, Eq)]
+pub enum Kind {
+    CtorApp = 1,
+    SelApp = 2,
+    DtSelApp = 3,
+    TesterApp = 4,
+    DtFunApp = 5,
+}
 
-pub const SEL_APP: usize = 2;
-
-pub const DT_SEL_APP: usize = 3;
-
-pub const TESTER_APP: usize = 4;
-
-pub const DT_FUN_APP: usize = 5;
+// The word of a mark, 0 of a term that is not to be marked.
+pub fn mark_word(kind: Option<Kind>) -> usize
+    ensures { (result ≡ mark_word kind) × (result < 6) }
+{
+    match kind {
+        Some(k) => k as usize,
+        None => 0,
+    }
+}

@@ -9,7 +9,7 @@ use shinri_core::ids::{Lit, TermId};
 use shinri_core::limits::MAX_TERMS;
 use shinri_core::table::{get_at, put_at};
 
-// How many levels are open, and for each how many entries the records had when it began.
+// How many levels are open, and for each how many entries the records had when it began: the session keeps the counts, in fixed memory.
 #[derive(Clone, Copy)]
 pub struct TesterMarks {
     pub levels: usize,
@@ -31,7 +31,7 @@ pub fn opened(s: &[u32], m: TesterMarks) -> TesterMarks
     r
 }
 
-// Opens a level.
+// Opens a level. A thin function on the counts lent, over `opened`: so the scope names this form.
 pub fn push(s: &[u32], m: &mut TesterMarks)
     requires { SolverSound s.now × MarksSound s.now m.old × (m.old.levels < max_levels) }
     ensures { Opened s.now m.old m.new }
@@ -46,9 +46,7 @@ fn drop_records(s: &mut [u32], n: usize)
     requires { RecordsSound s.old × (n ≤ records# s.old) }
     ensures { Dropped s.old n s.new }
 {
-    let mut i = get_at(s, COUNTS, RECORDS);
-    while n < i {
-        i -= 1;
+    for i in (n..get_at(s, COUNTS, RECORDS)).rev() {
         let key = get_at(s, ENTRY, i) / MAX_LITS;
         put_at(s, RECORDED, key, 0);
     }
@@ -70,7 +68,7 @@ pub fn closed(s: &mut [u32], m: TesterMarks, to: usize) -> TesterMarks
     r
 }
 
-// Closes the levels above `to`.
+// Closes the levels above `to`: thin, over `closed`, likewise.
 pub fn pop(s: &mut [u32], m: &mut TesterMarks, to: usize)
     requires { RecordsSound s.old × MarksSound s.old m.old }
     ensures { Popped s.old m.old to s.new m.new }

@@ -9,30 +9,33 @@ ghost use Rattle.solver.specs.State.{mint};
 ghost use Rattle.solver.specs.Memory.Table.{SolverSound};
 ghost use Rattle.solver.specs.Memory.Making.{Makeable, MakesTerm, HandsOut};
 
-use crate::answer::{Guard, TCheck, write_lemma};
+use crate::answer::{TCheck, write_lemma};
 use crate::layout::EMITTED;
 use crate::work::mark;
-use shinri_core::context::{Made, mk_app};
-use shinri_core::ids::{SymbolId, TermId};
+use shinri_core::context::mk_app;
+use shinri_core::ids::{Lit, SymbolId, TermId};
+use shinri_core::limits::NoRoom;
 use shinri_core::table::{get_at, put_at};
 
 // Makes and marks an application of a constructor, a selector or a tester.
-pub fn mint(t: &mut [u32], e: &[u32], w: &mut [u32], f: SymbolId, args: &[u32]) -> Made
+pub fn mint(
+    t: &mut [u32],
+    e: &[u32],
+    w: &mut [u32],
+    f: SymbolId,
+    args: &[u32],
+) -> Result<TermId, NoRoom>
     requires { Makeable t.old e.now w.old f.0 args.now × ((symbol (context t.old) f.0).role ≡ Function → ⊥) }
     ensures { MakesTerm (λ s. mint s f.0 args.now) ((symbol (context t.old)
         f.0).role ≡ Constructor → ⊥) t.old e.now w.old result t.new w.new }
 {
-    match mk_app(t, f, args) {
-        Made::NoRoom => Made::NoRoom,
-        Made::At(x) => {
-            mark(t, e, w, x.0 as usize);
-            Made::At(x)
-        }
-    }
+    let x = mk_app(t, f, args)?;
+    mark(t, e, w, x.0 as usize);
+    Ok(x)
 }
 
 // Hands out a lemma, unless that was done before: `Sat` stands for a lemma that is passed over.
-pub fn hand_out(s: &mut [u32], x: TermId, g: Guard, out: &mut [u32]) -> TCheck
+pub fn hand_out(s: &mut [u32], x: TermId, g: Option<Lit>, out: &mut [u32]) -> TCheck
     requires { SolverSound s.old × (x.0 < max_terms) × (answer_size ≤ length out.old) }
     ensures { HandsOut x.0 g s.old result s.new out.new }
 {

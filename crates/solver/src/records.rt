@@ -8,7 +8,7 @@ ghost use Rattle.solver.specs.Memory.Table.{registry, SolverSound};
 ghost use Rattle.solver.specs.Memory.Recording.{with_mark, NoneAnnounced, NoneLasting, Wiped, SolverCleared, MayRegister, Registers, Collecting, Collects, CollectsChildren, CollectsVar};
 
 use crate::layout::{
-    BLOCK, BLOCK_TERMS, BLOCKS, COLLECTED, COUNTS, CTOR_APP, LASTING, MARK, REGISTRY_SIZE,
+    BLOCK, BLOCK_TERMS, BLOCKS, COLLECTED, COUNTS, Kind, LASTING, MARK, REGISTRY_SIZE, mark_word,
 };
 use crate::roles::term_kind;
 use shinri_core::context::{children, term_count};
@@ -25,11 +25,7 @@ fn wipe(s: &mut [u32])
     requires { table_words ≤ length s.old }
     ensures { Wiped s.old s.new }
 {
-    let mut i = 0;
-    while i < FLAG_WORDS {
-        put_at(s, COUNTS, i, 0);
-        i += 1;
-    }
+    s[COUNTS..COUNTS + FLAG_WORDS].fill(0);
 }
 
 // Whatever the table held, it is now that of an empty session.
@@ -68,13 +64,13 @@ pub fn register(s: &mut [u32], v: Var, x: TermId)
 
 // ---- marks
 
-// Sets the mark of a term; a constructor application is announced in its block.
+// Sets the word of a term's mark; a constructor application is announced in its block.
 pub fn put_mark(s: &mut [u32], x: usize, kind: usize)
     requires { (table_words ≤ length s.old) × (x < max_terms) × (kind < 4294967296) }
     ensures { s.new ≡ with_mark s.old x kind }
 {
     put_at(s, MARK, x, kind);
-    if kind == CTOR_APP {
+    if kind == Kind::CtorApp as usize {
         put_at(s, BLOCK, x / BLOCK_TERMS, 1);
     }
 }
@@ -84,14 +80,7 @@ pub fn has_app(s: &[u32]) -> bool
     requires { table_words ≤ length s.now }
     ensures { result ≡ false → NoneAnnounced s.now }
 {
-    let mut b = 0;
-    while b < BLOCKS {
-        if get_at(s, BLOCK, b) != 0 {
-            return true;
-        }
-        b += 1;
-    }
-    false
+    s[BLOCK..BLOCK + BLOCKS].iter().any(|word| *word != 0)
 }
 
 // Does a term stand in the lasting record?
@@ -99,15 +88,9 @@ pub fn has_lasting(t: &[u32], s: &[u32]) -> bool
     requires { ContextSound t.now × (table_words ≤ length s.now) }
     ensures { result ≡ false → NoneLasting t.now s.now }
 {
-    let n = term_count(t);
-    let mut x = 0;
-    while x < n {
-        if get_at(s, LASTING, x) != 0 {
-            return true;
-        }
-        x += 1;
-    }
-    false
+    s[LASTING..LASTING + term_count(t)]
+        .iter()
+        .any(|word| *word != 0)
 }
 
 // ---- collection
@@ -118,10 +101,8 @@ fn collect_children(t: &[u32], s: &mut [u32], x: usize)
     ensures { CollectsChildren t.now s.old x s.new }
 {
     let args = children(t, TermId(x as u32));
-    let mut i = 0;
-    while i < args.len() {
-        collect(t, s, args[i] as usize);
-        i += 1;
+    for arg in args {
+        collect(t, s, *arg as usize);
     }
 }
 
@@ -133,7 +114,7 @@ fn collect(t: &[u32], s: &mut [u32], x: usize)
 {
     if get_at(s, COLLECTED, x) == 0 {
         collect_children(t, s, x);
-        let kind = term_kind(t, TermId(x as u32));
+        let kind = mark_word(term_kind(t, TermId(x as u32)));
         put_mark(s, x, kind);
         put_at(s, COLLECTED, x, 1);
     }

@@ -1,12 +1,13 @@
 // The work table of a check (specs/Memory/Work.antt): marks, roots, and for each class its marked constructor applications.
-ghost use Rattle.std.specs.Prelude.{◌≡◌, ◌≤◌, ◌<◌, length};
+ghost use Rattle.std.specs.Prelude.{◌+◌, ◌≡◌, ◌≤◌, ◌<◌, length};
+ghost use Rattle.shinri_core.specs.Memory.Words.{at};
 ghost use Rattle.shinri_core.specs.Limits.{max_terms};
 ghost use Rattle.theory.specs.EqEngine.{find};
 ghost use Rattle.theory.specs.Memory.Table.{merges};
 ghost use Rattle.solver.specs.Memory.Table.{blocks, Announced, StateSound};
-ghost use Rattle.solver.specs.Memory.Work.{W_MARK, W_BLOCK, ClassAsked, CtorAsked, CtorOfClass, NameAsked, NamesApp, word_from, MarksAsked, LowestInBlock, LowestMarked, Markable, Lowered, Marked, Blank, Begins, Copyable, MarksCopied, Linkable, Linked, linked, work_size};
+ghost use Rattle.solver.specs.Memory.Work.{W_MARK, W_BLOCK, ClassAsked, CtorAsked, CtorOfClass, NEXT, term_word, word_from, MarksAsked, LowestInBlock, LowestMarked, Markable, Lowered, Marked, Blank, Begins, Copyable, MarksCopied, Linkable, Linked, linked, work_size};
 
-use crate::layout::{BLOCK_TERMS, BLOCKS, CTOR_APP, MARK};
+use crate::layout::{BLOCK_TERMS, BLOCKS, Kind, MARK, mark_word};
 use crate::roles::term_kind;
 use shinri_core::context::{op, term_count};
 use shinri_core::ids::{SymbolId, TermId};
@@ -25,16 +26,9 @@ pub const ROOT: usize = 1056;
 
 const LOWEST: usize = 2080;
 
-pub const NEXT: usize = 3104;
+const NEXT: usize = 3104;
 
 pub const WORK_SIZE: usize = 4128;
-
-// The constructor application in a term's class, if any.
-#[derive(Clone, Copy)]
-pub enum CtorOf {
-    At(SymbolId, TermId),
-    Nothing,
-}
 
 // The root of a term's class.
 pub fn root_of(t: &[u32], e: &[u32], w: &[u32], x: usize) -> usize
@@ -51,77 +45,80 @@ pub fn root_of(t: &[u32], e: &[u32], w: &[u32], x: usize) -> usize
 
 // ---- the constructor of a class
 
-// The constructor application that a word stands for, if any.
-fn app_of(t: &[u32], word: usize) -> CtorOf
-    requires { NameAsked t.now word }
-    ensures { NamesApp t.now word result }
+// The term that a word stands for, if any.
+fn word_term(word: usize) -> Option<TermId>
+    requires { word < 4294967296 }
+    ensures { term_word result ≡ word }
 {
     if word == 0 {
-        return CtorOf::Nothing;
+        return None;
     }
-    let app = TermId((word - 1) as u32);
-    match op(t, app) {
-        Op::Eq => CtorOf::Nothing,
-        Op::Uninterpreted(f) => CtorOf::At(f, app),
-    }
+    Some(TermId((word - 1) as u32))
 }
 
-// One more than the lowest marked constructor application of a block in the class of a root; 0 if there is none.
-fn lowest_in_block(e: &[u32], w: &[u32], b: usize, root: TermId) -> usize
+// The lowest marked constructor application of a block in the class of a root.
+fn lowest_in_block(e: &[u32], w: &[u32], b: usize, root: TermId) -> Option<TermId>
     requires { MarksAsked e.now w.now × (b < blocks) }
-    ensures { LowestInBlock e.now w.now b root.0 result }
+    ensures { LowestInBlock e.now w.now b root.0 (term_word result) }
 {
-    let mut i = 0;
-    while i < BLOCK_TERMS {
+    for i in 0..BLOCK_TERMS {
         let x = b * BLOCK_TERMS + i;
-        if get_at(w, W_MARK, x) == CTOR_APP {
-            let other = find(e, TermId(x as u32));
-            if other.0 == root.0 {
-                return x + 1;
+        if get_at(w, W_MARK, x) == Kind::CtorApp as usize {
+            let app = TermId(x as u32);
+            if find(e, app) == root {
+                return Some(app);
             }
         }
-        i += 1;
     }
-    0
+    None
 }
 
 // The same of all terms; a block where none is marked is passed over.
-fn lowest_marked(e: &[u32], w: &[u32], root: TermId) -> usize
+fn lowest_marked(e: &[u32], w: &[u32], root: TermId) -> Option<TermId>
     requires { MarksAsked e.now w.now × Announced w.now W_MARK W_BLOCK }
-    ensures { LowestMarked e.now w.now root.0 result }
+    ensures { LowestMarked e.now w.now root.0 (term_word result) }
 {
-    let mut b = 0;
-    while b < BLOCKS {
+    for b in 0..BLOCKS {
         if get_at(w, W_BLOCK, b) != 0 {
-            let word = lowest_in_block(e, w, b, root);
-            if word != 0 {
-                return word;
+            if let Some(app) = lowest_in_block(e, w, b, root) {
+                return Some(app);
             }
         }
-        b += 1;
     }
-    0
+    None
 }
 
 // The same of a term's class. A short table has no roots: for one question, outside a check, a whole one does not pay.
-pub fn lowest_of_class(t: &[u32], e: &[u32], w: &[u32], x: TermId) -> usize
+pub fn lowest_of_class(t: &[u32], e: &[u32], w: &[u32], x: TermId) -> Option<TermId>
     requires { CtorAsked t.now e.now w.now x.0 }
-    ensures { result ≡ word_from t.now e.now w.now x.0 0 }
+    ensures { term_word result ≡ word_from t.now e.now w.now x.0 0 }
 {
     if w.len() < WORK_SIZE {
         let root = find(e, x);
         return lowest_marked(e, w, root);
     }
     let root = root_of(t, e, w, x.0 as usize);
-    get_at(w, LOWEST, root)
+    word_term(get_at(w, LOWEST, root))
+}
+
+// The next marked constructor application behind one of a class.
+pub fn next_of_class(w: &[u32], x: TermId) -> Option<TermId>
+    requires { NEXT + x.0 < length w.now }
+    ensures { term_word result ≡ at w.now NEXT x.0 }
+{
+    word_term(get_at(w, NEXT, x.0 as usize))
 }
 
 // The constructor of a term's class, if any, with its lowest marked application: the one way by which it is found.
-pub fn ctor_of_class(t: &[u32], e: &[u32], w: &[u32], x: TermId) -> CtorOf
+pub fn ctor_of_class(t: &[u32], e: &[u32], w: &[u32], x: TermId) -> Option<(SymbolId, TermId)>
     requires { CtorAsked t.now e.now w.now x.0 }
     ensures { CtorOfClass t.now e.now w.now x.0 result }
 {
-    app_of(t, lowest_of_class(t, e, w, x))
+    let app = lowest_of_class(t, e, w, x)?;
+    match op(t, app) {
+        Op::Eq => None,
+        Op::Uninterpreted(f) => Some((f, app)),
+    }
 }
 
 // ---- marking
@@ -148,8 +145,8 @@ pub fn mark(t: &[u32], e: &[u32], w: &mut [u32], x: usize)
     if get_at(w, W_MARK, x) != 0 {
         return;
     }
-    let kind = term_kind(t, TermId(x as u32));
-    if kind == CTOR_APP {
+    let kind = mark_word(term_kind(t, TermId(x as u32)));
+    if kind == Kind::CtorApp as usize {
         lower(t, e, w, x);
     }
     put_at(w, W_MARK, x, kind);
@@ -163,11 +160,7 @@ fn copy_marks(t: &[u32], s: &[u32], w: &mut [u32])
     ensures { MarksCopied t.now s.now w.old w.new }
 {
     let n = term_count(t);
-    let mut i = 0;
-    while i < n {
-        put_at(w, W_MARK, i, get_at(s, MARK, i));
-        i += 1;
-    }
+    w[W_MARK..W_MARK + n].copy_from_slice(&s[MARK..MARK + n]);
 }
 
 // A constructor application goes before those of its class that stand there.
@@ -185,12 +178,10 @@ fn take_roots(t: &[u32], e: &[u32], w: &mut [u32])
     requires { Linkable t.now e.now w.old }
     ensures { Linked t.now e.now w.old w.new }
 {
-    let mut i = term_count(t);
-    while i > 0 {
-        i -= 1;
+    for i in (0..term_count(t)).rev() {
         let root = find(e, TermId(i as u32));
         put_at(w, ROOT, i, root.0 as usize + 1);
-        if get_at(w, W_MARK, i) == CTOR_APP {
+        if get_at(w, W_MARK, i) == Kind::CtorApp as usize {
             link(w, i, root.0 as usize);
         }
     }

@@ -12,6 +12,7 @@ pub mod Merging
 pub mod Joining
 pub mod Undoing
 -- Explanations. Leaves: the answer table; Marks: pairs expanded; Explaining: the steps of an explanation.
+pub mod Filling
 pub mod Leaves
 pub mod Marks
 pub mod Explaining

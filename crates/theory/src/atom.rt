@@ -5,11 +5,11 @@ ghost use Rattle.theory.specs.Atom.{register, is_registered, atom, var_of_atom};
 ghost use Rattle.theory.specs.Memory.Registry.{registry_size, atoms, RegistrySound, Registrable, first_with, first_var_meaning};
 
 use shinri_core::ids::{TermId, Var};
-use shinri_core::limits::MAX_VARS;
+use shinri_core::limits::{MAX_TERMS, MAX_VARS};
 use shinri_core::table::{get_at, put_at};
 
 // The regions of the table (specs/Memory/Registry.antt): how many variables, the variables as registered, for each variable one more
-// than its atom, for each atom one more than its first variable.
+// than its atom, for each atom one more than its first variable. A word of lent memory has no other way to say none than 0.
 const COUNTS: usize = 0;
 
 const VARS: usize = 0;
@@ -20,25 +20,12 @@ const ATOM: usize = 1025;
 
 const FIRST: usize = 2049;
 
-// The first variable of an atom, if it has one.
-#[derive(Clone, Copy)]
-pub enum FirstVar {
-    At(Var),
-    Nothing,
-}
-
 pub fn is_registered(t: &[u32], v: Var) -> bool
     requires { RegistrySound t.now }
     ensures { result ≡ is_registered (atoms t.now) v.0 }
 {
     let i = v.0 as usize;
-    if MAX_VARS <= i {
-        return false;
-    }
-    if get_at(t, ATOM, i) == 0 {
-        return false;
-    }
-    true
+    i < MAX_VARS && get_at(t, ATOM, i) != 0
 }
 
 // The atom of a registered variable.
@@ -50,17 +37,17 @@ pub fn atom(t: &[u32], v: Var) -> TermId
     TermId((get_at(t, ATOM, i) - 1) as u32)
 }
 
-// The variable that an atom was first registered as.
-pub fn var_of_atom(t: &[u32], x: TermId) -> FirstVar
+// The variable that an atom was first registered as, if it was.
+pub fn var_of_atom(t: &[u32], x: TermId) -> Option<Var>
     requires { RegistrySound t.now × (x.0 < max_terms) }
     ensures { first_var_meaning result ≡ var_of_atom (atoms t.now) x.0 }
 {
     let i = x.0 as usize;
     let w = get_at(t, FIRST, i);
     if w == 0 {
-        FirstVar::Nothing
+        None
     } else {
-        FirstVar::At(Var((w - 1) as u32))
+        Some(Var((w - 1) as u32))
     }
 }
 
@@ -71,13 +58,9 @@ pub fn clear(t: &mut [u32])
     requires { registry_size ≤ length t.old }
     ensures { RegistrySound t.new × (atoms t.new ≡ []) }
 {
+    t[ATOM..ATOM + MAX_VARS].fill(0);
+    t[FIRST..FIRST + MAX_TERMS].fill(0);
     put_at(t, COUNTS, VARS, 0);
-    let mut k = 0;
-    while k < MAX_VARS {
-        put_at(t, ATOM, k, 0);
-        put_at(t, FIRST, k, 0);
-        k += 1;
-    }
 }
 
 // ---- registering
@@ -88,10 +71,7 @@ fn first_with(t: &[u32], x: usize, v: usize) -> usize
     ensures { (result ≡ first_with t.now x v) × (result < 4294967296) }
 {
     let w = get_at(t, FIRST, x);
-    if w == 0 {
-        return v + 1;
-    }
-    w
+    if w == 0 { v + 1 } else { w }
 }
 
 // The variable must not be registered yet.

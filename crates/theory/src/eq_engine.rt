@@ -1,15 +1,15 @@
 // The equality engine on a lent table: classes as a union-find without path compression, the proof forest, merges with their
 // levels, and explanations, as in the source. A node is its term.
-ghost use Rattle.std.specs.Prelude.{suc, ◌<◌, ◌≤◌, ◌≡◌, true, ◌&&◌, [], ◌∷◌, eqb, length};
+ghost use Rattle.std.specs.Prelude.{suc, ◌<◌, ◌≤◌, ◌≡◌, true, [], ◌∷◌, length};
 ghost use Rattle.shinri_core.specs.Lists.{zip};
 ghost use Rattle.theory.specs.Types.{Congruence};
-ghost use Rattle.theory.specs.EqEngine.{child, root, find, are_equal, pairs_in_force, common, way, same_pair};
+ghost use Rattle.theory.specs.EqEngine.{child, root, find, are_equal, pairs_in_force, common, way};
 ghost use Rattle.shinri_core.specs.Limits.{max_terms, max_pairs, max_levels};
 ghost use Rattle.shinri_core.specs.Memory.Words.{put};
 ghost use Rattle.theory.specs.Memory.Replay.{IsNode};
-ghost use Rattle.theory.specs.Memory.Table.{engine_size, PARENT, SIZE, FPARENT, merges#, size_word, parent_word, left_word, right_word, pair_at, is_pair, indexed#, label, just_at, merges, just_meaning, level, EngineSound, Engine, TwoNodes, Merges, Congruent, Pops};
-ghost use Rattle.theory.specs.Memory.Steps.{Upward, Turnable, Turns, Spliced, TwoClasses, united, Entry, logged, Joinable, HoldsLabel, NoPairs, PairAsked, FindsPair, FirstOf, PairLinkable, pair_linked, Addable, PairAdded, LastPair, PairsCut, Cuttable, PairsAddable, PairRoom, Copied, Separable, separated, Undoes, newest_above, Drops};
-ghost use Rattle.theory.specs.Memory.Explaining.{NewPair, Way, Label, Pairs, up_to, pairs_from, Explaining, Goes, EqualNodes, EqualPair, PairsEqual, mark_of, few, MarksPair, Explainable, Explains};
+ghost use Rattle.theory.specs.Memory.Table.{engine_size, PARENT, SIZE, FPARENT, merges#, size_word, parent_word, pair_at, is_pair, indexed#, just_at, merges, just_meaning, level, pair_buckets, pair_bucket, EngineSound, Engine, TwoNodes, Merges, Congruent, Pops};
+ghost use Rattle.theory.specs.Memory.Steps.{Upward, Turnable, Turns, Spliced, TwoClasses, united, Entry, logged, Joins, just_of, LabelOf, HoldsLabel, IsLabel, IsPairAt, NoPairs, PairAsked, FindsPair, FirstOf, PairLinkable, pair_linked, Addable, PairAdded, LastPair, PairsCut, Cuttable, PairsAddable, PairRoom, Copied, Separable, separated, Undoes, newest_above, Drops};
+ghost use Rattle.theory.specs.Memory.Explaining.{NewPair, Way, Label, Pairs, up_to, pairs_from, Explaining, Goes, EqualNodes, EqualPair, PairsEqual, mark_of, MarksPair, Explainable, Explains};
 
 use crate::types::{EqJust, EqLeaf, TheoryJust, push_leaf};
 use shinri_core::ids::{Lit, TermId};
@@ -50,8 +50,8 @@ const FROOT: usize = 9280;
 
 const AFTER: usize = 10304;
 
-// For each argument pair: its first node with the number of the first pair of the same nodes; its second node with one more than the newest
-// pair before it in its bucket, or 0.
+// For each argument pair: its first node with the number of the first pair of the same nodes; its second node with one more than the
+// newest pair before it in its bucket, or 0.
 const LEFT: usize = 11328;
 
 const RIGHT: usize = 13376;
@@ -64,7 +64,13 @@ const INDEXED: usize = 16377;
 
 const BUCKETS: usize = 953;
 
-// A label's word holds the level of its merge, its kind and its theory.
+// A label's word holds the level of its merge, its kind (one of three) and its theory.
+const ASSERTED: usize = 0;
+
+const CONGRUENCE: usize = 1;
+
+const INTERFACE: usize = 2;
+
 const KIND_UNIT: usize = 65536;
 
 const LEVEL_UNIT: usize = 262144;
@@ -120,12 +126,8 @@ fn clear_pairs(t: &mut [u32])
     requires { engine_size ≤ length t.old }
     ensures { NoPairs t.new }
 {
+    t[HEAD..HEAD + BUCKETS].fill(0);
     put_at(t, INDEXED, 0, 0);
-    let mut h = 0;
-    while h < BUCKETS {
-        put_at(t, HEAD, h, 0);
-        h += 1;
-    }
 }
 
 // Whatever the table held, no merge is in force now, at level 0.
@@ -136,10 +138,8 @@ pub fn clear(t: &mut [u32])
     clear_pairs(t);
     put_at(t, COUNTS, MERGES, 0);
     put_at(t, COUNTS, LEVEL, 0);
-    let mut n = 0;
-    while n < MAX_TERMS {
+    for n in 0..MAX_TERMS {
         alone(t, n);
-        n += 1;
     }
 }
 
@@ -198,6 +198,8 @@ pub fn pairs_in_force(t: &[u32]) -> usize
 
 // ---- merging
 
+// The two sides of a merge go one by one, as in the source: the tree of the first is turned, that of the second is not.
+
 // One new forest edge joins the two terms: the tree of a is turned to hang from a under b.
 fn splice(t: &mut [u32], a: usize, b: usize, i: usize)
     requires { TwoNodes t.old a b × (i < max_terms) }
@@ -232,64 +234,107 @@ fn union(t: &mut [u32], ra: usize, rb: usize, i: usize)
     }
 }
 
+// ---- labels
+
+// The label of a merge: a literal, argument pairs from one number up to another, or the leaf of another theory.
+#[derive(Clone, Copy)]
+enum EdgeLabel {
+    Asserted(Lit),
+    Congruence { from: usize, to: usize },
+    Interface(TheoryJust),
+}
+
+impl From<EqJust> for EdgeLabel {
+    ghost from_gives = { λ j l. LabelOf j l };
+
+    fn from(j: EqJust) -> EdgeLabel {
+        match j {
+            EqJust::Asserted(p) => EdgeLabel::Asserted(p),
+            EqJust::Interface(k) => EdgeLabel::Interface(k),
+        }
+    }
+}
+
+// The words of a label in the log: the level of its merge, its kind and its theory in one; its literal, its tag or the start of its pairs;
+// and the pairs in force after it.
+#[derive(Clone, Copy)]
+struct LabelWords {
+    code: usize,
+    value: usize,
+    after: usize,
+}
+
+// They are written here, n pairs being in force before, and read back by `label_at`.
+fn label_words(l: EdgeLabel, level: usize, n: usize) -> LabelWords
+    requires { level ≤ max_levels }
+    ensures { HoldsLabel l level n result }
+{
+    let code = LEVEL_UNIT * level;
+    match l {
+        EdgeLabel::Asserted(p) => LabelWords {
+            code: code + KIND_UNIT * ASSERTED,
+            value: p.0 as usize,
+            after: n,
+        },
+        EdgeLabel::Congruence { from, to } => LabelWords {
+            code: code + KIND_UNIT * CONGRUENCE,
+            value: from,
+            after: to,
+        },
+        EdgeLabel::Interface(j) => LabelWords {
+            code: code + KIND_UNIT * INTERFACE + j.theory as usize,
+            value: j.tag as usize,
+            after: n,
+        },
+    }
+}
+
+// The label of merge i.
+fn label_at(t: &[u32], i: usize) -> EdgeLabel
+    requires { (engine_size ≤ length t.now) × (i < max_terms) }
+    ensures { IsLabel t.now i result }
+{
+    let code = get_at(t, LABEL, i);
+    let value = get_at(t, VALUE, i);
+    match code / KIND_UNIT % 4 {
+        ASSERTED => EdgeLabel::Asserted(Lit(value as u32)),
+        CONGRUENCE => EdgeLabel::Congruence {
+            from: value,
+            to: get_at(t, AFTER, i),
+        },
+        _ => EdgeLabel::Interface(TheoryJust {
+            theory: (code % KIND_UNIT) as u16,
+            tag: value as u32,
+        }),
+    }
+}
+
 // The words of a merge in the log, but for its roots.
-fn log(t: &mut [u32], i: usize, a: usize, b: usize, word: usize, value: usize, after: usize)
-    requires { (engine_size ≤ length t.old) × Entry i a b word value after }
-    ensures { t.new ≡ logged t.old i a b word value after }
+fn log(t: &mut [u32], i: usize, a: usize, b: usize, w: LabelWords)
+    requires { (engine_size ≤ length t.old) × Entry i a b w }
+    ensures { t.new ≡ logged t.old i a b w.code w.value w.after }
 {
     put_at(t, SIDE_A, i, a);
     put_at(t, SIDE_B, i, b);
-    put_at(t, LABEL, i, word);
-    put_at(t, VALUE, i, value);
-    put_at(t, AFTER, i, after);
+    put_at(t, LABEL, i, w.code);
+    put_at(t, VALUE, i, w.value);
+    put_at(t, AFTER, i, w.after);
 }
 
 // Joins two classes under a label of the present level.
-fn join(t: &mut [u32], a: usize, b: usize, kind: usize, theory: usize, value: usize, after: usize)
-    requires { Joinable t.old a b kind theory value after }
-    ensures { Engine t.new (record { a = a; b = b; just = label t.old kind theory value after; level = level t.old } ∷ merges t.old) (level t.old) }
+fn join(t: &mut [u32], a: usize, b: usize, l: EdgeLabel)
+    requires { Joins t.old a b l }
+    ensures { Engine t.new (record { a = a; b = b; just = just_of t.old l; level = level t.old } ∷ merges t.old) (level t.old) }
 {
     let i = get_at(t, COUNTS, MERGES);
     let level = get_at(t, COUNTS, LEVEL);
+    let w = label_words(l, level, pairs_in_force(t));
     let ra = root(t, a);
     let rb = root(t, b);
     splice(t, a, b, i);
     union(t, ra, rb, i);
-    log(
-        t,
-        i,
-        a,
-        b,
-        LEVEL_UNIT * level + KIND_UNIT * kind + theory,
-        value,
-        after,
-    );
+    log(t, i, a, b, w);
     put_at(t, COUNTS, MERGES, i + 1);
-}
-
-// A label without pairs, as the log holds it.
-#[derive(Clone, Copy)]
-struct LabelWords {
-    kind: usize,
-    theory: usize,
-    value: usize,
-}
-
-fn label_words(j: EqJust) -> LabelWords
-    ensures { HoldsLabel j result }
-{
-    match j {
-        EqJust::Asserted(l) => LabelWords {
-            kind: 0,
-            theory: 0,
-            value: l.0 as usize,
-        },
-        EqJust::Interface(k) => LabelWords {
-            kind: 2,
-            theory: k.theory as usize,
-            value: k.tag as usize,
-        },
-    }
 }
 
 // Joins the classes of two terms under a label; within one class it does nothing.
@@ -302,106 +347,96 @@ pub fn merge(t: &mut [u32], a: TermId, b: TermId, j: EqJust)
     }
     let x = a.0 as usize;
     let y = b.0 as usize;
-    let n = pairs_in_force(t);
-    let w = label_words(j);
-    let kind = w.kind;
-    let theory = w.theory;
-    let value = w.value;
-    join(t, x, y, kind, theory, value, n);
+    join(t, x, y, EdgeLabel::from(j));
 }
 
 // ---- argument pairs
 
-fn left(t: &[u32], j: usize) -> usize
-    requires { (engine_size ≤ length t.now) × (j < max_pairs) }
-    ensures { (result ≡ left_word t.now j) × IsNode result }
-{
-    get_at(t, LEFT, j) % MAX_TERMS
+// Two nodes, in this order.
+#[derive(Clone, Copy, PartialEq, Eq)]
+struct Pair {
+    left: usize,
+    right: usize,
 }
 
-fn right(t: &[u32], j: usize) -> usize
+// Argument pair j.
+fn pair_at(t: &[u32], j: usize) -> Pair
     requires { (engine_size ≤ length t.now) × (j < max_pairs) }
-    ensures { (result ≡ right_word t.now j) × IsNode result }
+    ensures { IsPairAt t.now j result }
 {
-    get_at(t, RIGHT, j) % MAX_TERMS
-}
-
-// Are x and y a and b, in this order?
-fn both(x: usize, y: usize, a: usize, b: usize) -> bool
-    ensures { result ≡ (eqb x a && eqb y b) }
-{
-    if x == a {
-        return y == b;
+    Pair {
+        left: get_at(t, LEFT, j) % MAX_TERMS,
+        right: get_at(t, RIGHT, j) % MAX_TERMS,
     }
-    false
 }
 
-// In either order?
-fn same_pair(x: usize, y: usize, a: usize, b: usize) -> bool
-    ensures { result ≡ same_pair x y (a, b) }
-{
-    if both(x, y, a, b) {
-        return true;
-    }
-    both(x, y, b, a)
-}
-
-fn is_pair(t: &[u32], j: usize, a: usize, b: usize) -> bool
+// Is argument pair j this pair, in either order?
+fn is_pair(t: &[u32], j: usize, p: Pair) -> bool
     requires { (engine_size ≤ length t.now) × (j < max_pairs) }
-    ensures { result ≡ is_pair t.now j (a, b) }
+    ensures { result ≡ is_pair t.now j (p.left, p.right) }
 {
-    same_pair(left(t, j), right(t, j), a, b)
+    let q = pair_at(t, j);
+    let turned = Pair {
+        left: p.right,
+        right: p.left,
+    };
+    q == p || q == turned
 }
 
-// An indexed pair of two nodes, or the number of indexed pairs if there is none: the pairs of one bucket are asked, the newest first.
-fn find_pair(t: &[u32], x: usize, y: usize) -> usize
-    requires { PairAsked t.now x y }
-    ensures { FindsPair t.now x y result }
+fn pair_bucket(p: Pair) -> usize
+    requires { IsNode p.left × IsNode p.right }
+    ensures { (result ≡ pair_bucket p.left p.right) × (result < pair_buckets) }
 {
-    let h = (x + y) % BUCKETS;
+    (p.left + p.right) % BUCKETS
+}
+
+// An indexed pair of two nodes: the pairs of one bucket are asked, the newest first; k is a word of the index, one more than a pair or 0.
+fn find_pair(t: &[u32], p: Pair) -> Option<usize>
+    requires { PairAsked t.now p.left p.right }
+    ensures { FindsPair t.now p.left p.right result }
+{
+    let h = pair_bucket(p);
     let mut k = get_at(t, HEAD, h);
     while k != 0 {
-        if is_pair(t, k - 1, x, y) {
-            return k - 1;
+        if is_pair(t, k - 1, p) {
+            return Some(k - 1);
         }
         k = get_at(t, RIGHT, k - 1) / MAX_TERMS;
     }
-    get_at(t, INDEXED, 0)
+    None
 }
 
 // The first pair of two nodes, once they are one more pair.
-fn first_of(t: &[u32], x: usize, y: usize) -> usize
-    requires { PairAsked t.now x y }
-    ensures { FirstOf t.now x y result }
+fn first_of(t: &[u32], p: Pair) -> usize
+    requires { PairAsked t.now p.left p.right }
+    ensures { FirstOf t.now p.left p.right result }
 {
-    let n = get_at(t, INDEXED, 0);
-    let k = find_pair(t, x, y);
-    if k == n {
-        return n;
+    match find_pair(t, p) {
+        Some(k) => get_at(t, LEFT, k) / MAX_TERMS,
+        None => get_at(t, INDEXED, 0),
     }
-    get_at(t, LEFT, k) / MAX_TERMS
 }
 
 // One more pair, at the head of its bucket.
-fn link_pair(t: &mut [u32], n: usize, x: usize, y: usize, first: usize)
-    requires { PairLinkable t.old n x y first }
-    ensures { t.new ≡ pair_linked t.old n x y first }
+fn link_pair(t: &mut [u32], n: usize, p: Pair, first: usize)
+    requires { PairLinkable t.old n p.left p.right first }
+    ensures { t.new ≡ pair_linked t.old n p.left p.right first }
 {
-    let h = (x + y) % BUCKETS;
+    let h = pair_bucket(p);
     let older = get_at(t, HEAD, h);
-    put_at(t, LEFT, n, MAX_TERMS * first + x);
-    put_at(t, RIGHT, n, MAX_TERMS * older + y);
+    put_at(t, LEFT, n, MAX_TERMS * first + p.left);
+    put_at(t, RIGHT, n, MAX_TERMS * older + p.right);
     put_at(t, HEAD, h, n + 1);
     put_at(t, INDEXED, 0, n + 1);
 }
 
-fn add_pair(t: &mut [u32], x: usize, y: usize)
-    requires { Addable t.old x y }
-    ensures { PairAdded t.old t.new x y }
+fn add_pair(t: &mut [u32], p: Pair)
+    requires { Addable t.old p.left p.right }
+    ensures { PairAdded t.old t.new p.left p.right }
 {
-    let first = first_of(t, x, y);
+    let first = first_of(t, p);
     let n = get_at(t, INDEXED, 0);
-    link_pair(t, n, x, y, first);
+    link_pair(t, n, p, first);
 }
 
 // The newest pair leaves the index.
@@ -409,7 +444,7 @@ fn drop_pair(t: &mut [u32], j: usize)
     requires { LastPair t.old j }
     ensures { PairsCut t.old t.new j }
 {
-    let h = (left(t, j) + right(t, j)) % BUCKETS;
+    let h = pair_bucket(pair_at(t, j));
     let older = get_at(t, RIGHT, j) / MAX_TERMS;
     put_at(t, HEAD, h, older);
     put_at(t, INDEXED, 0, j);
@@ -420,9 +455,7 @@ fn cut_pairs(t: &mut [u32], n: usize)
     requires { Cuttable t.old n }
     ensures { PairsCut t.old t.new n }
 {
-    let mut j = get_at(t, INDEXED, 0);
-    while j > n {
-        j -= 1;
+    for j in (n..get_at(t, INDEXED, 0)).rev() {
         drop_pair(t, j);
     }
 }
@@ -431,10 +464,12 @@ fn add_pairs(t: &mut [u32], xs: &[u32], ys: &[u32])
     requires { PairsAddable t.old xs.now ys.now }
     ensures { Copied t.old t.new (indexed# t.old) xs.now ys.now }
 {
-    let mut i = 0;
-    while i < xs.len() {
-        add_pair(t, get_at(xs, 0, i), get_at(ys, 0, i));
-        i += 1;
+    for (x, y) in xs.iter().zip(ys) {
+        let p = Pair {
+            left: *x as usize,
+            right: *y as usize,
+        };
+        add_pair(t, p);
     }
 }
 
@@ -457,10 +492,10 @@ pub fn merge_congruence(t: &mut [u32], a: TermId, b: TermId, xs: &[u32], ys: &[u
     }
     let x = a.0 as usize;
     let y = b.0 as usize;
-    let start = pairs_in_force(t);
-    let after = start + xs.len();
-    copy_pairs(t, start, xs, ys);
-    join(t, x, y, 1, 0, start, after);
+    let from = pairs_in_force(t);
+    let to = from + xs.len();
+    copy_pairs(t, from, xs, ys);
+    join(t, x, y, EdgeLabel::Congruence { from, to });
 }
 
 // ---- undoing
@@ -497,10 +532,7 @@ fn newest_above(t: &[u32], level: usize) -> bool
     ensures { result ≡ newest_above level (merges t.now) }
 {
     let n = get_at(t, COUNTS, MERGES);
-    if n == 0 {
-        return false;
-    }
-    level < get_at(t, LABEL, n - 1) / LEVEL_UNIT
+    n != 0 && level < get_at(t, LABEL, n - 1) / LEVEL_UNIT
 }
 
 fn undo_above(t: &mut [u32], to: usize)
@@ -563,21 +595,18 @@ fn forest_nca(t: &[u32], a: usize, b: usize) -> usize
     x
 }
 
-// Marks the argument pairs in force that are the pair of a and b: all of them have one first pair. The index may have pairs behind those in
-// force, and a first pair among them may have no mark.
-fn mark_pairs(t: &[u32], a: usize, b: usize, marks: &mut [u8])
-    requires { EngineSound t.now × IsNode a × IsNode b × (pairs_in_force (merges t.now) ≤ length marks.old) }
-    ensures { MarksPair t.now a b marks.old marks.new }
+// Marks the argument pairs in force that are this pair: all of them have one first pair. The index may have pairs behind those in force,
+// and a first pair among them may have no mark.
+fn mark_pairs(t: &[u32], p: Pair, marks: &mut [u8])
+    requires { EngineSound t.now × IsNode p.left × IsNode p.right × (pairs_in_force (merges t.now) ≤ length marks.old) }
+    ensures { MarksPair t.now p.left p.right marks.old marks.new }
 {
-    let k = find_pair(t, a, b);
-    if k == get_at(t, INDEXED, 0) {
-        return;
+    if let Some(k) = find_pair(t, p) {
+        let first = get_at(t, LEFT, k) / MAX_TERMS;
+        if first < marks.len() {
+            marks[first] = 1;
+        }
     }
-    let first = get_at(t, LEFT, k) / MAX_TERMS;
-    if marks.len() <= first {
-        return;
-    }
-    marks[first] = 1;
 }
 
 // Has argument pair j been expanded? Its first pair has the mark.
@@ -589,7 +618,8 @@ fn is_expanded(t: &[u32], j: usize, marks: &[u8]) -> bool
     marks[first] != 0
 }
 
-// Explains two equal nodes whose pair has not been expanded yet: the first up to the nearest common ancestor, then the second.
+// Explains two equal nodes whose pair has not been expanded yet: the first up to the nearest common ancestor, then the second. Marks and
+// answer go one by one, as in the source: a struct of two lent tables would be lent again, by each of five functions, and say no more.
 #[cycle(expand_edge_expand_pair_expand_pairs_expand_way_explain_rec)]
 fn explain_rec(t: &[u32], a: usize, b: usize, marks: &mut [u8], out: &mut [u32])
     requires { Explaining t.now marks.old out.old × EqualNodes t.now a b }
@@ -599,7 +629,7 @@ fn explain_rec(t: &[u32], a: usize, b: usize, marks: &mut [u8], out: &mut [u32])
     if a == b {
         return;
     }
-    mark_pairs(t, a, b, marks);
+    mark_pairs(t, Pair { left: a, right: b }, marks);
     let n = forest_nca(t, a, b);
     expand_way(t, a, n, marks, out);
     expand_way(t, b, n, marks, out);
@@ -626,21 +656,10 @@ fn expand_edge(t: &[u32], i: usize, marks: &mut [u8], out: &mut [u32])
     ensures { Goes t.now marks.old out.old marks.new out.new
         (Label (just_at t.now i)) }
 {
-    let word = get_at(t, LABEL, i);
-    let value = get_at(t, VALUE, i);
-    let kind = word / KIND_UNIT % 4;
-    if kind == 0 {
-        push_leaf(out, EqLeaf::Asserted(Lit(value as u32)));
-    } else if kind == 1 {
-        expand_pairs(t, value, get_at(t, AFTER, i), marks, out);
-    } else {
-        push_leaf(
-            out,
-            EqLeaf::Interface(TheoryJust {
-                theory: (word % KIND_UNIT) as u16,
-                tag: value as u32,
-            }),
-        );
+    match label_at(t, i) {
+        EdgeLabel::Asserted(p) => push_leaf(out, EqLeaf::Asserted(p)),
+        EdgeLabel::Congruence { from, to } => expand_pairs(t, from, to, marks, out),
+        EdgeLabel::Interface(j) => push_leaf(out, EqLeaf::Interface(j)),
     }
 }
 
@@ -651,10 +670,8 @@ fn expand_pairs(t: &[u32], from: usize, to: usize, marks: &mut [u8], out: &mut [
     ensures { Goes t.now marks.old out.old marks.new out.new
         (Pairs (pairs_from t.now from to)) }
 {
-    let mut k = from;
-    while k < to {
+    for k in from..to {
         expand_pair(t, k, marks, out);
-        k += 1;
     }
 }
 
@@ -666,25 +683,17 @@ fn expand_pair(t: &[u32], j: usize, marks: &mut [u8], out: &mut [u32])
         (Pairs (pair_at t.now j ∷ [])) }
 {
     if !is_expanded(t, j, marks) {
-        explain_rec(t, left(t, j), right(t, j), marks, out);
+        let p = pair_at(t, j);
+        explain_rec(t, p.left, p.right, marks, out);
     }
 }
 
-// Explains where few pairs are in force.
-fn explain_few(t: &[u32], a: usize, b: usize, out: &mut [u32])
-    requires { Explainable t.now a b out.old × (pairs_in_force (merges t.now) ≤ few) }
+// Explains with N marks, where no more pairs are in force.
+fn explain_with<const N: usize>(t: &[u32], a: usize, b: usize, out: &mut [u32])
+    requires { Explainable t.now a b out.old × (pairs_in_force (merges t.now) ≤ N) × (N ≤ max_pairs) }
     ensures { Explains t.now a b out.old out.new }
 {
-    let mut marks = [0u8; FEW];
-    explain_rec(t, a, b, &mut marks, out);
-}
-
-// Explains with as many marks as pairs can be in force.
-fn explain_many(t: &[u32], a: usize, b: usize, out: &mut [u32])
-    requires { Explainable t.now a b out.old }
-    ensures { Explains t.now a b out.old out.new }
-{
-    let mut marks = [0u8; MAX_PAIRS];
+    let mut marks = [0u8; N];
     explain_rec(t, a, b, &mut marks, out);
 }
 
@@ -696,8 +705,8 @@ pub fn explain(t: &[u32], a: TermId, b: TermId, out: &mut [u32])
     let x = a.0 as usize;
     let y = b.0 as usize;
     if pairs_in_force(t) <= FEW {
-        explain_few(t, x, y, out);
+        explain_with::<FEW>(t, x, y, out);
     } else {
-        explain_many(t, x, y, out);
+        explain_with::<MAX_PAIRS>(t, x, y, out);
     }
 }

@@ -1,28 +1,30 @@
 // What an equality rests on (types.rs), and the answer table (specs/Memory/Answer.antt): leaves in order, each once.
 ghost use Rattle.std.specs.Prelude.{◌≡◌, ◌<◌, ◌≤◌, length, get_or};
-ghost use Rattle.shinri_core.specs.Limits.{max_terms, max_theories};
-ghost use Rattle.theory.specs.Types.{AssertedLeaf, same_leaf};
-ghost use Rattle.theory.specs.Memory.Answer.{answer_size, buckets, bucket, leaf_of, leaf_at, leaves, leaf_meaning, has_leaf, LeavesSound, HasRoom, Linkable, linked, Pushable, Pushed, NoLeaves, Cleared};
+ghost use Rattle.shinri_core.specs.Limits.{max_terms};
+ghost use Rattle.shinri_core.specs.Memory.Words.{at};
+ghost use Rattle.theory.specs.Types.{AssertedLeaf};
+ghost use Rattle.theory.specs.Memory.Answer.{LEAF_KIND, LEAF_VALUE, answer_size, buckets, bucket, leaf_of, leaves, leaf_meaning, has_leaf, LeavesSound, HasRoom, LeafFits, HoldsLeaf, Linkable, linked, Pushed, Cleared};
 
 use shinri_core::ids::Lit;
 use shinri_core::table::{get_at, put_at};
 
 // The leaf of another theory: which one, and a tag of its own.
-#[derive(Clone, Copy)]
+#[derive(Clone, Copy, PartialEq, Eq)]
 pub struct TheoryJust {
     pub theory: u16,
     pub tag: u32,
 }
 
-// The label of an edge that is no congruence: a literal, or the leaf of another theory.
-#[derive(Clone, Copy)]
+// The label of an edge that is no congruence: a literal, or the leaf of another theory. It and EqLeaf are two types, as in the source,
+// whose labels have kinds that no leaf has.
+#[derive(Clone, Copy, PartialEq, Eq)]
 pub enum EqJust {
     Asserted(Lit),
     Interface(TheoryJust),
 }
 
 // A leaf of an explanation: an input literal, or what another theory has still to explain.
-#[derive(Clone, Copy)]
+#[derive(Clone, Copy, PartialEq, Eq)]
 pub enum EqLeaf {
     Asserted(Lit),
     Interface(TheoryJust),
@@ -46,23 +48,12 @@ const LINK: usize = 2300;
 
 const BUCKETS: usize = 251;
 
-fn clear_buckets(out: &mut [u32])
-    requires { answer_size ≤ length out.old }
-    ensures { NoLeaves out.new }
-{
-    let mut h = 0;
-    while h < BUCKETS {
-        put_at(out, BUCKET, h, 0);
-        h += 1;
-    }
-}
-
 // No leaf yet.
 pub fn clear_leaves(out: &mut [u32])
     requires { answer_size ≤ length out.old }
     ensures { Cleared out.new }
 {
-    clear_buckets(out);
+    out[BUCKET..BUCKET + BUCKETS].fill(0);
     put_at(out, COUNTS, LEAVES, 0);
 }
 
@@ -91,33 +82,54 @@ pub fn leaf(out: &[u32], i: usize) -> EqLeaf
 
 // ---- appending
 
-// Is it the leaf at i? The kind is 0 for a literal, one more than the theory for an interface leaf.
-fn leaf_is(out: &[u32], i: usize, kind: usize, value: usize) -> bool
-    requires { (answer_size ≤ length out.now) × (i < max_terms) }
-    ensures { result ≡ same_leaf (leaf_of kind value) (leaf_at out.now i) }
+// The words of a leaf. The kind is 0 for a literal, one more than the theory for an interface leaf.
+#[derive(Clone, Copy, PartialEq, Eq)]
+struct LeafWords {
+    kind: usize,
+    value: usize,
+}
+
+fn leaf_words(l: EqLeaf) -> LeafWords
+    ensures { HoldsLeaf l result }
 {
-    if get_at(out, LEAF_KIND, i) == kind {
-        return value == get_at(out, LEAF_VALUE, i);
+    match l {
+        EqLeaf::Asserted(p) => LeafWords {
+            kind: 0,
+            value: p.0 as usize,
+        },
+        EqLeaf::Interface(j) => LeafWords {
+            kind: 1 + j.theory as usize,
+            value: j.tag as usize,
+        },
     }
-    false
 }
 
-fn bucket(kind: usize, value: usize) -> usize
-    requires { (kind ≤ max_theories) × (value < 4294967296) }
-    ensures { (result ≡ bucket kind value) × (result < buckets) }
+fn words_at(out: &[u32], i: usize) -> LeafWords
+    requires { (answer_size ≤ length out.now) × (i < max_terms) }
+    ensures { (result.kind ≡ at out.now LEAF_KIND i) × (result.value ≡ at out.now LEAF_VALUE i) }
 {
-    (kind + value) % BUCKETS
+    LeafWords {
+        kind: get_at(out, LEAF_KIND, i),
+        value: get_at(out, LEAF_VALUE, i),
+    }
 }
 
-// Does the leaf stand there? The leaves of one bucket are asked, the newest first.
-fn has_leaf(out: &[u32], kind: usize, value: usize) -> bool
-    requires { LeavesSound out.now × (kind ≤ max_theories) × (value < 4294967296) }
-    ensures { result ≡ has_leaf (leaf_of kind value) (leaves out.now) }
+fn bucket(w: LeafWords) -> usize
+    requires { LeafFits w }
+    ensures { (result ≡ bucket w.kind w.value) × (result < buckets) }
 {
-    let h = bucket(kind, value);
+    (w.kind + w.value) % BUCKETS
+}
+
+// Does the leaf stand there? The leaves of one bucket are asked, the newest first; k is a word of the index, one more than a leaf or 0.
+fn has_leaf(out: &[u32], w: LeafWords) -> bool
+    requires { LeavesSound out.now × LeafFits w }
+    ensures { result ≡ has_leaf (leaf_of w.kind w.value) (leaves out.now) }
+{
+    let h = bucket(w);
     let mut k = get_at(out, BUCKET, h);
     while k != 0 {
-        if leaf_is(out, k - 1, kind, value) {
+        if w == words_at(out, k - 1) {
             return true;
         }
         k = get_at(out, LINK, k - 1);
@@ -126,28 +138,14 @@ fn has_leaf(out: &[u32], kind: usize, value: usize) -> bool
 }
 
 // Leaf n goes to the head of its bucket.
-fn link_leaf(out: &mut [u32], n: usize, kind: usize, value: usize)
-    requires { Linkable out.old n kind value }
-    ensures { out.new ≡ linked out.old n (bucket kind value) }
+fn link_leaf(out: &mut [u32], n: usize, w: LeafWords)
+    requires { Linkable out.old n w }
+    ensures { out.new ≡ linked out.old n (bucket w.kind w.value) }
 {
-    let h = bucket(kind, value);
+    let h = bucket(w);
     let older = get_at(out, BUCKET, h);
     put_at(out, LINK, n, older);
     put_at(out, BUCKET, h, n + 1);
-}
-
-fn push_words(out: &mut [u32], kind: usize, value: usize)
-    requires { Pushable out.old kind value }
-    ensures { Pushed out.old out.new (leaf_of kind value) }
-{
-    if has_leaf(out, kind, value) {
-        return;
-    }
-    let n = get_at(out, COUNTS, LEAVES);
-    link_leaf(out, n, kind, value);
-    put_at(out, LEAF_KIND, n, kind);
-    put_at(out, LEAF_VALUE, n, value);
-    put_at(out, COUNTS, LEAVES, n + 1);
 }
 
 // Appends a leaf unless it stands there already.
@@ -155,8 +153,13 @@ pub fn push_leaf(out: &mut [u32], l: EqLeaf)
     requires { LeavesSound out.old × HasRoom out.old (leaf_meaning l) }
     ensures { Pushed out.old out.new (leaf_meaning l) }
 {
-    match l {
-        EqLeaf::Asserted(p) => push_words(out, 0, p.0 as usize),
-        EqLeaf::Interface(j) => push_words(out, 1 + j.theory as usize, j.tag as usize),
+    let w = leaf_words(l);
+    if has_leaf(out, w) {
+        return;
     }
+    let n = get_at(out, COUNTS, LEAVES);
+    link_leaf(out, n, w);
+    put_at(out, LEAF_KIND, n, w.kind);
+    put_at(out, LEAF_VALUE, n, w.value);
+    put_at(out, COUNTS, LEAVES, n + 1);
 }

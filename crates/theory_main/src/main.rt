@@ -11,26 +11,15 @@ ghost use Rattle.theory.specs.Memory.Registry.{RegistrySound};
 ghost use Rattle.theory.specs.Memory.Replay.{IsNode};
 ghost use Rattle.theory.specs.Memory.Table.{merges, EngineSound, TwoNodes};
 
+use generator::{draw, mix};
 use shinri_core::{ids as id, limits as max};
 use theory::{atom as at, eq_engine as eq, types as ty};
-
-// The k-th number up to n that a seed gives.
-fn draw(seed: u32, k: u32, n: u32) -> u32 {
-    let x = (seed as u64 * 48271 + k as u64 * 16807) % 2147483647;
-    let y = (x ^ (x >> 12)) % 2147483648 * 69621 % 2147483647;
-    y as u32 % (n % 65536 + 1)
-}
 
 // A node from n down by at most d.
 fn node(seed: u32, k: u32, n: u32, d: u32) -> u32
     ensures { IsNode result }
 {
     (n % 1024 + 1024 - draw(seed, k, d) % 1024) % 1024
-}
-
-// The checksum with one more answer.
-fn mix(sum: u32, answer: u32) -> u32 {
-    ((sum as u64 * 48271 + answer as u64) % 4294967291) as u32
 }
 
 // Merges a and b by a literal, or by an interface leaf with numbers from both ends of what fits.
@@ -56,9 +45,7 @@ fn twin(t: &[u32], x: u32, y: u32) -> u32
     requires { TwoNodes t.now x y }
     ensures { EqualNodes t.now x result }
 {
-    let mut z = y + 1;
-    while 0 < z {
-        z -= 1;
+    for z in (0..y + 1).rev() {
         if eq::are_equal(t, id::TermId(x), id::TermId(z)) {
             return z;
         }
@@ -140,10 +127,8 @@ fn mix_leaves(out: &[u32]) -> u32
 {
     let n = ty::leaf_count(out);
     let mut sum = n as u32;
-    let mut i = 0;
-    while i < n {
+    for i in 0..n {
         sum = mix_leaf(sum, ty::leaf(out, i));
-        i += 1;
     }
     sum
 }
@@ -176,8 +161,8 @@ fn enroll(t: &mut [u32], i: u32) -> u32
         return 9999;
     }
     match at::var_of_atom(t, x) {
-        at::FirstVar::At(w) => w.0,
-        at::FirstVar::Nothing => 9999,
+        Some(w) => w.0,
+        None => 9999,
     }
 }
 
@@ -210,12 +195,8 @@ fn link(t: &mut [u32], i: u32, kinds: u32, d: u32) -> u32
     merge(t, i, kinds, n + 1, n, n, d)
 }
 
-// A write that fails is let go: the lines are all that the program says.
-fn print<R: Print>(rt: &R, n: usize) {
-    let _ = print!(rt; "{n} ");
-}
-
-// After 1023 steps three nodes are explained. Two runs begin with no merge in force, the next two with what is left.
+// After 1023 steps three nodes are explained. Two runs begin with no merge in force, the next two with what is left. A write that fails is
+// let go: the lines are all that the program says.
 fn turn<R: Print>(rt: &R, t: &mut [u32], i: u32, sum: u32, out: &mut [u32]) -> u32
     requires { EngineSound t.old × (answer_size ≤ length out.old) }
     ensures { EngineSound t.new }
@@ -223,10 +204,10 @@ fn turn<R: Print>(rt: &R, t: &mut [u32], i: u32, sum: u32, out: &mut [u32]) -> u
     if i % 1023 != 0 {
         return mix(sum, eq::pairs_in_force(t) as u32);
     }
-    print(rt, eq::level(t));
-    print(rt, eq::pairs_in_force(t));
+    let level = eq::level(t);
+    let pairs = eq::pairs_in_force(t);
     let s = mix(sum, why(t, 0, 1023, 512, out));
-    let _ = println!(rt; "{s}");
+    let _ = println!(rt; "{level} {pairs} {s}");
     if i / 1023 % 4 < 2 {
         eq::clear(t);
     }
@@ -255,10 +236,8 @@ fn main(rt: HostRuntime) {
     eq::clear(&mut t);
     at::clear(&mut atoms);
     let mut sum = 0;
-    let mut i = 0;
-    while i <= 24552 {
+    for i in 0..24553 {
         sum = mix(sum, enroll(&mut atoms, i));
         sum = step(&rt, &mut t, i, sum, &mut out);
-        i += 1;
     }
 }

@@ -1,47 +1,30 @@
--- A session kept open: words copied, the parts of the fourth table, tables that are long enough, a closed and an opened session, what is
--- kept, the room for a call, a line tried, and what a call promises.
-use Rattle.shinri_core.proofs.Kit.{ℕ, ◌+◌, ◌-◌, ◌≤◌, ◌<◌, ◌≡◌, refl, sym, ap, subst, subst⁻¹, ◌∙◌, ◌⊎◌, inl, inr, Bool, true, false, false≢true, ◌&&◌, eqb, leb, List, ◌++◌, below_more, arith, le-leb, lt-leb, eq-eqb, ne_eqb, length, get_or, take, drop, set, length-set, ext_get_or, get_or-set_same, get_or-set_other, length-map, length-take-le, length-drop, get_or-take, take-take, not}
-use lib.ListN.{get_or-map, take-append-drop}
-use lib.Seq.{take_at, drop_at, drop-drop, take-add, length_front}
-use mir.Val.{bool_byte}
+-- A session kept open whose room for a call is lent: the parts of the fourth table, tables that are long enough for session's calls too, the
+-- room for a call, a line tried, and what a call promises.
+use Rattle.std.specs.Prelude.{Option, None, Some, is_some, Result, Ok, Err}
+use Rattle.std.specs.Option.{ok_or}
+use Rattle.std.proofs.lemmas.Option.{none-some}
+use Rattle.shinri_core.proofs.Kit.{ℕ, ◌+◌, ◌-◌, ◌≤◌, ◌<◌, ◌≡◌, refl, sym, ap, subst⁻¹, ◌∙◌, ◌⊎◌, inl, inr, Bool, true, false, false≢true, ◌&&◌, eqb, leb, List, ◌++◌, arith, le-leb, lt-leb, length, get_or, take, drop, length-take-le, length-drop, get_or-take, take-take, not}
+use lib.ListN.{take-append-drop}
+use lib.Seq.{take_at, drop_at, drop-drop, take-add}
 use borrow.Rule.Slice.PartMut.{put_mid, mid_len, take_put, drop_put, same_len_mid}
 use borrow.Author.Tests.{leb-true}
 use Rattle.shinri_core.proofs.Lists.{and_no}
 use Rattle.shinri_core.specs.Limits.{table_words, max_levels}
-use Rattle.session.specs.Session as Session
 use Rattle.session.specs.Session.{Performed, step}
-use Rattle.session.specs.Run.{answer_line, zeros}
-use Rattle.kept.specs.Kept.{Reply, Done, ShortTable, Full, NotOpen, Replied, unanswered, answer_held, answer_in, reply_number, reply_meaning, Opens, OpensBy, Answered, Closes}
-use Rattle.session.specs.Memory.Answers.{line_text, longest_answer}
+use Rattle.session.specs.Run.{answer_line}
+use Rattle.session.specs.Kept as Own
+use Rattle.session.specs.Kept.{Reply, Done, ShortTable, Full, Replied, unanswered, reply_number, error_meaning, reply_meaning, bytes_written}
+use Rattle.session.specs.Memory.Answers.{LineAnswer, line_text, longest_answer}
 use Rattle.session.specs.Memory.Sessions.{Beside, beside, session, Steps}
-use Rattle.session.specs.Memory.Running.{TablesLong, EmptyTables, Puts, Answerable, AnsweredBy, Zeroed}
-use Rattle.kept.specs.Memory.Kept.{Tables, tables, SameLengths, SameBehind, SameSession, MARK, CLOSED, COUNTS, ANSWER, CORE, THEORY, SOLVER, kept_words, open_mark, is_open, close_accepted, mark_counts, Closed, Open, suffice, part, beside_in, session_in, held, KeptSound, Exact, SameKept, AnswerRoom, Saved, Saves, Triable, Tried, Holding, Keeps, TriedOpen, AnswersOpen}
-use Rattle.session.specs.declared.answer.Answer as GivenAnswer
-use Rattle.session.specs.declared.run.Placed as Placed
-use Rattle.kept.specs.declared.kept.Reply as Given
-use Rattle.session.proofs.Memory.Running.{empty_is, empty_answerable, answered_by, written_front, puts_as}
-
--- ---- words copied
-
--- the words below i are those of the other table, which is as long
-pub record CopyingWhole (from to : List ℕ) (i : ℕ) : Type 0 where
-  pub long : length from ≡ length to
-  pub done : (j : ℕ) → j < i → get_or to j 0 ≡ get_or from j 0
-
-pub whole_first : {from to : List ℕ} → length from ≡ length to → CopyingWhole from to 0
-whole_first e = record { long = e; done = λ j h. absurd (omega arith) }
-
-pub whole_next : {from to : List ℕ} {i : ℕ} → CopyingWhole from to i → i < length to → CopyingWhole from (set to i (get_or from i 0)) (i + 1)
-whole_next {from} {to} {i} z h = record {
-  long = z.long ∙ sym (length-set to i (get_or from i 0));
-  done =
-      below_more (λ (j : ℕ). get_or (set to i (get_or from i 0)) j 0 ≡ get_or from j 0) i
-      (λ j l. get_or-set_other to i j (get_or from i 0) 0 (omega arith) ∙ z.done j l)
-      (get_or-set_same to i (get_or from i 0) 0 h);
-}
-
-pub whole_done : {from to : List ℕ} {i : ℕ} → CopyingWhole from to i → length to ≤ i → to ≡ from
-whole_done {from} {to} z h = ext_get_or 0 to from (sym z.long) (λ j l. z.done j (omega arith))
+use Rattle.session.specs.Memory.Running.{Puts, AnsweredBy}
+use Rattle.session.specs.Memory.Kept as OwnTables
+use Rattle.session.specs.Memory.Kept.{Tables, tables, SameLengths, SameBehind, MARK, CLOSED, COUNTS, is_open, close_accepted, mark_counts, session_in, held, Exact, Tried, Keeps}
+use Rattle.session.specs.declared.kept.LineError as Given
+use Rattle.session.proofs.Memory.Running.{answered_by, puts_as}
+use Rattle.session.proofs.Memory.Keeping as OwnKeeping
+use Rattle.session.proofs.Memory.Keeping.{suffices, all_same, same_behind, is_full, call_closed, call_full, done_call}
+use Rattle.kept.specs.Kept.{answer_in, Opens, OpensBy, Answered, AnswersHeld, Replies}
+use Rattle.kept.specs.Memory.Kept.{SameSession, ANSWER, CORE, THEORY, SOLVER, kept_words, suffice, KeptSound, SameKept, AnswerRoom, Saved, Saves, Triable, Holding, TriedOpen, AnswersOpen}
 
 -- ---- parts of the fourth table
 
@@ -72,235 +55,77 @@ front_word k k' n i e h = sym (get_or-take n k' i 0 h) ∙ ap (λ (u : List ℕ)
 
 -- what is kept between calls
 module _ (k k' : List ℕ) (e : SameKept k k') where
-  same_mark : is_open k' ≡ is_open k
+  pub same_mark : is_open k' ≡ is_open k
   unfolding is_open
   same_mark = rw (front_word k k' ANSWER MARK e (omega arith))
 
-  same_closed : close_accepted k' ≡ close_accepted k
+  pub same_closed : close_accepted k' ≡ close_accepted k
   unfolding close_accepted
   same_closed = rw (front_word k k' ANSWER CLOSED e (omega arith))
 
-  same_counts : kept_words ≤ length k → length k' ≡ length k → mark_counts k' ≡ mark_counts k
+  pub same_counts : kept_words ≤ length k → length k' ≡ length k → mark_counts k' ≡ mark_counts k
   unfolding mark_counts
   same_counts l q =
       part_of_front COUNTS max_levels k' (omega arith) ∙ ap (drop COUNTS) e ∙ sym (part_of_front COUNTS max_levels k (omega arith))
 
 -- ---- tables that are long enough
 
-pub suffice_short : (c e s k : List ℕ) → (length c < table_words) ⊎ ((length e < table_words) ⊎ (length s < table_words)) →
-    false ≡ suffice (tables c e s k)
+both : (a b : Bool) → a && b ≡ true → (a ≡ true) × (b ≡ true)
+both true b e = (refl, e)
+both false b e = absurd (false≢true e)
+
+pub kept_long : (t : Tables) → suffice t ≡ true → kept_words ≤ length t.kept
 unfolding suffice
-suffice_short c e s k (inl h) = rw (lt-leb table_words (length c) h)
-suffice_short c e s k (inr (inl h)) = rw (lt-leb table_words (length e) h, and_no (leb table_words (length c)))
-suffice_short c e s k (inr (inr h)) =
-    rw (lt-leb table_words (length s) h, and_no (leb table_words (length c) && leb table_words (length e)))
+kept_long t e = leb-true kept_words (length t.kept) (both (leb kept_words (length t.kept)) (OwnTables.suffice t) e).0
 
-pub suffice_long : (c e s k : List ℕ) → TablesLong c e s → leb kept_words (length k) ≡ suffice (tables c e s k)
+-- they are for session's calls too
+pub own_suffice : (t : Tables) → suffice t ≡ true → OwnTables.suffice t ≡ true
 unfolding suffice
-suffice_long c e s k l =
-    rw (le-leb table_words (length c) l.core, le-leb table_words (length e) l.theory, le-leb table_words (length s) l.solver)
+own_suffice t e = (both (leb kept_words (length t.kept)) (OwnTables.suffice t) e).1
 
-pub record Suffices (t : Tables) : Type 0 where
-  pub core : table_words ≤ length t.core
-  pub theory : table_words ≤ length t.theory
-  pub solver : table_words ≤ length t.solver
-  pub kept : kept_words ≤ length t.kept
-
--- all of four tests
-all_four : (a b c d : Bool) → a && b && c && d ≡ true → (a ≡ true) × (b ≡ true) × (c ≡ true) × (d ≡ true)
-all_four true true true true e = (refl, refl, refl, refl)
-all_four true true true false e = absurd (false≢true e)
-all_four true true false d e = absurd (false≢true e)
-all_four true false c d e = absurd (false≢true e)
-all_four false b c d e = absurd (false≢true e)
-
-pub suffices : {t : Tables} → suffice t ≡ true → Suffices t
+pub as_own : (t : Tables) → kept_words ≤ length t.kept → suffice t ≡ OwnTables.suffice t
 unfolding suffice
-suffices {t} e =
-    let a = leb table_words (length t.core) in
-    let b = leb table_words (length t.theory) in
-    let c = leb table_words (length t.solver) in
-    let all = all_four a b c (leb kept_words (length t.kept)) e in
-    record {
-      core = leb-true table_words (length t.core) all.0;
-      theory = leb-true table_words (length t.theory) all.1;
-      solver = leb-true table_words (length t.solver) all.2;
-      kept = leb-true kept_words (length t.kept) all.3;
-    }
+as_own t l = rw (le-leb kept_words (length t.kept) l)
 
--- ---- closed
+pub all_long : (t : Tables) → kept_words ≤ length t.kept → OwnTables.suffice t ≡ true → suffice t ≡ true
+all_long t l h = as_own t l ∙ h
 
-zero_word : (k : List ℕ) (i : ℕ) → get_or (zeros k) i 0 ≡ 0
-unfolding zeros
-zero_word k i = get_or-map (λ (w : ℕ). 0) k i 0
+pub short_kept : (t : Tables) → length t.kept < kept_words → suffice t ≡ false
+unfolding suffice
+short_kept t l = rw (lt-leb kept_words (length t.kept) l)
 
-zeros_closed : (k : List ℕ) → is_open (zeros k) ≡ false
-unfolding is_open
-zeros_closed k = rw (zero_word k MARK)
+pub short_own : (t : Tables) → OwnTables.suffice t ≡ false → suffice t ≡ false
+unfolding suffice
+short_own t e = rw (e, and_no (leb kept_words (length t.kept)))
 
-closed_held : (t : Tables) → is_open t.kept ≡ false → held t ≡ Closed
-unfolding held
-closed_held t e = rw e
-
-pub closes : {c e s k c' e' s' k' : List ℕ} → Zeroed c e s c' e' s' → k' ≡ zeros k → Closes (tables c e s k) (tables c' e' s' k')
-closes {k = k} {c'} {e'} {s'} {k'} z q =
-    let closed : is_open k' ≡ false = ap is_open q ∙ zeros_closed k in
-    record {
-      core = z.core;
-      theory = z.theory;
-      solver = z.solver;
-      kept = q;
-      closed = closed_held (tables c' e' s' k') closed;
-      sound = λ l o. absurd (false≢true (sym closed ∙ o));
-    }
-
--- ---- the parts of tables that a session uses
-
-pub part_long : (t : List ℕ) → table_words ≤ length t → table_words ≡ length (take table_words t)
-part_long t l = sym (length-take-le table_words t l)
-
-pub part_least : (t : List ℕ) → table_words ≤ length t → table_words ≤ length (take table_words t)
-part_least t l = let e = part_long t l in omega arith
-
--- a part that came back as y
-part_front : {y : List ℕ} (t : List ℕ) → table_words ≤ length t → length y ≡ length (take table_words t) →
-    part (y ++ drop table_words t) ≡ y
-part_front {y} t l q = take_at y (drop table_words t) table_words (q ∙ length-take-le table_words t l)
-
-module _ (t : Tables) {c e s : List ℕ} {b : Bool} (p : part t.core ≡ c) (q : part t.theory ≡ e) (r : part t.solver ≡ s)
-    (f : close_accepted t.kept ≡ b) where
-  session_parts : session_in t ≡ session c e s (beside e (mark_counts t.kept) b)
-  unfolding session_in
-  session_parts = rw (p, q, r, f)
-
-  answerable_parts : Answerable c e s (beside e (mark_counts t.kept) b) →
-      Answerable (part t.core) (part t.theory) (part t.solver) (beside_in t)
-  answerable_parts a = rw (p, q, r, f) a
-
-held_open : (t : Tables) {x : Session.Session} → is_open t.kept ≡ true → session_in t ≡ x → held t ≡ Open x
-unfolding held
-held_open t o e = rw (o, e)
+sound_here : (t : Tables) → OwnTables.KeptSound t → KeptSound t
+sound_here t z = λ h o. z (own_suffice t h) o
 
 -- ---- an opened session
 
-zeros_length : (k : List ℕ) → length (zeros k) ≡ length k
-unfolding zeros
-zeros_length k = length-map k (λ (w : ℕ). 0)
-
-marked : (k : List ℕ) → kept_words ≤ length k → is_open (set (zeros k) MARK open_mark) ≡ true
-unfolding is_open
-marked k l = let same = zeros_length k in rw (get_or-set_same (zeros k) MARK open_mark 0 (omega arith))
-
-unclosed : (k : List ℕ) → close_accepted (set (zeros k) MARK open_mark) ≡ false
-unfolding close_accepted
-unclosed k = rw (get_or-set_other (zeros k) MARK CLOSED open_mark 0 (omega arith), zero_word k CLOSED)
-
-pub all_same : (t : Tables) → SameLengths t t
-all_same t = record { core = refl; theory = refl; solver = refl; kept = refl }
-
-same_behind : (t : Tables) → SameBehind t t
-same_behind t = record { core = refl; theory = refl; solver = refl }
-
-pub refused : (t : Tables) → false ≡ suffice t → Opens t false t
-refused t h = record {
-  told = h;
-  opened = λ q. absurd (false≢true q);
-  untouched = λ q. refl;
-  sound = λ l. absurd (false≢true (h ∙ l));
-  lengths = all_same t;
-  behind = same_behind t;
-}
-
--- the work tables' parts came back as these
-module _ (t : Tables) (c₁ e₁ s₁ : List ℕ) (h : suffice t ≡ true) (lc : length c₁ ≡ length (take table_words t.core))
-    (le : length e₁ ≡ length (take table_words t.theory)) (ls : length s₁ ≡ length (take table_words t.solver)) where
-  abbrev back : List ℕ → Tables
-  back k =
-      tables (c₁ ++ drop table_words t.core) (e₁ ++ drop table_words t.theory) (s₁ ++ drop table_words t.solver) k
-
-  core_part : part (c₁ ++ drop table_words t.core) ≡ c₁
-  core_part = part_front t.core (suffices h).core lc
-
-  theory_part : part (e₁ ++ drop table_words t.theory) ≡ e₁
-  theory_part = part_front t.theory (suffices h).theory le
-
-  solver_part : part (s₁ ++ drop table_words t.solver) ≡ s₁
-  solver_part = part_front t.solver (suffices h).solver ls
-
-  back_lengths : (k : List ℕ) → length k ≡ length t.kept → SameLengths t (back k)
-  back_lengths k l = record {
-    core = length_front t.core c₁ table_words lc;
-    theory = length_front t.theory e₁ table_words le;
-    solver = length_front t.solver s₁ table_words ls;
-    kept = l;
-  }
-
-  back_behind : (k : List ℕ) → SameBehind t (back k)
-  back_behind k = record {
-    core = drop_at c₁ (drop table_words t.core) table_words (lc ∙ length-take-le table_words t.core (suffices h).core);
-    theory = drop_at e₁ (drop table_words t.theory) table_words (le ∙ length-take-le table_words t.theory (suffices h).theory);
-    solver = drop_at s₁ (drop table_words t.solver) table_words (ls ∙ length-take-le table_words t.solver (suffices h).solver);
-  }
-
-  back_held : (k : List ℕ) {b : Bool} {x : Session.Session} → is_open k ≡ true → close_accepted k ≡ b →
-      session c₁ e₁ s₁ (beside e₁ (mark_counts k) b) ≡ x → held (back k) ≡ Open x
-  back_held k o f e = held_open (back k) o (session_parts (back k) core_part theory_part solver_part f ∙ e)
-
-  back_sound : (k : List ℕ) {b : Bool} → close_accepted k ≡ b → Answerable c₁ e₁ s₁ (beside e₁ (mark_counts k) b) → KeptSound (back k)
-  back_sound k f a = λ l o. answerable_parts (back k) core_part theory_part solver_part f a
-
--- an empty session
-pub opens : (t : Tables) {c₁ e₁ s₁ k₁ : List ℕ} → suffice t ≡ true → EmptyTables c₁ e₁ s₁ → k₁ ≡ zeros t.kept →
-    length c₁ ≡ length (take table_words t.core) → length e₁ ≡ length (take table_words t.theory) →
-    length s₁ ≡ length (take table_words t.solver) →
-    Opens t true (tables (c₁ ++ drop table_words t.core) (e₁ ++ drop table_words t.theory) (s₁ ++ drop table_words t.solver)
-    (set k₁ MARK open_mark))
-opens t {c₁} {e₁} {s₁} h z q lc le ls =
-    let k = set (zeros t.kept) MARK open_mark in
-    let no_close = unclosed t.kept in
-    rw q record {
-      told = sym h;
-      opened = λ _. back_held t c₁ e₁ s₁ h lc le ls k (marked t.kept (suffices h).kept) no_close (sym (empty_is (mark_counts k) z));
-      untouched = λ f. absurd (false≢true (sym f));
-      sound = back_sound t c₁ e₁ s₁ h lc le ls k no_close (empty_answerable (mark_counts k) z);
-      lengths = back_lengths t c₁ e₁ s₁ h lc le ls k (length-set (zeros t.kept) MARK open_mark ∙ zeros_length t.kept);
-      behind = back_behind t c₁ e₁ s₁ h lc le ls k;
-    }
-
--- by numbers
-module _ {t t' : Tables} {r : Bool} (o : Opens t r t') where
-  pub opened_by : r ≡ true → OpensBy t 0 t'
-  unfolding reply_number
-  opened_by e = record { opened = r; opens = o; number = rw e }
-
-  pub refused_by : r ≡ false → OpensBy t 1 t'
-  unfolding reply_number
-  refused_by e = record { opened = r; opens = o; number = rw e }
-
--- ---- what a session keeps beside the work tables
-
-flag_bool : (b : Bool) → not (eqb (bool_byte b) 0) ≡ b
-flag_bool true = refl
-flag_bool false = refl
-
-pub keeps : (k : List ℕ) (b : Bool) {n x : List ℕ} → kept_words ≤ length k → x ≡ n →
-    length x ≡ length (take max_levels (drop COUNTS (set k CLOSED (bool_byte b)))) →
-    Keeps k n b (put_mid COUNTS max_levels (set k CLOSED (bool_byte b)) x)
-unfolding close_accepted is_open mark_counts
-keeps k b {n} {x} l q e =
-    let k₁ = set k CLOSED (bool_byte b) in
-    let k₂ = put_mid COUNTS max_levels k₁ x in
-    let same = length-set k CLOSED (bool_byte b) in
-    let front : take COUNTS k₂ ≡ take COUNTS k₁ = take_put COUNTS max_levels k₁ x (omega arith) in
+pub opens_here : {t t' : Tables} {r : Result (Unit {0}) Given.LineError} → kept_words ≤ length t.kept → Own.Opens t r t' → Opens t r t'
+opens_here {t} {t'} l z =
+    let same = as_own t l in
     record {
-      counts = part_back COUNTS max_levels k₁ x (omega arith) (e ∙ mid_len COUNTS ANSWER k₁ (omega arith)) ∙ q;
-      closed = rw (front_word k₁ k₂ COUNTS CLOSED front (omega arith), get_or-set_same k CLOSED (bool_byte b) 0 (omega arith)) (flag_bool b);
-      mark = rw (front_word k₁ k₂ COUNTS MARK front (omega arith), get_or-set_other k CLOSED MARK (bool_byte b) 0 (omega arith));
+      told = rw same z.told;
+      opened = λ h. z.opened (sym same ∙ h);
+      untouched = λ h. z.untouched (sym same ∙ h);
+      sound = sound_here t' z.sound;
+      lengths = z.lengths;
+      behind = z.behind;
     }
 
-pub kept_length : (k x : List ℕ) (v : ℕ) → length x ≡ length (take max_levels (drop COUNTS (set k CLOSED v))) →
-    length (put_mid COUNTS max_levels (set k CLOSED v) x) ≡ length k
-kept_length k x v e = same_len_mid COUNTS max_levels (set k CLOSED v) x e ∙ length-set k CLOSED v
+pub refused : (t : Tables) → length t.kept < kept_words → Opens t (Err Given.TheVariants.ShortTable) t
+refused t l =
+    let short = short_kept t l in
+    record {
+      told = rw short;
+      opened = λ h. absurd (false≢true (sym short ∙ h));
+      untouched = λ h. refl;
+      sound = λ h. absurd (false≢true (sym short ∙ h));
+      lengths = all_same t;
+      behind = same_behind t;
+    }
 
 -- ---- the room for a call
 
@@ -318,8 +143,8 @@ module _ (k x : List ℕ) (l : kept_words ≤ length k) (e : length x ≡ length
   }
 
 -- the step left its answer there, and it was put
-pub answered_there : {line c e s ns : List ℕ} {b : Bool} {a : GivenAnswer.Answer} {c' e' s' ns' : List ℕ} {b' : Bool}
-    {x u o o' : List ℕ} {d : Placed.Placed} → Steps line c e s (beside e ns b) a c' e' s' (beside e' ns' b') x → u ≡ x →
+pub answered_there : {line c e s ns : List ℕ} {b : Bool} {a : LineAnswer} {c' e' s' ns' : List ℕ} {b' : Bool}
+    {x u o o' : List ℕ} {d : Option ℕ} → Steps line c e s (beside e ns b) a c' e' s' (beside e' ns' b') x → u ≡ x →
     Puts d o 0 (line_text a u) o' × (length (line_text a u) ≤ longest_answer) →
     AnsweredBy (step (session c e s (beside e ns b)) line) d c' e' s' (beside e' ns' b') o 0 o'
 answered_there z q w = answered_by z (rw (sym q) w)
@@ -382,23 +207,19 @@ restored {k₁ = k₁} {k₂} z w v =
 
 -- ---- a line tried
 
-full_ends : {n : ℕ} → Placed.TheVariants.Full ≡ Placed.TheVariants.Ends n → ⊥
-full_ends q = subst is_full q tt
-  where
-    is_full : Placed.Placed → Type 0
-    is_full (Placed.TheVariants.Ends n) = ⊥
-    is_full Placed.TheVariants.Full = Unit {0}
+none_is : {A : Type 0} (d : Option A) → is_some d ≡ false → d ≡ None
+none_is None e = refl
+none_is (Some x) e = absurd (false≢true (sym e))
 
-module _ {p : Performed} {d : Placed.Placed} {c e s c₁ e₁ s₁ : List ℕ} {m₁ : Beside} {o o₁ : List ℕ}
+module _ {p : Performed} {d : Option ℕ} {c e s c₁ e₁ s₁ : List ℕ} {m₁ : Beside} {o o₁ : List ℕ}
     (f : AnsweredBy p d c₁ e₁ s₁ m₁ o 0 o₁) where
-  pub tried_full : {c' e' s' : List ℕ} {m : Beside} → d ≡ Placed.TheVariants.Full → Restored c e s c' e' s' →
-      Tried p Placed.TheVariants.Full c e s c' e' s' m o o₁
-  tried_full g w =
-      let put = puts_as o 0 (answer_line p) o₁ g f.line in
+  pub tried_full : {c' e' s' : List ℕ} {m : Beside} → is_some d ≡ false → Restored c e s c' e' s' → Tried p d c e s c' e' s' m o o₁
+  tried_full h w =
+      let put = puts_as o 0 (answer_line p) o₁ (none_is d h) f.line in
       let longer = put.1 in
       let short = f.short in
       record {
-        answered = λ n q. absurd (full_ends q);
+        answered = λ n q. absurd (none-some _ (sym (none_is d h) ∙ q));
         unfit = λ _. record {
           core = w.core;
           theory = w.theory;
@@ -409,19 +230,8 @@ module _ {p : Performed} {d : Placed.Placed} {c e s c₁ e₁ s₁ : List ℕ} {
         };
       }
 
-  pub tried_done : {n : ℕ} → d ≡ Placed.TheVariants.Ends n → Tried p (Placed.TheVariants.Ends n) c e s c₁ e₁ s₁ m₁ o o₁
-  tried_done g = record { answered = λ n q. rw (sym q, sym g) f; unfit = λ q. absurd (full_ends (sym q)) }
-
--- an output that holds any answer line
-pub tried_direct : {p : Performed} {d : Placed.Placed} {c e s c₁ e₁ s₁ : List ℕ} {m : Beside} {o o₁ : List ℕ} →
-    AnsweredBy p d c₁ e₁ s₁ m o 0 o₁ → longest_answer ≤ length o → Tried p d c e s c₁ e₁ s₁ m o o₁
-tried_direct {p} {o = o} {o₁} a l = record {
-  answered = λ n q. rw (sym q) a;
-  unfit = λ q.
-      let longer = (puts_as o 0 (answer_line p) o₁ q a.line).1 in
-      let short = a.short in
-      absurd (omega arith);
-}
+  pub tried_done : is_some d ≡ true → Tried p d c e s c₁ e₁ s₁ m₁ o o₁
+  tried_done h = record { answered = λ n q. rw (sym q) f; unfit = λ q. absurd (false≢true (sym (ap is_some q) ∙ h)) }
 
 -- what the fourth table keeps is what the line works on
 pub open_asks : {c e s k n : List ℕ} → n ≡ take max_levels (drop COUNTS k) → Holding c e s k →
@@ -429,42 +239,40 @@ pub open_asks : {c e s k n : List ℕ} → n ≡ take max_levels (drop COUNTS k)
 unfolding mark_counts close_accepted
 open_asks q h = record { answerable = rw q h.answerable; exact = h.exact; long = h.long }
 
-module _ {p p₁ : Performed} {d : Placed.Placed} {c e s c₁ e₁ s₁ n₁ : List ℕ} {b₁ : Bool} {o o₁ : List ℕ} (k k₁ : List ℕ)
+module _ {p p₁ : Performed} {d : Option ℕ} {c e s c₁ e₁ s₁ n₁ : List ℕ} {b₁ : Bool} {o o₁ : List ℕ} (k k₁ : List ℕ)
     (f : Tried p₁ d c e s c₁ e₁ s₁ (beside e₁ n₁ b₁) o o₁ × SameKept k k₁) (own : p₁ ≡ p) where
-  pub open_full : d ≡ Placed.TheVariants.Full → TriedOpen p Placed.TheVariants.Full c e s k c₁ e₁ s₁ k₁ o o₁
+  pub open_full : d ≡ None → TriedOpen p None c e s k c₁ e₁ s₁ k₁ o o₁
   open_full g = record {
-    answered = λ n q. absurd (full_ends q);
+    answered = λ n q. absurd (none-some _ q);
     mark = same_mark k k₁ f.1;
     unfit = λ q. rw (sym own) (f.0.unfit g);
     kept = λ q. f.1;
   }
 
-  pub open_done : {i : ℕ} {k₂ : List ℕ} → d ≡ Placed.TheVariants.Ends i → Keeps k₁ n₁ b₁ k₂ →
-      TriedOpen p (Placed.TheVariants.Ends i) c e s k c₁ e₁ s₁ k₂ o o₁
+  pub open_done : {i : ℕ} {k₂ : List ℕ} → d ≡ Some i → Keeps k₁ n₁ b₁ k₂ → TriedOpen p (Some i) c e s k c₁ e₁ s₁ k₂ o o₁
   open_done g z = record {
     answered = λ n q. rw (sym own, z.counts, z.closed) (f.0.answered n (g ∙ q));
     mark = z.mark ∙ same_mark k k₁ f.1;
-    unfit = λ q. absurd (full_ends (sym q));
-    kept = λ q. absurd (full_ends (sym q));
+    unfit = λ q. absurd (none-some _ (sym q));
+    kept = λ q. absurd (none-some _ (sym q));
   }
 
 -- ---- a call
 
-abbrev is_full : Reply → Type 0
-is_full Done = ⊥
-is_full ShortTable = ⊥
-is_full Full = Unit {0}
-is_full NotOpen = ⊥
+-- on tables that are long enough it is one of session's
+pub own_answer : (t : Tables) (room : ℕ) (line : List ℕ) → suffice t ≡ true → answer_in t room line ≡ Own.answer_in t room line
+unfolding answer_in Own.answer_in
+own_answer t room line h = rw (h, own_suffice t h)
 
-same_session : (t : Tables) → SameSession t t
+pub same_session : (t : Tables) → SameSession t t
 same_session t = record { core = refl; theory = refl; solver = refl; kept = refl }
 
 -- a line that is not answered, on tables that hold what they held
-not_answered : {d : Replied} {t t' : Tables} (o : List ℕ) (g : Given.Reply) → d ≡ unanswered (reply_meaning g) (held t) →
-    held t' ≡ held t → SameSession t t' → (reply_meaning g ≡ Full) ⊎ (t' ≡ t) →
-    (longest_answer ≤ length o → is_full (reply_meaning g) → ⊥) → KeptSound t' → SameLengths t t' → SameBehind t t' →
-    Answered d t o (record { reply = g; written = 0 }) t' o
-unfolding unanswered
+not_answered : {d : Replied} {t t' : Tables} (o : List ℕ) (g : Given.LineError) → d ≡ unanswered (error_meaning g) (held t) →
+    held t' ≡ held t → SameSession t t' → (error_meaning g ≡ Full) ⊎ (t' ≡ t) →
+    (longest_answer ≤ length o → is_full (error_meaning g) → ⊥) → KeptSound t' → SameLengths t t' → SameBehind t t' →
+    Answered d t o (Err g) t' o
+unfolding unanswered reply_meaning
 not_answered o g e h same u other z n b = record {
   reply = rw e;
   written = rw e;
@@ -479,70 +287,30 @@ not_answered o g e h same u other z n b = record {
   behind = b;
 }
 
--- on the very tables
-not_touched : {d : Replied} (t : Tables) (o : List ℕ) (g : Given.Reply) → d ≡ unanswered (reply_meaning g) (held t) →
-    (is_full (reply_meaning g) → ⊥) → KeptSound t → Answered d t o (record { reply = g; written = 0 }) t o
-not_touched t o g e other z = not_answered o g e refl (same_session t) (inr refl) (λ l. other) z (all_same t) (same_behind t)
-
 -- no session is open on the tables, or they are too short
-pub not_open : {d : Replied} (t : Tables) (o : List ℕ) → d ≡ unanswered (reply_meaning Given.TheVariants.NotOpen) (held t) → KeptSound t →
-    Answered d t o (record { reply = Given.TheVariants.NotOpen; written = 0 }) t o
-unfolding reply_meaning
-not_open t o e z = not_touched t o Given.TheVariants.NotOpen e (λ f. f) z
+pub too_short : (t : Tables) (o line : List ℕ) → suffice t ≡ false → KeptSound t →
+    AnswersHeld line t o (Err Given.TheVariants.ShortTable) t o
+unfolding answer_in error_meaning
+too_short t o line h z =
+    not_answered o Given.TheVariants.ShortTable (rw h) refl (same_session t) (inr refl) (λ l f. f) z (all_same t) (same_behind t)
 
-pub too_short : {d : Replied} (t : Tables) (o : List ℕ) → d ≡ unanswered (reply_meaning Given.TheVariants.ShortTable) (held t) →
-    KeptSound t → Answered d t o (record { reply = Given.TheVariants.ShortTable; written = 0 }) t o
-unfolding reply_meaning
-too_short t o e z = not_touched t o Given.TheVariants.ShortTable e (λ f. f) z
-
-module _ (t : Tables) (room : ℕ) (line : List ℕ) where
-  pub call_short : false ≡ suffice t → answer_in t room line ≡ unanswered (reply_meaning Given.TheVariants.ShortTable) (held t)
-  unfolding answer_in reply_meaning
-  call_short h = rw (sym h)
-
-  module _ (h : suffice t ≡ true) where
-    pub call_closed : is_open t.kept ≡ false → answer_in t room line ≡ unanswered (reply_meaning Given.TheVariants.NotOpen) (held t)
-    unfolding answer_in answer_held held reply_meaning
-    call_closed o = rw (h, o)
-
-    module _ (o : is_open t.kept ≡ true) where
-      call_full : room < length (answer_line (step (session_in t) line)) →
-          answer_in t room line ≡ unanswered (reply_meaning Given.TheVariants.Full) (held t)
-      unfolding answer_in answer_held held reply_meaning
-      call_full l = rw (h, o, lt-leb (length (answer_line (step (session_in t) line))) room l)
-
-      call_done : length (answer_line (step (session_in t) line)) ≤ room →
-          answer_in t room line
-          ≡ record { reply = Done; written = answer_line (step (session_in t) line); held = Open (step (session_in t) line).session }
-      unfolding answer_in answer_held held
-      call_done l = rw (h, o, le-leb (length (answer_line (step (session_in t) line))) room l)
-
-pub marked_open : (k : List ℕ) → get_or k MARK 0 ≡ open_mark → is_open k ≡ true
-unfolding is_open
-marked_open k e = eq-eqb (get_or k MARK 0) open_mark e
-
-pub not_marked : (k : List ℕ) → (get_or k MARK 0 ≡ open_mark → ⊥) → is_open k ≡ false
-unfolding is_open
-not_marked k h = ne_eqb (get_or k MARK 0) open_mark h
+pub not_open : (t : Tables) (o line : List ℕ) → suffice t ≡ true → is_open t.kept ≡ false → KeptSound t →
+    AnswersHeld line t o (Err Given.TheVariants.NotOpen) t o
+unfolding error_meaning
+not_open t o line h n z =
+    not_answered o Given.TheVariants.NotOpen
+    (own_answer t (length o) line h ∙ call_closed t (length o) line (own_suffice t h) n)
+    refl (same_session t) (inr refl) (λ l f. f) z (all_same t) (same_behind t)
 
 -- the parts that a session uses hold it
 pub holding : (t : Tables) → suffice t ≡ true → is_open t.kept ≡ true → KeptSound t →
     Holding (take table_words t.core) (take table_words t.theory) (take table_words t.solver) t.kept
 holding t h o z =
-    let long = suffices h in
-    record {
-      answerable = z h o;
-      exact =
-          record {
-            core = length-take-le table_words t.core long.core;
-            theory = length-take-le table_words t.theory long.theory;
-            solver = length-take-le table_words t.solver long.solver;
-          };
-      long = long.kept;
-    }
+    let own = OwnKeeping.holding t (own_suffice t h) o (λ _. z h) in
+    record { answerable = own.answerable; exact = own.exact; long = kept_long t h }
 
 -- the line was tried on these parts
-module _ (t : Tables) (line : List ℕ) {d : Placed.Placed} {c₁ e₁ s₁ k₁ o o₁ : List ℕ} (h : suffice t ≡ true)
+module _ (t : Tables) (line : List ℕ) {d : Option ℕ} {c₁ e₁ s₁ k₁ o o₁ : List ℕ} (h : suffice t ≡ true)
     (opened : is_open t.kept ≡ true) (z : KeptSound t)
     (f : AnswersOpen line (take table_words t.core) (take table_words t.theory) (take table_words t.solver) t.kept d
     c₁ e₁ s₁ k₁ o o₁) where
@@ -550,9 +318,9 @@ module _ (t : Tables) (line : List ℕ) {d : Placed.Placed} {c₁ e₁ s₁ k₁
   back_tables =
       tables (c₁ ++ drop table_words t.core) (e₁ ++ drop table_words t.theory) (s₁ ++ drop table_words t.solver) k₁
 
-  pub full_call : d ≡ Placed.TheVariants.Full → length k₁ ≡ length t.kept →
-      Answered (answer_in t (length o) line) t o (record { reply = Given.TheVariants.Full; written = 0 }) back_tables o₁
-  unfolding session_in held reply_meaning
+  full_call : d ≡ None → length k₁ ≡ length t.kept →
+      AnswersHeld line t o (Err Given.TheVariants.Full) back_tables o₁
+  unfolding session_in held error_meaning
   full_call g lk =
       let w = f.unfit g in
       let same = f.kept g in
@@ -566,35 +334,69 @@ module _ (t : Tables) (line : List ℕ) {d : Placed.Placed} {c₁ e₁ s₁ k₁
         take-append-drop table_words t.theory,
         take-append-drop table_words t.solver,
       ) in
-      let counts = same_counts t.kept k₁ same (suffices h).kept lk in
+      let counts = same_counts t.kept k₁ same (kept_long t h) lk in
       let still_held : held after ≡ held t = rw (same_mark t.kept k₁ same, same_closed t.kept k₁ same, counts) in
       let few = w.few in
       rw (is_after, w.output)
-      (not_answered o Given.TheVariants.Full (call_full t (length o) line h opened w.long) still_held
+      (not_answered o Given.TheVariants.Full
+      (own_answer t (length o) line h ∙ call_full t (length o) line (own_suffice t h) opened w.long) still_held
       (record { core = refl; theory = refl; solver = refl; kept = same }) (inl refl) (λ l f. absurd (omega arith))
       (λ l p. rw (same_closed t.kept k₁ same, counts) (z h opened))
       (record { core = refl; theory = refl; solver = refl; kept = lk }) (record { core = refl; theory = refl; solver = refl }))
 
-  pub done_call : {n : ℕ} → d ≡ Placed.TheVariants.Ends n → length c₁ ≡ length (take table_words t.core) →
+  -- an answered line is one of session's
+  answered_call : {n : ℕ} → d ≡ Some n → length c₁ ≡ length (take table_words t.core) →
       length e₁ ≡ length (take table_words t.theory) → length s₁ ≡ length (take table_words t.solver) →
       length k₁ ≡ length t.kept →
-      Answered (answer_in t (length o) line) t o (record { reply = Given.TheVariants.Done; written = n }) back_tables o₁
-  unfolding session_in reply_meaning
-  done_call {n} g lc le ls lk =
-      let a = f.answered n g in
-      let ends = a.line.ends in
-      let within = a.line.within in
-      let d_is = call_done t (length o) line h opened (omega arith) in
-      record {
-        reply = rw d_is;
-        written = rw d_is (omega arith);
-        output = rw d_is (written_front a.line);
-        fits = rw d_is (omega arith);
-        held = rw d_is (back_held t c₁ e₁ s₁ h lc le ls k₁ (f.mark ∙ opened) refl (sym a.after));
-        unperformed = inl (rw d_is);
-        untouched = inl (rw d_is);
-        room = λ l. rw d_is (λ q. subst⁻¹ is_full q tt);
-        sound = back_sound t c₁ e₁ s₁ h lc le ls k₁ refl a.answerable;
-        lengths = back_lengths t c₁ e₁ s₁ h lc le ls k₁ lk;
-        behind = back_behind t c₁ e₁ s₁ h lc le ls k₁;
-      }
+      AnswersHeld line t o (Ok n) back_tables o₁
+  unfolding reply_meaning
+  answered_call g lc le ls lk =
+      let own =
+      done_call t line (own_suffice t h) opened (λ _. z h)
+      (record { answered = f.answered; mark = f.mark; unfit = f.unfit; untouched = λ q. absurd (none-some _ (sym q ∙ g)) })
+      g lc le ls lk in
+      rw (own_answer t (length o) line h)
+      (record {
+        reply = own.reply;
+        written = own.written;
+        output = own.output;
+        fits = own.fits;
+        held = own.held;
+        unperformed = inl (sym own.reply);
+        untouched = inl (sym own.reply);
+        room = own.room;
+        sound = sound_here back_tables own.sound;
+        lengths = own.lengths;
+        behind = own.behind;
+      })
+
+  -- by whether the answer line fits
+  module _ (lc : length c₁ ≡ length (take table_words t.core)) (le : length e₁ ≡ length (take table_words t.theory))
+      (ls : length s₁ ≡ length (take table_words t.solver)) (lk : length k₁ ≡ length t.kept) where
+    by_place : (x : Option ℕ) → d ≡ x → AnswersHeld line t o (ok_or x Given.TheVariants.Full) back_tables o₁
+    by_place (Some n) g = answered_call g lc le ls lk
+    by_place None g = full_call g lk
+
+    pub line_called : {r : Result ℕ Given.LineError} → r ≡ ok_or d Given.TheVariants.Full →
+        AnswersHeld line t o r back_tables o₁
+    line_called q = rw q (by_place d refl)
+
+-- ---- by numbers
+
+module _ {t t' : Tables} {r : Result (Unit {0}) Given.LineError} (o : Opens t r t') where
+  pub opened_by : r ≡ Ok tt → OpensBy t 0 t'
+  unfolding reply_number reply_meaning
+  opened_by e = record { opened = r; opens = o; number = rw e }
+
+  pub refused_by : {n : ℕ} {e : Given.LineError} → r ≡ Err e → n ≡ reply_number (error_meaning e) → OpensBy t n t'
+  unfolding reply_meaning
+  refused_by e q = record { opened = r; opens = o; number = rw e q }
+
+module _ {line : List ℕ} {t t' : Tables} {o o' : List ℕ} {r : Result ℕ Given.LineError} (a : AnswersHeld line t o r t' o') where
+  pub answered_here : {n : ℕ} → r ≡ Ok n → Replies line t o 0 n t' o'
+  unfolding reply_number reply_meaning
+  answered_here e = record { replied = r; answers = a; number = rw e; written = rw e }
+
+  pub unanswered_here : {n : ℕ} {e : Given.LineError} → r ≡ Err e → n ≡ reply_number (error_meaning e) → Replies line t o n 0 t' o'
+  unfolding reply_meaning
+  unanswered_here e q = record { replied = r; answers = a; number = rw e q; written = rw e }

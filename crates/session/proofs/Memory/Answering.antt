@@ -1,4 +1,5 @@
 -- How a line is refused and how it is accepted, whatever its kind.
+use Rattle.std.specs.Prelude.{Err}
 use Rattle.shinri_core.proofs.Kit.{ℕ, ◌≡◌, refl, ap, ◌∙◌, Bool, true, false, ◌&&◌, List, [], ◌∷◌, none, some, arith, length, leb, le-leb, ◌⊎◌, inl, inr}
 use Rattle.shinri_core.specs.Limits.{max_sorts, max_symbols, max_pairs, max_levels}
 use Rattle.shinri_core.specs.Context.{declarations_fit, terms_fit}
@@ -12,12 +13,11 @@ use Rattle.solver.proofs.Memory.Checking.{fits_now}
 use Rattle.session.specs.Line.{Command}
 use Rattle.session.specs.Session.{Asked, Performed, first_no, questions, perform, fits, asked, if_fits, refused}
 use Rattle.session.specs.declared.answer.Refusal as GivenRefusal
-use Rattle.session.specs.declared.answer.Answer as Given
-use Rattle.session.specs.Memory.Answers.{refusal_meaning, answer_meaning, Printable}
+use Rattle.session.specs.Memory.Answers.{LineAnswer, refusal_meaning, answer_meaning, Printable}
 use Rattle.session.specs.Memory.Sessions.{Beside, session, SessionSound, Answers}
 
-abbrev pub Refused : GivenRefusal.Refusal → Given.Answer
-Refused q = Given.TheVariants.Refused q
+abbrev pub Refused : GivenRefusal.Refusal → LineAnswer
+Refused q = Err q
 
 -- the engine's table is another
 pub engine_changes : {c e e' s : List ℕ} → StateSound c e s → EngineSound e' → StateSound c e' s
@@ -113,18 +113,18 @@ module _ (st : State) where
 module _ {k : Command} {c e s : List ℕ} {m : Beside} (o : List ℕ) (z : SessionSound c e s m) where
   -- a question says no
   pub refuses : (q : GivenRefusal.Refusal) → first_no (questions (session c e s m) k) ≡ some (refusal_meaning q) →
-      Answers k c e s m (Given.TheVariants.Refused q) c e s m o
+      Answers k c e s m (Err q) c e s m o
   unfolding answer_meaning asked refused
   refuses q h = record { sound = z; printable = tt; performed = ap (asked (session c e s m) k) h }
 
   -- all say yes, but the result does not fit
   pub no_room : first_no (questions (session c e s m) k) ≡ none → fits (perform (session c e s m) k).session.state ≡ false →
-      Answers k c e s m (Given.TheVariants.Refused GivenRefusal.TheVariants.NoRoom) c e s m o
+      Answers k c e s m (Err GivenRefusal.TheVariants.NoRoom) c e s m o
   unfolding answer_meaning refusal_meaning asked if_fits refused
   no_room h f = record { sound = z; printable = tt; performed = rw (h, f) }
 
   -- all say yes, and sound tables hold the result
-  pub accepts : {a : Given.Answer} {c' e' s' : List ℕ} {m' : Beside} → Printable a o → first_no (questions (session c e s m) k) ≡ none →
+  pub accepts : {a : LineAnswer} {c' e' s' : List ℕ} {m' : Beside} → Printable a o → first_no (questions (session c e s m) k) ≡ none →
       SessionSound c' e' s' m' → perform (session c e s m) k ≡ record { answer = answer_meaning a o; session = session c' e' s' m' } →
       Answers k c e s m a c' e' s' m' o
   unfolding asked if_fits

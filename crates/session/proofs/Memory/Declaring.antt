@@ -1,5 +1,6 @@
 -- The lines before `close`. As long as none was accepted there are no terms, so a signature that stays well formed is all that the
 -- tables need.
+use Rattle.std.specs.Prelude.{Result, Ok, Err}
 use Rattle.shinri_core.proofs.Kit.{ℕ, ◌≤◌, ◌<◌, ◌≡◌, refl, sym, ap, ◌∙◌, subst, subst⁻¹, Bool, true, false, not, true≢false, List, [], none, inl, arith, length, ltb, ltb-true, not-false}
 use borrow.Author.Tests.{not-true}
 use Rattle.shinri_core.specs.Limits.{max_params}
@@ -7,7 +8,7 @@ use Rattle.shinri_core.specs.Lists.{In}
 use Rattle.shinri_core.specs.Sort.{SortNode}
 use Rattle.shinri_core.specs.Context.{Context, declare_sort, dt_add_constructor, declare_fun, with_symbols, is_datatype_sort, declarations_fit}
 use Rattle.shinri_core.specs.Formed.{Formed, Signed}
-use Rattle.shinri_core.specs.declared.context.Declared as Declared
+use Rattle.shinri_core.specs.declared.limits.NoRoom.{NoRoom}
 use Rattle.shinri_core.specs.Memory.Words.{at}
 use Rattle.shinri_core.specs.Memory.Codes.{Declares}
 use Rattle.shinri_core.specs.Memory.Table.{context, ContextSound, MayDeclare}
@@ -24,7 +25,7 @@ use Rattle.session.specs.Answer as Answer
 use Rattle.session.specs.Session.{before_close, exist, agree, sort_exists, questions, perform, first_no, done, Performed}
 use Rattle.session.specs.declared.answer.Refusal as GivenRefusal
 use Rattle.session.specs.declared.answer.Answer as Given
-use Rattle.session.specs.Memory.Answers.{refusal_meaning, answer_meaning}
+use Rattle.session.specs.Memory.Answers.{LineAnswer, refusal_meaning, answer_meaning}
 use Rattle.session.specs.Memory.Questions.{sorts_exist}
 use Rattle.session.specs.Memory.Sessions.{Beside, session, Unclosed, SessionSound, Answers, AnswersCore, declared_answer}
 use Rattle.session.proofs.Memory.Questions.{and_left, and_right, below_all}
@@ -61,7 +62,7 @@ module _ (k : Command) (cx : Context) {c e s : List ℕ} {m : Beside} (o : List 
     (asked_all : first_no (questions (session c e s m) k) ≡ none)
     (does : perform (session c e s m) k ≡ done (session c e s m) Answer.Ok (with_terms (session c e s m).state cx))
     (same_terms : cx.terms ≡ (context c).terms) (signed : Signed cx) where
-  declaration_fits : {c' : List ℕ} → ContextSound c' → context c' ≡ cx → Answers k c e s m Given.TheVariants.Ok c' e s m o
+  declaration_fits : {c' : List ℕ} → ContextSound c' → context c' ≡ cx → Answers k c e s m (Ok Given.TheVariants.Ok) c' e s m o
   unfolding done with_terms session state_with answer_meaning
   declaration_fits {c'} sound v =
       let u = z.unclosed before in
@@ -75,20 +76,20 @@ module _ (k : Command) (cx : Context) {c e s : List ℕ} {m : Beside} (o : List 
       accepts o z tt asked_all z' (does ∙ rw v)
 
   unmade : {c' : List ℕ} → c' ≡ c → declarations_fit cx ≡ false →
-      Answers k c e s m (Given.TheVariants.Refused GivenRefusal.TheVariants.NoRoom) c' e s m o
+      Answers k c e s m (Err GivenRefusal.TheVariants.NoRoom) c' e s m o
   unfolding done with_terms
   unmade same f =
-      subst⁻¹ (λ (t : List ℕ). Answers k c e s m (Given.TheVariants.Refused GivenRefusal.TheVariants.NoRoom) t e s m o) same
+      subst⁻¹ (λ (t : List ℕ). Answers k c e s m (Err GivenRefusal.TheVariants.NoRoom) t e s m o) same
       (no_room o z asked_all
       (unfit_declarations (perform (session c e s m) k).session.state
       (ap (λ (p : Performed). declarations_fit p.session.state.terms) does ∙ f)))
 
-  pub declaration_answers : {c' : List ℕ} {r : Declared.Declared} {a : Given.Answer} → Declares c cx r c' → a ≡ declared_answer r →
+  pub declaration_answers : {c' : List ℕ} {r : Result (Unit {0}) NoRoom} {a : LineAnswer} → Declares c cx r c' → a ≡ declared_answer r →
       Answers k c e s m a c' e s m o
   unfolding declared_answer
   declaration_answers {c'} d q =
       let is = q ∙ ap declared_answer d.answer in
-      let as' : Given.Answer → Type 0 = λ x. Answers k c e s m x c' e s m o in
+      let as' : LineAnswer → Type 0 = λ x. Answers k c e s m x c' e s m o in
       by_test (declarations_fit cx) (λ f. subst⁻¹ as' (is ∙ rw f) (declaration_fits d.sound (d.view ∙ rw f)))
       (λ f. subst⁻¹ as' (is ∙ rw f) (unmade (d.unchanged f) f))
 
@@ -99,7 +100,7 @@ module _ {c : List ℕ} {closed : Bool} {n : SortNode} where
   unfolding questions before_close session refusal_meaning
   sort_late h e s o m z q = refuses o z GivenRefusal.TheVariants.Misplaced (no_here _ _ (rw (q ∙ h)))
 
-  pub sort_declared : {c' : List ℕ} {r : Declared.Declared} {a : Given.Answer} → closed ≡ false →
+  pub sort_declared : {c' : List ℕ} {r : Result (Unit {0}) NoRoom} {a : LineAnswer} → closed ≡ false →
       Declares c (declare_sort (context c) n) r c' → a ≡ declared_answer r → AnswersCore closed (DeclareSort n) c a c'
   unfolding questions before_close session state_with perform declare_sort
   sort_declared h d p e s o m z q =
@@ -146,7 +147,7 @@ module _ {c : List ℕ} {closed : Bool} {dt : ℕ} {fs : List ℕ} where
         refuses o z GivenRefusal.TheVariants.Disagreeing
         (yes_here _ _ (rw (q ∙ h)) ∙ yes_here _ _ (sym p ∙ not-false r n) ∙ no_here _ _ (sym d ∙ not-true t k))
 
-    pub ctor_declared : {c' : List ℕ} {b : Declared.Declared} {a : Given.Answer} → not t ≡ false →
+    pub ctor_declared : {c' : List ℕ} {b : Result (Unit {0}) NoRoom} {a : LineAnswer} → not t ≡ false →
         Declares c (dt_add_constructor (context c) dt fs) b c' → a ≡ declared_answer b → AnswersCore closed (DeclareCtor dt fs) c a c'
     unfolding questions before_close exist agree sort_exists session state_with perform dt_add_constructor with_symbols
     ctor_declared k D a e s o m z q =
@@ -167,7 +168,7 @@ module _ {c : List ℕ} {closed : Bool} {result : ℕ} {params : List ℕ} where
   fun_missing {r} h p n e s o m z q =
       refuses o z GivenRefusal.TheVariants.Missing (yes_here _ _ (rw (q ∙ h)) ∙ no_here _ _ (sym p ∙ not-true r n))
 
-  pub fun_declared : {c' : List ℕ} {r : Bool} {b : Declared.Declared} {a : Given.Answer} → closed ≡ false →
+  pub fun_declared : {c' : List ℕ} {r : Bool} {b : Result (Unit {0}) NoRoom} {a : LineAnswer} → closed ≡ false →
       r ≡ sorts_exist c result params → not r ≡ false → Declares c (declare_fun (context c) result params) b c' → a ≡ declared_answer b →
       AnswersCore closed (DeclareFun result params) c a c'
   unfolding questions before_close exist sort_exists session state_with perform declare_fun with_symbols
@@ -178,11 +179,10 @@ module _ {c : List ℕ} {closed : Bool} {result : ℕ} {params : List ℕ} where
 
 -- ---- the answer
 
-pub declared_done : {d : Declared.Declared} → d ≡ Declared.TheVariants.Done → Given.TheVariants.Ok ≡ declared_answer d
+pub declared_done : {d : Result (Unit {0}) NoRoom} {u : Unit {0}} → d ≡ Ok u → Ok Given.TheVariants.Ok ≡ declared_answer d
 unfolding declared_answer
 declared_done e = sym (ap declared_answer e)
 
-pub declared_full : {d : Declared.Declared} → d ≡ Declared.TheVariants.NoRoom →
-    Refused GivenRefusal.TheVariants.NoRoom ≡ declared_answer d
+pub declared_full : {d : Result (Unit {0}) NoRoom} {n : NoRoom} → d ≡ Err n → Refused GivenRefusal.TheVariants.NoRoom ≡ declared_answer d
 unfolding declared_answer
 declared_full e = sym (ap declared_answer e)

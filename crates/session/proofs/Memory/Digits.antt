@@ -1,5 +1,7 @@
 -- Decimal numbers: the last digit stands behind the others, and how many there are.
 use Rattle.shinri_core.proofs.Kit.{ℕ, zero, suc, ◌+◌, ◌≤◌, ◌<◌, ◌*◌, ◌/◌, ◌%◌, ◌≡◌, refl, ap, ◌∙◌, Bool, true, false, cond, List, [], ◌∷◌, ◌++◌, append_assoc, arith, le-ltb, ltb, ltb-true, ltb-false, length, length-append}
+use Rattle.std.specs.Prelude.{◌^◌, Option, None, Some, IfNone, IfSome, unwrap_or}
+use Rattle.std.proofs.Math.Nat.{pow-succ'}
 use borrow.Author.Tests.{lt-ltb}
 use Rattle.session.specs.Text.{digits_before, decimal}
 
@@ -50,15 +52,39 @@ decimal_digits n h =
 pub digits_length : (n : ℕ) → 10 ≤ n → length (decimal n) ≡ length (decimal (n / 10)) + 1
 digits_length n h = ap length (decimal_digits n h) ∙ length-append (decimal (n / 10)) ((48 + n % 10) ∷ [])
 
--- ten times itself, one more time than the number says
-abbrev pub tens : ℕ → ℕ
-tens zero = 10
-tens (suc k) = 10 * tens k
+pub decimal_some : (n : ℕ) → 1 ≤ length (decimal n)
+decimal_some n = go (ltb n 10) refl
+  where
+    go : (b : Bool) → ltb n 10 ≡ b → 1 ≤ length (decimal n)
+    go true e = omega (arith, ap length (decimal_digit n (ltb-true n 10 e)))
+    go false e = omega (arith, digits_length n (ltb-false n 10 e))
 
-pub decimal_short : (k n : ℕ) → n < tens k → length (decimal n) ≤ suc k
+decimal_short : (k n : ℕ) → n < 10 * 10 ^ k → length (decimal n) ≤ suc k
 decimal_short zero n h = rw (decimal_digit n h) (omega arith)
-decimal_short (suc k) n h = go (ltb n 10) refl (decimal_short k (n / 10) (omega arith))
+decimal_short (suc k) n h = go (ltb n 10) refl (decimal_short k (n / 10) (let p = pow-succ' 10 k in omega arith))
   where
     go : (b : Bool) → ltb n 10 ≡ b → length (decimal (n / 10)) ≤ suc k → length (decimal n) ≤ suc (suc k)
     go true e few = rw (decimal_digit n (ltb-true n 10 e)) (omega arith)
     go false e few = rw (digits_length n (ltb-false n 10 e)) (omega arith)
+
+decimal_long : (k n : ℕ) → 10 ^ k ≤ n → suc k ≤ length (decimal n)
+decimal_long zero n h = decimal_some n
+decimal_long (suc k) n h =
+    let p = pow-succ' 10 k in
+    let one = pow_some k in
+    let more = decimal_long k (n / 10) (omega arith) in
+    rw (digits_length n (omega arith)) (omega arith)
+  where
+    pow_some : (j : ℕ) → 1 ≤ 10 ^ j
+    pow_some zero = omega arith
+    pow_some (suc j) = let q = pow-succ' 10 j in let l = pow_some j in omega arith
+
+-- one more than the logarithm; 0 has one digit
+pub digits_counted : (n : ℕ) (r : Option ℕ) → IfNone r (n ≡ 0) → IfSome r (λ k. 10 ^ k ≤ n) → IfSome r (λ k. n < 10 * 10 ^ k) →
+    unwrap_or r 0 + 1 ≡ length (decimal n)
+digits_counted n None z l h = let one = ap length (decimal_digit n (omega arith)) in omega arith
+digits_counted n (Some k) z l h = let few = decimal_short k n h in let many = decimal_long k n l in omega arith
+
+pub ten_counted : (r : Option ℕ) → IfSome r (λ k. k < 10) → unwrap_or r 0 + 1 ≤ 10
+ten_counted None h = omega arith
+ten_counted (Some k) h = omega arith

@@ -1,60 +1,26 @@
 -- A session kept open: words copied, what the fourth table holds, an opened session, a line, and what a call promises.
-use Rattle.shinri_core.proofs.Kit.{ℕ, ◌+◌, ◌≤◌, ◌<◌, ◌≡◌, refl, sym, ap, subst, subst⁻¹, ◌∙◌, ◌⊎◌, inl, inr, Bool, true, false, false≢true, ◌&&◌, eqb, leb, List, ◌++◌, below_more, arith, le-leb, lt-leb, eq-eqb, ne_eqb, length, get_or, take, drop, set, length-set, ext_get_or, get_or-set_same, get_or-set_other, length-map, length-take-le, length-drop, get_or-take, not}
+use Rattle.std.specs.Prelude.{Option, None, Some, Result, Ok, Err}
+use Rattle.std.specs.Option.{ok_or}
+use Rattle.std.proofs.lemmas.Option.{none-some}
+use Rattle.shinri_core.proofs.Kit.{ℕ, ◌≤◌, ◌<◌, ◌≡◌, refl, sym, ap, subst⁻¹, ◌∙◌, inl, inr, Bool, true, false, false≢true, ◌&&◌, eqb, leb, List, ◌++◌, arith, le-leb, lt-leb, eq-eqb, ne_eqb, length, get_or, take, drop, set, length-set, get_or-set_same, get_or-set_other, length-map, length-take-le, length-drop, get_or-take, not}
 use lib.ListN.{get_or-map, take-append-drop}
 use lib.Seq.{take_at, drop_at, length_front}
 use mir.Val.{bool_byte}
-use borrow.Rule.Slice.PartMut.{put_mid, take_put, same_len_mid}
+use borrow.Rule.Slice.PartMut.{put_mid, take_put}
 use borrow.Author.Tests.{leb-true}
-use Rattle.shinri_core.proofs.Lists.{and_no}
 use Rattle.shinri_core.specs.Limits.{table_words, max_levels}
 use Rattle.session.specs.Session as Session
 use Rattle.session.specs.Session.{Performed, step}
 use Rattle.session.specs.Run.{answer_line, zeros}
-use Rattle.session.specs.Kept.{Reply, Done, ShortTable, Full, NotOpen, Replied, unanswered, answer_held, answer_in, reply_number, reply_meaning, Opens, OpensBy, Answered, Closes}
+use Rattle.session.specs.Kept.{Reply, Done, ShortTable, Full, NotOpen, Replied, unanswered, answer_held, answer_in, reply_number, error_meaning, reply_meaning, Opens, OpensBy, Answered, AnswersHeld, Replies, Closes}
 use Rattle.session.specs.Memory.Answers.{longest_answer}
 use Rattle.session.specs.Memory.Sessions.{Beside, beside, session}
-use Rattle.session.specs.Memory.Running.{TablesLong, EmptyTables, Answerable, AnsweredBy, Zeroed}
+use Rattle.session.specs.Memory.Running.{EmptyTables, Answerable, AnsweredBy, Zeroed}
 use Rattle.session.specs.Memory.Kept.{Tables, tables, SameLengths, SameBehind, MARK, CLOSED, COUNTS, kept_words, open_mark, is_open, close_accepted, mark_counts, Closed, Open, suffice, part, beside_in, session_in, held, KeptSound, Exact, Tried, Holding, Keeps, TriedOpen, AnswersOpen}
-use Rattle.session.specs.declared.run.Placed as Placed
-use Rattle.session.specs.declared.kept.Reply as Given
+use Rattle.session.specs.declared.kept.LineError as Given
 use Rattle.session.proofs.Memory.Running.{empty_is, empty_answerable, written_front, puts_as}
 
--- ---- words copied
-
--- the words below i are those of the other table, which is as long
-pub record Copying (from to : List ℕ) (i : ℕ) : Type 0 where
-  pub long : length from ≡ length to
-  pub done : (j : ℕ) → j < i → get_or to j 0 ≡ get_or from j 0
-
-pub copy_first : {from to : List ℕ} → length from ≡ length to → Copying from to 0
-copy_first e = record { long = e; done = λ j h. absurd (omega arith) }
-
-pub copy_next : {from to : List ℕ} {i : ℕ} → Copying from to i → i < length to → Copying from (set to i (get_or from i 0)) (i + 1)
-copy_next {from} {to} {i} z h = record {
-  long = z.long ∙ sym (length-set to i (get_or from i 0));
-  done =
-      below_more (λ (j : ℕ). get_or (set to i (get_or from i 0)) j 0 ≡ get_or from j 0) i
-      (λ j l. get_or-set_other to i j (get_or from i 0) 0 (omega arith) ∙ z.done j l)
-      (get_or-set_same to i (get_or from i 0) 0 h);
-}
-
-pub copy_done : {from to : List ℕ} {i : ℕ} → Copying from to i → length to ≤ i → to ≡ from
-copy_done {from} {to} z h = ext_get_or 0 to from (sym z.long) (λ j l. z.done j (omega arith))
-
 -- ---- tables that are long enough
-
-pub suffice_short : (c e s k : List ℕ) → (length c < table_words) ⊎ ((length e < table_words) ⊎ (length s < table_words)) →
-    false ≡ suffice (tables c e s k)
-unfolding suffice
-suffice_short c e s k (inl h) = rw (lt-leb table_words (length c) h)
-suffice_short c e s k (inr (inl h)) = rw (lt-leb table_words (length e) h, and_no (leb table_words (length c)))
-suffice_short c e s k (inr (inr h)) =
-    rw (lt-leb table_words (length s) h, and_no (leb table_words (length c) && leb table_words (length e)))
-
-pub suffice_long : (c e s k : List ℕ) → TablesLong c e s → leb kept_words (length k) ≡ suffice (tables c e s k)
-unfolding suffice
-suffice_long c e s k l =
-    rw (le-leb table_words (length c) l.core, le-leb table_words (length e) l.theory, le-leb table_words (length s) l.solver)
 
 pub record Suffices (t : Tables) : Type 0 where
   pub core : table_words ≤ length t.core
@@ -154,13 +120,13 @@ unclosed k = rw (get_or-set_other (zeros k) MARK CLOSED open_mark 0 (omega arith
 pub all_same : (t : Tables) → SameLengths t t
 all_same t = record { core = refl; theory = refl; solver = refl; kept = refl }
 
-same_behind : (t : Tables) → SameBehind t t
+pub same_behind : (t : Tables) → SameBehind t t
 same_behind t = record { core = refl; theory = refl; solver = refl }
 
-pub refused : (t : Tables) → false ≡ suffice t → Opens t false t
+pub refused : (t : Tables) → false ≡ suffice t → Opens t (Err Given.TheVariants.ShortTable) t
 refused t h = record {
-  told = h;
-  opened = λ q. absurd (false≢true q);
+  told = rw (sym h);
+  opened = λ q. absurd (false≢true (h ∙ q));
   untouched = λ q. refl;
   sound = λ l. absurd (false≢true (h ∙ l));
   lengths = all_same t;
@@ -209,29 +175,19 @@ module _ (t : Tables) (c₁ e₁ s₁ : List ℕ) (h : suffice t ≡ true) (lc :
 pub opens : (t : Tables) {c₁ e₁ s₁ k₁ : List ℕ} → suffice t ≡ true → EmptyTables c₁ e₁ s₁ → k₁ ≡ zeros t.kept →
     length c₁ ≡ length (take table_words t.core) → length e₁ ≡ length (take table_words t.theory) →
     length s₁ ≡ length (take table_words t.solver) →
-    Opens t true (tables (c₁ ++ drop table_words t.core) (e₁ ++ drop table_words t.theory) (s₁ ++ drop table_words t.solver)
+    Opens t (Ok tt) (tables (c₁ ++ drop table_words t.core) (e₁ ++ drop table_words t.theory) (s₁ ++ drop table_words t.solver)
     (set k₁ MARK open_mark))
 opens t {c₁} {e₁} {s₁} h z q lc le ls =
     let k = set (zeros t.kept) MARK open_mark in
     let no_close = unclosed t.kept in
     rw q record {
-      told = sym h;
+      told = rw h;
       opened = λ _. back_held t c₁ e₁ s₁ h lc le ls k (marked t.kept (suffices h).kept) no_close (sym (empty_is (mark_counts k) z));
-      untouched = λ f. absurd (false≢true (sym f));
+      untouched = λ f. absurd (false≢true (sym f ∙ h));
       sound = back_sound t c₁ e₁ s₁ h lc le ls k no_close (empty_answerable (mark_counts k) z);
       lengths = back_lengths t c₁ e₁ s₁ h lc le ls k (length-set (zeros t.kept) MARK open_mark ∙ zeros_length t.kept);
       behind = back_behind t c₁ e₁ s₁ h lc le ls k;
     }
-
--- by numbers
-module _ {t t' : Tables} {r : Bool} (o : Opens t r t') where
-  pub opened_by : r ≡ true → OpensBy t 0 t'
-  unfolding reply_number
-  opened_by e = record { opened = r; opens = o; number = rw e }
-
-  pub refused_by : r ≡ false → OpensBy t 1 t'
-  unfolding reply_number
-  refused_by e = record { opened = r; opens = o; number = rw e }
 
 -- ---- what a session keeps beside the work tables
 
@@ -271,18 +227,7 @@ keeps k b {n} {x} l q e =
       mark = rw (front_word k₁ x long MARK (omega arith), get_or-set_other k CLOSED MARK (bool_byte b) 0 (omega arith));
     }
 
-pub kept_length : (k x : List ℕ) (v : ℕ) → length x ≡ length (take max_levels (drop COUNTS (set k CLOSED v))) →
-    length (put_mid COUNTS max_levels (set k CLOSED v) x) ≡ length k
-kept_length k x v e = same_len_mid COUNTS max_levels (set k CLOSED v) x e ∙ length-set k CLOSED v
-
 -- ---- a line of an open session
-
-full_ends : {n : ℕ} → Placed.TheVariants.Full ≡ Placed.TheVariants.Ends n → ⊥
-full_ends q = subst is_full q tt
-  where
-    is_full : Placed.Placed → Type 0
-    is_full (Placed.TheVariants.Ends n) = ⊥
-    is_full Placed.TheVariants.Full = Unit {0}
 
 -- tables that hold the same
 pub aside_asks : {c e s c₂ e₂ s₂ n : List ℕ} {b : Bool} → c₂ ≡ c → e₂ ≡ e → s₂ ≡ s → Answerable c e s (beside e n b) →
@@ -290,28 +235,28 @@ pub aside_asks : {c e s c₂ e₂ s₂ n : List ℕ} {b : Bool} → c₂ ≡ c �
 aside_asks p q r a = rw (p, q, r) a
 
 -- on copies: the step that they were answered by is the tables' own
-module _ {p p₂ : Performed} {d : Placed.Placed} {c e s c₃ e₃ s₃ n₃ : List ℕ} {b₃ : Bool} {o o₃ : List ℕ}
+module _ {p p₂ : Performed} {d : Option ℕ} {c e s c₃ e₃ s₃ n₃ : List ℕ} {b₃ : Bool} {o o₃ : List ℕ}
     (f : AnsweredBy p₂ d c₃ e₃ s₃ (beside e₃ n₃ b₃) o 0 o₃) (own : p₂ ≡ p) where
-  pub aside_full : {m : Beside} → d ≡ Placed.TheVariants.Full → Tried p Placed.TheVariants.Full c e s c e s m o o₃
+  pub aside_full : {m : Beside} → d ≡ None → Tried p None c e s c e s m o o₃
   aside_full g =
       let put = puts_as o 0 (answer_line p₂) o₃ g f.line in
       let longer = put.1 in
       let short = f.short in
       let same = ap (λ (x : Performed). length (answer_line x)) own in
       record {
-        answered = λ n q. absurd (full_ends q);
+        answered = λ n q. absurd (none-some _ q);
         unfit = λ _. record { core = refl; theory = refl; solver = refl; output = put.0; long = omega arith; few = omega arith };
       }
 
-  pub aside_done : {k : ℕ} {c₄ e₄ s₄ : List ℕ} → d ≡ Placed.TheVariants.Ends k → c₄ ≡ c₃ → e₄ ≡ e₃ → s₄ ≡ s₃ →
-      Tried p (Placed.TheVariants.Ends k) c e s c₄ e₄ s₄ (beside e₄ n₃ b₃) o o₃
+  pub aside_done : {k : ℕ} {c₄ e₄ s₄ : List ℕ} → d ≡ Some k → c₄ ≡ c₃ → e₄ ≡ e₃ → s₄ ≡ s₃ →
+      Tried p (Some k) c e s c₄ e₄ s₄ (beside e₄ n₃ b₃) o o₃
   aside_done g x y z = record {
     answered = λ n q. rw (x, y, z, sym q, sym g, sym own) f;
-    unfit = λ q. absurd (full_ends (sym q));
+    unfit = λ q. absurd (none-some _ (sym q));
   }
 
 -- an output that holds any answer line
-pub tried_direct : {p : Performed} {d : Placed.Placed} {c e s c₁ e₁ s₁ : List ℕ} {m : Beside} {o o₁ : List ℕ} →
+pub tried_direct : {p : Performed} {d : Option ℕ} {c e s c₁ e₁ s₁ : List ℕ} {m : Beside} {o o₁ : List ℕ} →
     AnsweredBy p d c₁ e₁ s₁ m o 0 o₁ → longest_answer ≤ length o → Tried p d c e s c₁ e₁ s₁ m o o₁
 tried_direct {p} {o = o} {o₁} a l = record {
   answered = λ n q. rw (sym q) a;
@@ -327,23 +272,23 @@ pub open_asks : {c e s k n : List ℕ} → n ≡ take max_levels (drop COUNTS k)
 unfolding mark_counts close_accepted
 open_asks q h = (rw q h.answerable, h.exact)
 
-module _ {p p₁ : Performed} {d : Placed.Placed} {c e s k c₁ e₁ s₁ n₁ : List ℕ} {b₁ : Bool} {o o₁ : List ℕ}
+module _ {p p₁ : Performed} {d : Option ℕ} {c e s k c₁ e₁ s₁ n₁ : List ℕ} {b₁ : Bool} {o o₁ : List ℕ}
     (f : Tried p₁ d c e s c₁ e₁ s₁ (beside e₁ n₁ b₁) o o₁) (own : p₁ ≡ p) where
-  pub open_full : d ≡ Placed.TheVariants.Full → TriedOpen p Placed.TheVariants.Full c e s k c₁ e₁ s₁ k o o₁
+  pub open_full : d ≡ None → TriedOpen p None c e s k c₁ e₁ s₁ k o o₁
   open_full g = record {
-    answered = λ n q. absurd (full_ends q);
+    answered = λ n q. absurd (none-some _ q);
     mark = refl;
     unfit = λ q. rw (sym own) (f.unfit g);
     untouched = λ q. refl;
   }
 
-  pub open_done : {i : ℕ} {k₁ : List ℕ} → d ≡ Placed.TheVariants.Ends i → Keeps k n₁ b₁ k₁ →
-      TriedOpen p (Placed.TheVariants.Ends i) c e s k c₁ e₁ s₁ k₁ o o₁
+  pub open_done : {i : ℕ} {k₁ : List ℕ} → d ≡ Some i → Keeps k n₁ b₁ k₁ →
+      TriedOpen p (Some i) c e s k c₁ e₁ s₁ k₁ o o₁
   open_done g z = record {
     answered = λ n q. rw (sym own, z.counts, z.closed) (f.answered n (g ∙ q));
     mark = z.mark;
-    unfit = λ q. absurd (full_ends (sym q));
-    untouched = λ q. absurd (full_ends (sym q));
+    unfit = λ q. absurd (none-some _ (sym q));
+    untouched = λ q. absurd (none-some _ (sym q));
   }
 
 -- ---- a call
@@ -355,10 +300,10 @@ is_full Full = Unit {0}
 is_full NotOpen = ⊥
 
 -- a line that is not answered
-pub not_answered : {d : Replied} (t : Tables) (o : List ℕ) (g : Given.Reply) → d ≡ unanswered (reply_meaning g) (held t) →
-    (longest_answer ≤ length o → is_full (reply_meaning g) → ⊥) → KeptSound t →
-    Answered d t o (record { reply = g; written = 0 }) t o
-unfolding unanswered
+pub not_answered : {d : Replied} (t : Tables) (o : List ℕ) (g : Given.LineError) → d ≡ unanswered (error_meaning g) (held t) →
+    (longest_answer ≤ length o → is_full (error_meaning g) → ⊥) → KeptSound t →
+    Answered d t o (Err g) t o
+unfolding unanswered reply_meaning
 not_answered t o g e other z = record {
   reply = rw e;
   written = rw e;
@@ -373,30 +318,30 @@ not_answered t o g e other z = record {
 }
 
 -- no session is open on the tables, or they are too short
-pub not_open : {d : Replied} (t : Tables) (o : List ℕ) → d ≡ unanswered (reply_meaning Given.TheVariants.NotOpen) (held t) → KeptSound t →
-    Answered d t o (record { reply = Given.TheVariants.NotOpen; written = 0 }) t o
-unfolding reply_meaning
+pub not_open : {d : Replied} (t : Tables) (o : List ℕ) → d ≡ unanswered (error_meaning Given.TheVariants.NotOpen) (held t) → KeptSound t →
+    Answered d t o (Err Given.TheVariants.NotOpen) t o
+unfolding error_meaning
 not_open t o e z = not_answered t o Given.TheVariants.NotOpen e (λ l f. f) z
 
-pub too_short : {d : Replied} (t : Tables) (o : List ℕ) → d ≡ unanswered (reply_meaning Given.TheVariants.ShortTable) (held t) →
-    KeptSound t → Answered d t o (record { reply = Given.TheVariants.ShortTable; written = 0 }) t o
-unfolding reply_meaning
+pub too_short : {d : Replied} (t : Tables) (o : List ℕ) → d ≡ unanswered (error_meaning Given.TheVariants.ShortTable) (held t) →
+    KeptSound t → Answered d t o (Err Given.TheVariants.ShortTable) t o
+unfolding error_meaning
 too_short t o e z = not_answered t o Given.TheVariants.ShortTable e (λ l f. f) z
 
 module _ (t : Tables) (room : ℕ) (line : List ℕ) where
-  pub call_short : false ≡ suffice t → answer_in t room line ≡ unanswered (reply_meaning Given.TheVariants.ShortTable) (held t)
-  unfolding answer_in reply_meaning
+  pub call_short : false ≡ suffice t → answer_in t room line ≡ unanswered (error_meaning Given.TheVariants.ShortTable) (held t)
+  unfolding answer_in error_meaning
   call_short h = rw (sym h)
 
   module _ (h : suffice t ≡ true) where
-    pub call_closed : is_open t.kept ≡ false → answer_in t room line ≡ unanswered (reply_meaning Given.TheVariants.NotOpen) (held t)
-    unfolding answer_in answer_held held reply_meaning
+    pub call_closed : is_open t.kept ≡ false → answer_in t room line ≡ unanswered (error_meaning Given.TheVariants.NotOpen) (held t)
+    unfolding answer_in answer_held held error_meaning
     call_closed o = rw (h, o)
 
     module _ (o : is_open t.kept ≡ true) where
       pub call_full : room < length (answer_line (step (session_in t) line)) →
-          answer_in t room line ≡ unanswered (reply_meaning Given.TheVariants.Full) (held t)
-      unfolding answer_in answer_held held reply_meaning
+          answer_in t room line ≡ unanswered (error_meaning Given.TheVariants.Full) (held t)
+      unfolding answer_in answer_held held error_meaning
       call_full l = rw (h, o, lt-leb (length (answer_line (step (session_in t) line))) room l)
 
       call_done : length (answer_line (step (session_in t) line)) ≤ room →
@@ -430,7 +375,7 @@ holding t h o z =
     }
 
 -- the line was tried on these parts
-module _ (t : Tables) (line : List ℕ) {d : Placed.Placed} {c₁ e₁ s₁ k₁ o o₁ : List ℕ} (h : suffice t ≡ true)
+module _ (t : Tables) (line : List ℕ) {d : Option ℕ} {c₁ e₁ s₁ k₁ o o₁ : List ℕ} (h : suffice t ≡ true)
     (opened : is_open t.kept ≡ true) (z : KeptSound t)
     (f : AnswersOpen line (take table_words t.core) (take table_words t.theory) (take table_words t.solver) t.kept d
     c₁ e₁ s₁ k₁ o o₁) where
@@ -438,8 +383,8 @@ module _ (t : Tables) (line : List ℕ) {d : Placed.Placed} {c₁ e₁ s₁ k₁
   back_tables =
       tables (c₁ ++ drop table_words t.core) (e₁ ++ drop table_words t.theory) (s₁ ++ drop table_words t.solver) k₁
 
-  pub full_call : d ≡ Placed.TheVariants.Full →
-      Answered (answer_in t (length o) line) t o (record { reply = Given.TheVariants.Full; written = 0 }) back_tables o₁
+  full_call : d ≡ None →
+      Answered (answer_in t (length o) line) t o (Err Given.TheVariants.Full) back_tables o₁
   unfolding session_in
   full_call g =
       let w = f.unfit g in
@@ -457,10 +402,10 @@ module _ (t : Tables) (line : List ℕ) {d : Placed.Placed} {c₁ e₁ s₁ k₁
       rw (same, w.output)
       (not_answered t o Given.TheVariants.Full (call_full t (length o) line h opened w.long) (λ l f. absurd (omega arith)) z)
 
-  pub done_call : {n : ℕ} → d ≡ Placed.TheVariants.Ends n → length c₁ ≡ length (take table_words t.core) →
+  pub done_call : {n : ℕ} → d ≡ Some n → length c₁ ≡ length (take table_words t.core) →
       length e₁ ≡ length (take table_words t.theory) → length s₁ ≡ length (take table_words t.solver) →
       length k₁ ≡ length t.kept →
-      Answered (answer_in t (length o) line) t o (record { reply = Given.TheVariants.Done; written = n }) back_tables o₁
+      Answered (answer_in t (length o) line) t o (Ok n) back_tables o₁
   unfolding session_in reply_meaning
   done_call {n} g lc le ls lk =
       let a = f.answered n g in
@@ -479,3 +424,35 @@ module _ (t : Tables) (line : List ℕ) {d : Placed.Placed} {c₁ e₁ s₁ k₁
         lengths = back_lengths t c₁ e₁ s₁ h lc le ls k₁ lk;
         behind = back_behind t c₁ e₁ s₁ h lc le ls k₁;
       }
+
+  -- by whether the answer line fits
+  module _ (lc : length c₁ ≡ length (take table_words t.core)) (le : length e₁ ≡ length (take table_words t.theory))
+      (ls : length s₁ ≡ length (take table_words t.solver)) (lk : length k₁ ≡ length t.kept) where
+    by_place : (x : Option ℕ) → d ≡ x →
+        Answered (answer_in t (length o) line) t o (ok_or x Given.TheVariants.Full) back_tables o₁
+    by_place (Some n) g = done_call g lc le ls lk
+    by_place None g = full_call g
+
+    pub line_called : {r : Result ℕ Given.LineError} → r ≡ ok_or d Given.TheVariants.Full →
+        Answered (answer_in t (length o) line) t o r back_tables o₁
+    line_called q = rw q (by_place d refl)
+
+-- ---- by numbers
+
+module _ {t t' : Tables} {r : Result (Unit {0}) Given.LineError} (o : Opens t r t') where
+  pub opened_by : r ≡ Ok tt → OpensBy t 0 t'
+  unfolding reply_number reply_meaning
+  opened_by e = record { opened = r; opens = o; number = rw e }
+
+  pub refused_by : {n : ℕ} {e : Given.LineError} → r ≡ Err e → n ≡ reply_number (error_meaning e) → OpensBy t n t'
+  unfolding reply_meaning
+  refused_by e q = record { opened = r; opens = o; number = rw e q }
+
+module _ {line : List ℕ} {t t' : Tables} {o o' : List ℕ} {r : Result ℕ Given.LineError} (a : AnswersHeld line t o r t' o') where
+  pub answered_by : {n : ℕ} → r ≡ Ok n → Replies line t o 0 n t' o'
+  unfolding reply_number reply_meaning
+  answered_by e = record { replied = r; answers = a; number = rw e; written = rw e }
+
+  pub unanswered_by : {n : ℕ} {e : Given.LineError} → r ≡ Err e → n ≡ reply_number (error_meaning e) → Replies line t o n 0 t' o'
+  unfolding reply_meaning
+  unanswered_by e q = record { replied = r; answers = a; number = rw e q; written = rw e }

@@ -1,18 +1,52 @@
 -- What a key asks of its numbers, and the numbers at the start of a table.
-use Rattle.shinri_core.proofs.Kit.{ℕ, zero, suc, ◌-◌, ◌≤◌, ◌<◌, ◌≡◌, refl, sym, ap, ◌∙◌, subst⁻¹, Bool, true, false, cond, List, [], ◌∷◌, Option, none, some, arith, le-leb, eqb, length, get_or, take, length-take-le, ext_get_or}
+use Rattle.shinri_core.proofs.Kit.{ℕ, suc, ◌+◌, ◌-◌, ◌≤◌, ◌<◌, ◌≡◌, refl, sym, ap, ◌∙◌, Bool, true, false, cond, ◌&&◌, List, [], ◌∷◌, map, Option, none, some, add-one, arith, le-leb, eqb, length, get_or, take, drop, take_all, drop-cons, drop_of_length-le}
+use lib.Pointwise.{pointwise}
 use Rattle.shinri_core.specs.Lists.{first, same_list}
-use Rattle.shinri_core.proofs.Lists.{same_list_same}
-use Rattle.session.specs.Line.{Key, Command, IfaceKey, key_text, only_one, just_one, just_two, just_four, by_key, at_most_17, by_value, known}
-use Rattle.session.specs.Memory.Numbers.{ReadsNumbers}
-use Rattle.session.specs.Memory.Commands.{max_numbers, list_key, one_key, pair_key, key_meaning, others, by_known, by_numbers, command_meaning, ListFits, ReadsAs}
-use Rattle.session.specs.declared.line.Command as Given
+use Rattle.session.specs.Text.{comma, parts}
+use Rattle.session.specs.Line.{Key, Command, IfaceKey, some_or_more, just_one, just_two, just_four, by_key, numbers, at_most_17, by_value}
+use Rattle.session.specs.Memory.Numbers.{Read}
+use Rattle.session.specs.Memory.Commands.{list_key, one_key, pair_key, key_meaning}
 use Rattle.session.specs.declared.line.Key as GivenKey
 use Rattle.session.specs.declared.line.ListKey as GivenList
 use Rattle.session.specs.declared.line.OneKey as GivenOne
 use Rattle.session.specs.declared.line.PairKey as GivenPair
 
-pub same_list_all : (a b : List ℕ) → length a ≡ length b → ((k : ℕ) → k < length a → get_or a k 0 ≡ get_or b k 0) → same_list a b ≡ true
-same_list_all a b e h = ap (same_list a) (sym (ext_get_or 0 a b e h)) ∙ same_list_same a
+-- `==` on texts is the definition's test
+pub eq_same : (a b : List ℕ) → pointwise eqb a b ≡ same_list a b
+unfolding same_list
+eq_same [] [] = refl
+eq_same [] (y ∷ ys) = refl
+eq_same (x ∷ xs) [] = refl
+eq_same (x ∷ xs) (y ∷ ys) = rw (eq_same xs ys) (go (eqb x y) (same_list xs ys))
+  where
+    go : (b r : Bool) → (b && r) ≡ cond b r false
+    go true r = refl
+    go false r = refl
+
+pub eq_is : (a b : List ℕ) {text : List ℕ} {r s : Bool} → r ≡ pointwise eqb a b → b ≡ text → r ≡ s → same_list a text ≡ s
+eq_is a b e t f = ap (same_list a) (sym t) ∙ sym (eq_same a b) ∙ sym e ∙ f
+
+-- ---- the first of the keys with a text
+
+module _ (p : Key → Bool) (ks : List GivenKey.Key) (i : ℕ) (d : GivenKey.Key) (h : i < length ks) where
+  -- those from place i on
+  abbrev rest : List Key
+  rest = map key_meaning (drop i ks)
+
+  at_place : rest ≡ key_meaning (get_or ks i d) ∷ map key_meaning (drop (i + 1) ks)
+  at_place = rw (add-one, drop-cons ks i d h)
+
+  pub first_here : p (key_meaning (get_or ks i d)) ≡ true → first p rest ≡ some (key_meaning (get_or ks i d))
+  unfolding first
+  first_here e = rw (at_place, e)
+
+  pub first_later : p (key_meaning (get_or ks i d)) ≡ false → first p (map key_meaning (drop (i + 1) ks)) ≡ first p rest
+  unfolding first
+  first_later e = rw (at_place, e)
+
+pub first_none : (p : Key → Bool) (ks : List GivenKey.Key) (i : ℕ) → length ks ≤ i → first p (map key_meaning (drop i ks)) ≡ none
+unfolding first
+first_none p ks i h = rw (drop_of_length-le ks h)
 
 -- ---- another count of numbers
 
@@ -39,7 +73,7 @@ not_four f (x ∷ y ∷ z ∷ w ∷ []) h = absurd (h refl)
 not_four f (x ∷ y ∷ z ∷ w ∷ v ∷ xs) h = refl
 
 by_not_one : (k : GivenOne.OneKey) (xs : List ℕ) → (length xs ≡ 1 → ⊥) → by_key (one_key k) xs ≡ none
-unfolding by_key one_key
+unfolding by_key
 by_not_one GivenOne.TheVariants.Close xs h = not_one _ xs h
 by_not_one GivenOne.TheVariants.Equate xs h = not_one _ xs h
 by_not_one GivenOne.TheVariants.Assert xs h = not_one _ xs h
@@ -49,80 +83,66 @@ by_not_one GivenOne.TheVariants.Pop xs h = not_one _ xs h
 by_not_one GivenOne.TheVariants.Check xs h = not_one _ xs h
 
 by_not_two : (k : GivenPair.PairKey) (xs : List ℕ) → (length xs ≡ 2 → ⊥) → by_key (pair_key k) xs ≡ none
-unfolding by_key pair_key
+unfolding by_key
 by_not_two GivenPair.TheVariants.Eq xs h = not_two _ xs h
 by_not_two GivenPair.TheVariants.Var xs h = not_two _ xs h
 by_not_two GivenPair.TheVariants.Cong xs h = not_two _ xs h
 
--- 1 after a key written only with 1
-pub once : (g : Given.Command) (k : Command) (x : ℕ) {r : Given.Command} (ns : List ℕ) →
-    command_meaning g ns ≡ some k → ListFits g (length ns) → r ≡ cond (eqb x 1) g Given.TheVariants.Unreadable →
-    ReadsAs (only_one k x) r ns
-unfolding only_one command_meaning
-once g k x {r} ns m f e = subst⁻¹ (λ (c : Given.Command). ReadsAs (cond (eqb x 1) (some k) none) c ns) e (go (eqb x 1))
-  where
-    go : (b : Bool) → ReadsAs (cond b (some k) none) (cond b g Given.TheVariants.Unreadable) ns
-    go true = record { is = m; fits = f }
-    go false = record { is = refl; fits = tt }
+no_number : (ns : List ℕ) → length ns < 1 → ns ≡ []
+no_number [] h = refl
+no_number (x ∷ ns) h = absurd (omega arith)
 
--- the first of some keys that has this text
-pub record Tried (text : List ℕ) (ks : List Key) (r : GivenKey.Key) : Type 0 where
-  pub is : key_meaning r ≡ first (λ x. same_list text (key_text x)) ks
+by_none : (k : GivenList.ListKey) → by_key (list_key k) [] ≡ none
+unfolding by_key some_or_more
+by_none GivenList.TheVariants.Ctor = refl
+by_none GivenList.TheVariants.Fun = refl
+by_none GivenList.TheVariants.Term = refl
 
-pub none_tried : (text : List ℕ) → Tried text [] GivenKey.TheVariants.Unknown
-unfolding key_meaning first
-none_tried text = record { is = refl }
+module _ (ns : List ℕ) where
+  pub other_some : (k : GivenList.ListKey) → length ns < 1 → none ≡ by_key (list_key k) ns
+  other_some k h = let e = no_number ns h in rw e (sym (by_none k))
 
-pub one_tried : {text : List ℕ} {ks : List Key} {other r : GivenKey.Key} (k : Key) (g : GivenKey.Key) →
-    r ≡ cond (same_list text (key_text k)) g other → key_meaning g ≡ some k → Tried text ks other → Tried text (k ∷ ks) r
-unfolding first
-one_tried {text} {ks} {other} k g e m h = record { is = ap key_meaning e ∙ go (same_list text (key_text k)) }
-  where
-    go : (b : Bool) → key_meaning (cond b g other) ≡ cond b (some k) (first (λ x. same_list text (key_text x)) ks)
-    go true = m
-    go false = h.is
+  pub other_one : (k : GivenOne.OneKey) → (length ns ≡ 1 → ⊥) → none ≡ by_key (one_key k) ns
+  other_one k f = sym (by_not_one k ns f)
 
--- ---- the first n words of a table
+  pub other_two : (k : GivenPair.PairKey) → (length ns ≡ 2 → ⊥) → none ≡ by_key (pair_key k) ns
+  other_two k f = sym (by_not_two k ns f)
 
-module _ (ns : List ℕ) (n : ℕ) (h : n ≤ length ns) where
-  pub other_one : (k : GivenOne.OneKey) → (n ≡ 1 → ⊥) → none ≡ by_key (one_key k) (take n ns)
-  other_one k f = sym (by_not_one k (take n ns) (λ e. f (sym (length-take-le n ns h) ∙ e)))
-
-  pub other_two : (k : GivenPair.PairKey) → (n ≡ 2 → ⊥) → none ≡ by_key (pair_key k) (take n ns)
-  other_two k f = sym (by_not_two k (take n ns) (λ e. f (sym (length-take-le n ns h) ∙ e)))
-
-  pub other_four : (n ≡ 4 → ⊥) → none ≡ by_key IfaceKey (take n ns)
+  pub other_four : (length ns ≡ 4 → ⊥) → none ≡ by_key IfaceKey ns
   unfolding by_key
-  other_four f = sym (not_four _ (take n ns) (λ e. f (sym (length-take-le n ns h) ∙ e)))
+  other_four f = sym (not_four _ ns f)
 
-pub take_some : (ns : List ℕ) (n : ℕ) → n ≤ length ns → 1 ≤ n → take n ns ≡ get_or ns 0 0 ∷ others (n - 1) ns
-unfolding others
-take_some ns zero h l = absurd (omega arith)
-take_some [] (suc n) h l = absurd (omega arith)
-take_some (x ∷ ns) (suc n) h l = let e : suc n - 1 ≡ n = omega arith in rw e
+-- ---- few numbers
 
-pub take_one : (ns : List ℕ) (n : ℕ) → n ≤ length ns → n ≡ 1 → take n ns ≡ get_or ns 0 0 ∷ []
-take_one [] n h e = absurd (omega arith)
-take_one (x ∷ ns) n h e = rw e
+pub one_or_more : (ns : List ℕ) → 1 ≤ length ns → ns ≡ get_or ns 0 0 ∷ take (length ns - 1) (drop 1 ns)
+one_or_more [] h = absurd (omega arith)
+one_or_more (x ∷ ns) h = sym (ap (λ (ys : List ℕ). x ∷ ys) (take_all (suc (length ns) - 1) ns (omega arith)))
 
-pub take_two : (ns : List ℕ) (n : ℕ) → n ≤ length ns → n ≡ 2 → take n ns ≡ get_or ns 0 0 ∷ get_or ns 1 0 ∷ []
-take_two [] n h e = absurd (omega arith)
-take_two (x ∷ []) n h e = absurd (omega arith)
-take_two (x ∷ y ∷ ns) n h e = rw e
+pub one_number : (ns : List ℕ) → length ns ≡ 1 → ns ≡ get_or ns 0 0 ∷ []
+one_number [] h = absurd (omega arith)
+one_number (x ∷ []) h = refl
+one_number (x ∷ y ∷ ns) h = absurd (omega arith)
 
-pub take_four : (ns : List ℕ) (n : ℕ) → n ≤ length ns → n ≡ 4 → take n ns ≡ get_or ns 0 0 ∷ get_or ns 1 0 ∷ get_or ns 2 0 ∷ get_or ns 3 0 ∷ []
-take_four [] n h e = absurd (omega arith)
-take_four (x ∷ []) n h e = absurd (omega arith)
-take_four (x ∷ y ∷ []) n h e = absurd (omega arith)
-take_four (x ∷ y ∷ z ∷ []) n h e = absurd (omega arith)
-take_four (x ∷ y ∷ z ∷ w ∷ ns) n h e = rw e
+pub two_numbers : (ns : List ℕ) → length ns ≡ 2 → ns ≡ get_or ns 0 0 ∷ get_or ns 1 0 ∷ []
+two_numbers [] h = absurd (omega arith)
+two_numbers (x ∷ []) h = absurd (omega arith)
+two_numbers (x ∷ y ∷ []) h = refl
+two_numbers (x ∷ y ∷ z ∷ ns) h = absurd (omega arith)
+
+pub four_numbers : (ns : List ℕ) → length ns ≡ 4 → ns ≡ get_or ns 0 0 ∷ get_or ns 1 0 ∷ get_or ns 2 0 ∷ get_or ns 3 0 ∷ []
+four_numbers [] h = absurd (omega arith)
+four_numbers (x ∷ []) h = absurd (omega arith)
+four_numbers (x ∷ y ∷ []) h = absurd (omega arith)
+four_numbers (x ∷ y ∷ z ∷ []) h = absurd (omega arith)
+four_numbers (x ∷ y ∷ z ∷ w ∷ []) h = refl
+four_numbers (x ∷ y ∷ z ∷ w ∷ v ∷ ns) h = absurd (omega arith)
 
 -- ---- the value
 
 -- only the key of a sort takes a letter
 pub takes_numbers : (k : GivenKey.Key) (v : List ℕ) → (k ≡ GivenKey.TheVariants.Sort → ⊥) →
-    known (key_meaning k) v ≡ by_numbers (key_meaning k) v
-unfolding key_meaning list_key one_key pair_key known by_value by_numbers
+    by_value (key_meaning k) v ≡ at_most_17 (key_meaning k) (numbers (parts comma v))
+unfolding by_value
 takes_numbers GivenKey.TheVariants.Sort v h = absurd (h refl)
 takes_numbers (GivenKey.TheVariants.List GivenList.TheVariants.Ctor) v h = refl
 takes_numbers (GivenKey.TheVariants.List GivenList.TheVariants.Fun) v h = refl
@@ -138,20 +158,8 @@ takes_numbers (GivenKey.TheVariants.Pair GivenPair.TheVariants.Eq) v h = refl
 takes_numbers (GivenKey.TheVariants.Pair GivenPair.TheVariants.Var) v h = refl
 takes_numbers (GivenKey.TheVariants.Pair GivenPair.TheVariants.Cong) v h = refl
 takes_numbers GivenKey.TheVariants.Iface v h = refl
-takes_numbers GivenKey.TheVariants.Unknown v h = refl
-
--- no numbers, or too many
-pub numbers_unread : (k : Option Key) (v ns : List ℕ) {n : ℕ} → ReadsNumbers v n ns → n ≡ 0 → none ≡ by_numbers k v
-unfolding by_numbers
-numbers_unread none v ns w e = refl
-numbers_unread (some k) v ns w e = sym (w.unread e k)
 
 -- 1 to 17 numbers
-pub numbers_read : (k : Option Key) (v ns : List ℕ) {n : ℕ} → ReadsNumbers v n ns → (n ≡ 0 → ⊥) → max_numbers ≤ length ns →
-    by_known k (take n ns) ≡ by_numbers k v
-unfolding by_numbers by_known at_most_17
-numbers_read none v ns w e h = refl
-numbers_read (some k) v ns {n} w e h =
-    let m = w.most in
-    let l = length-take-le n ns (omega arith) in
-    sym (ap (at_most_17 k) (w.read e) ∙ rw (le-leb (length (take n ns)) 17 (omega arith)))
+pub numbers_read : (k : Key) (v ns : List ℕ) → Read v ns → at_most_17 k (numbers (parts comma v)) ≡ by_key k ns
+unfolding at_most_17
+numbers_read k v ns w = let few = w.most in ap (at_most_17 k) w.is ∙ rw (le-leb (length ns) 17 (omega arith))

@@ -1,4 +1,5 @@
 -- The lines that change what the session keeps beside the tables.
+use Rattle.std.specs.Prelude.{Ok}
 use Rattle.shinri_core.proofs.Kit.{ℕ, suc, ◌≤◌, ◌<◌, ◌≡◌, refl, sym, ap, ap₂, ◌∙◌, subst, subst⁻¹, Bool, true, false, not, true≢false, List, arith, lt-leb, ltb, ltb-true, ltb-false, not-false}
 use borrow.Author.Tests.{not-true, lt-ltb, le-ltb}
 use Rattle.shinri_core.specs.Limits.{max_levels}
@@ -17,12 +18,12 @@ use Rattle.session.specs.Answer as Answer
 use Rattle.session.specs.Session.{before_close, after_close, inhabited, popped, pop_to, questions, perform, done}
 use Rattle.session.specs.declared.answer.Refusal as GivenRefusal
 use Rattle.session.specs.declared.answer.Answer as Given
-use Rattle.session.specs.Memory.Answers.{refusal_meaning, answer_meaning}
+use Rattle.session.specs.Memory.Answers.{LineAnswer, refusal_meaning, answer_meaning}
 use Rattle.session.specs.Memory.Sessions.{Beside, beside, session, SessionSound, Answers, AnswersClose, AnswersLevels, LevelsSound}
 use Rattle.session.proofs.Memory.Answering.{Refused, engine_changes, no_here, yes_here, yes_last, unfit_level, refuses, no_room, accepts}
 
 -- what fits the tables, as the code has it
-pub as_beside : {k : Command} {c e s : List ℕ} {m : Beside} {a : Given.Answer} {c' e' s' : List ℕ} {m' : Beside} {o : List ℕ} →
+pub as_beside : {k : Command} {c e s : List ℕ} {m : Beside} {a : LineAnswer} {c' e' s' : List ℕ} {m' : Beside} {o : List ℕ} →
     Answers k c e s m a c' e' s' m' o → Answers k c e s m a c' e' s' (beside e' m'.marks.counts m'.closed) o
 as_beside {k} {c} {e} {s} {m} {a} {c'} {e'} {s'} {m'} {o} A =
     subst (λ (l : ℕ). Answers k c e s m a c' e' s' (record {
@@ -48,7 +49,7 @@ module _ {c : List ℕ} {closed : Bool} where
       refuses o z GivenRefusal.TheVariants.NotGrounded (yes_here _ _ (ap not h) ∙ no_here _ _ (sym g ∙ not-true b w))
 
   pub close_done : {b : Bool} → closed ≡ false → b ≡ all_grounded (context c) → not b ≡ false →
-      AnswersClose c closed Given.TheVariants.Ok true
+      AnswersClose c closed (Ok Given.TheVariants.Ok) true
   unfolding questions before_close inhabited session state_with perform answer_meaning
   close_done {b} h g w e s n o z =
       let z' : SessionSound c e s (beside e n true) =
@@ -71,7 +72,7 @@ module _ {e s n : List ℕ} {closed : Bool} where
       (unfit_level (with_level (session c e s (beside e n closed)).state (suc (level e))) (lt-leb (suc (level e)) max_levels (omega arith)))
 
   pub push_done : {e' : List ℕ} {l : ℕ} {m : TesterMarks} → not closed ≡ false → l ≡ level e → Engine e' (merges e) (suc (level e)) →
-      Opened s (record { levels = l; counts = n }) m → AnswersLevels Push e s n closed Given.TheVariants.Ok e' s m.counts
+      Opened s (record { levels = l; counts = n }) m → AnswersLevels Push e s n closed (Ok Given.TheVariants.Ok) e' s m.counts
   unfolding questions after_close session state_with dt_with perform done with_level answer_meaning
   push_done {e'} {l} {m} h q E opened c o z =
       let later = not-false closed h in
@@ -137,7 +138,7 @@ module _ {e s e' s' : List ℕ} {m : Beside} {n : TesterMarks} {to : ℕ} (P : P
       ap (λ (w : TesterMarks). w.levels) (Q.above (omega arith)).1 ∙ z.levels ∙ sym (ap level (P.unchanged l)))
 
   pop_open : (o : List ℕ) → m.closed ≡ true →
-      Answers (Pop to) c e s m Given.TheVariants.Ok c e' s' (record { marks = n; closed = m.closed }) o
+      Answers (Pop to) c e s m (Ok Given.TheVariants.Ok) c e' s' (record { marks = n; closed = m.closed }) o
   unfolding questions after_close session perform done answer_meaning
   pop_open o later =
       let is : popped_state ≡ pop_to (state c e s lv) to =
@@ -153,7 +154,7 @@ module _ {e s e' s' : List ℕ} {m : Beside} {n : TesterMarks} {to : ℕ} (P : P
 
 pub pop_done : {e s n e' s' : List ℕ} {closed : Bool} {l : ℕ} {m : TesterMarks} {to : ℕ} → not closed ≡ false → l ≡ level e →
     Pops e e' to → Popped s (record { levels = l; counts = n }) to s' m →
-    AnswersLevels (Pop to) e s n closed Given.TheVariants.Ok e' s' m.counts
+    AnswersLevels (Pop to) e s n closed (Ok Given.TheVariants.Ok) e' s' m.counts
 pop_done {s = s} {n} {s' = s'} {closed} {m = m} {to} h q P popped c o z =
     let Q = subst (λ (x : ℕ). Popped s (record { levels = x; counts = n }) to s' m) q popped in
     as_beside (pop_open P Q c z o (not-false closed h))

@@ -1,10 +1,11 @@
 -- The lines that make terms.
+use Rattle.std.specs.Prelude.{Result, Ok, Err}
 use Rattle.shinri_core.proofs.Kit.{ℕ, zero, suc, ◌<◌, ◌≡◌, refl, sym, ap, ◌∙◌, subst⁻¹, Bool, true, false, not, true≢false, List, [], ◌∷◌, map, none, inl, inr, arith, length, eqb, eqb-true, ltb, ltb-true, not-false}
 use borrow.Author.Tests.{not-true}
 use Rattle.shinri_core.specs.Term.{Op, Eq, Uninterpreted}
 use Rattle.shinri_core.specs.Context.{symbol, sort_of, mk_app, mk_eq, terms_fit}
 use Rattle.shinri_core.specs.Formed.{Formed, Agrees, Extends}
-use Rattle.shinri_core.specs.declared.context.Made as Made
+use Rattle.shinri_core.specs.declared.limits.NoRoom.{NoRoom}
 use Rattle.shinri_core.specs.declared.ids.TermId.{TermId}
 use Rattle.shinri_core.specs.Memory.Codes.{made_answer, made_context, MkApp}
 use Rattle.shinri_core.specs.Memory.Table.{context, ContextSound, AllBelow, MayApply, MayEquate}
@@ -19,7 +20,7 @@ use Rattle.session.specs.Session as Session
 use Rattle.session.specs.Session.{after_close, exist, agree, symbol_exists, term_exists, questions, first_no, perform, done, numbered, Performed}
 use Rattle.session.specs.declared.answer.Refusal as GivenRefusal
 use Rattle.session.specs.declared.answer.Answer as Given
-use Rattle.session.specs.Memory.Answers.{refusal_meaning, answer_meaning}
+use Rattle.session.specs.Memory.Answers.{LineAnswer, refusal_meaning, answer_meaning}
 use Rattle.session.specs.Memory.Questions.{app_exists, two_exist, sorts_agree, may_equate, NamesApp, NamesTwo}
 use Rattle.session.specs.Memory.Sessions.{Beside, session, SessionSound, Answers, AnswersCore, numbered_answer}
 use Rattle.session.proofs.Memory.Questions.{and_left, and_right, below_all}
@@ -40,7 +41,7 @@ module _ (k : Command) (op : Op) (args : List ℕ) {c e s : List ℕ} {m : Besid
     (terms : AllBelow (length (context c).terms) args) (agrees : Agrees (context c) op args) where
   made_fits : {c' : List ℕ} {t : ℕ} → ContextSound c' → context c' ≡ (mk_app (context c) op args).context →
       t ≡ (mk_app (context c) op args).id →
-      Answers k c e s m (Given.TheVariants.TermIs (record { 0 = t })) c' e s m o
+      Answers k c e s m (Ok (Given.TheVariants.TermIs (record { 0 = t }))) c' e s m o
   unfolding numbered done with_terms session state_with answer_meaning
   made_fits {c'} sound v i =
       let F = mk_app_formed (context c) op args z.state.formed (below_members _ args terms) agrees in
@@ -54,19 +55,19 @@ module _ (k : Command) (op : Op) (args : List ℕ) {c e s : List ℕ} {m : Besid
       accepts o z tt asked_all z' (does ∙ rw (v, i))
 
   unmade : {c' : List ℕ} → c' ≡ c → terms_fit (mk_app (context c) op args).context ≡ false →
-      Answers k c e s m (Given.TheVariants.Refused GivenRefusal.TheVariants.NoRoom) c' e s m o
+      Answers k c e s m (Err GivenRefusal.TheVariants.NoRoom) c' e s m o
   unfolding numbered done with_terms
   unmade same f =
-      subst⁻¹ (λ (t : List ℕ). Answers k c e s m (Given.TheVariants.Refused GivenRefusal.TheVariants.NoRoom) t e s m o) same
+      subst⁻¹ (λ (t : List ℕ). Answers k c e s m (Err GivenRefusal.TheVariants.NoRoom) t e s m o) same
       (no_room o z asked_all
       (unfit_terms (perform (session c e s m) k).session.state (ap (λ (p : Performed). terms_fit p.session.state.terms) does ∙ f)))
 
-  pub made_answers : {c' : List ℕ} {r : Made.Made} {a : Given.Answer} → MkApp c op args r c' → a ≡ numbered_answer r →
+  pub made_answers : {c' : List ℕ} {r : Result TermId NoRoom} {a : LineAnswer} → MkApp c op args r c' → a ≡ numbered_answer r →
       Answers k c e s m a c' e s m o
   unfolding numbered_answer made_answer made_context
   made_answers {c'} d q =
       let is = q ∙ ap numbered_answer d.answer in
-      let as' : Given.Answer → Type 0 = λ x. Answers k c e s m x c' e s m o in
+      let as' : LineAnswer → Type 0 = λ x. Answers k c e s m x c' e s m o in
       by_test (terms_fit (mk_app (context c) op args).context) (λ f. subst⁻¹ as' (is ∙ rw f) (made_fits d.sound (d.view ∙ rw f) refl))
       (λ f. subst⁻¹ as' (is ∙ rw f) (unmade (d.unchanged f) f))
 
@@ -106,7 +107,7 @@ module _ {c : List ℕ} {closed : Bool} {f : ℕ} {args : List ℕ} where
         refuses o z GivenRefusal.TheVariants.Disagreeing
         (yes_here _ _ (q ∙ not-false closed h) ∙ yes_here _ _ (sym p ∙ not-false r n) ∙ no_here _ _ (sym d ∙ not-true t k))
 
-    pub term_made : {c' : List ℕ} {b : Made.Made} {a : Given.Answer} → not t ≡ false → MkApp c (Uninterpreted f) args b c' →
+    pub term_made : {c' : List ℕ} {b : Result TermId NoRoom} {a : LineAnswer} → not t ≡ false → MkApp c (Uninterpreted f) args b c' →
         a ≡ numbered_answer b → AnswersCore closed (MkTerm f args) c a c'
     unfolding questions after_close exist agree symbol_exists term_exists session state_with perform
     term_made k D a e s o m z q =
@@ -149,7 +150,7 @@ module _ {c : List ℕ} {closed : Bool} {t u : ℕ} where
         refuses o z GivenRefusal.TheVariants.Disagreeing
         (yes_here _ _ (q ∙ not-false closed h) ∙ yes_here _ _ (sym p ∙ not-false r n) ∙ no_here _ _ (sym d ∙ not-true b k))
 
-    pub eq_made : {c' : List ℕ} {g : Made.Made} {a : Given.Answer} → not b ≡ false → MkApp c Eq (t ∷ u ∷ []) g c' →
+    pub eq_made : {c' : List ℕ} {g : Result TermId NoRoom} {a : LineAnswer} → not b ≡ false → MkApp c Eq (t ∷ u ∷ []) g c' →
         a ≡ numbered_answer g → AnswersCore closed (MkEq t u) c a c'
     unfolding questions after_close exist agree Session.one_sort term_exists session state_with perform mk_eq
     eq_made k D a e s o m z q =
@@ -165,10 +166,10 @@ module _ {c : List ℕ} {closed : Bool} {t u : ℕ} where
 
 -- ---- the answer
 
-pub numbered_at : {m : Made.Made} {x : TermId} → m ≡ Made.TheVariants.At x → Given.TheVariants.TermIs x ≡ numbered_answer m
+pub numbered_at : {m : Result TermId NoRoom} {x : TermId} → m ≡ Ok x → Ok (Given.TheVariants.TermIs x) ≡ numbered_answer m
 unfolding numbered_answer
 numbered_at e = sym (ap numbered_answer e)
 
-pub numbered_full : {m : Made.Made} → m ≡ Made.TheVariants.NoRoom → Refused GivenRefusal.TheVariants.NoRoom ≡ numbered_answer m
+pub numbered_full : {m : Result TermId NoRoom} {n : NoRoom} → m ≡ Err n → Refused GivenRefusal.TheVariants.NoRoom ≡ numbered_answer m
 unfolding numbered_answer
 numbered_full e = sym (ap numbered_answer e)

@@ -1,4 +1,5 @@
 -- The lines that merge: of the tables only the engine's changes, and only its merges.
+use Rattle.std.specs.Prelude.{Ok}
 use Rattle.shinri_core.proofs.Kit.{ℕ, zero, suc, ◌≤◌, ◌<◌, ◌≡◌, refl, sym, ap, ap₂, ◌∙◌, subst, subst⁻¹, Bool, true, false, not, true≢false, List, [], ◌∷◌, none, inl, inr, arith, length, get_or, leb→le, not-false, T}
 use borrow.Author.Tests.{not-true}
 use Rattle.shinri_core.specs.Limits.{max_terms, max_pairs}
@@ -37,7 +38,7 @@ use Rattle.session.proofs.Memory.Making.{two_named}
 module _ (k : Command) (x y : ℕ) (j : EqJust) {c e s e' : List ℕ} {m : Beside} (o : List ℕ) (z : SessionSound c e s m)
     (later : m.closed ≡ true) (asked_all : first_no (questions (session c e s m) k) ≡ none)
     (does : perform (session c e s m) k ≡ merged (session c e s m) x y j) (M : Merges e e' x y j) where
-  pub merge_answers : Answers k c e s m Given.TheVariants.Ok c e' s m o
+  pub merge_answers : Answers k c e s m (Ok Given.TheVariants.Ok) c e' s m o
   unfolding merged done with_eq session state_with answer_meaning
   merge_answers =
       let g = M.engine in
@@ -92,7 +93,7 @@ module _ {c e : List ℕ} {closed : Bool} {t u h g : ℕ} where
 
     pub iface_merged : {e' : List ℕ} (j : TheoryJust) → j.theory ≡ h → j.tag ≡ g → not b ≡ false →
         Merges e e' t u (just_meaning (GivenJust.TheVariants.Interface j)) →
-        AnswersEngine closed (Iface t u h g) c e Given.TheVariants.Ok e'
+        AnswersEngine closed (Iface t u h g) c e (Ok Given.TheVariants.Ok) e'
     unfolding questions after_close exist agree Session.one_sort term_exists session state_with perform just_meaning
     iface_merged {e'} j i₁ i₂ k M s o m z q =
         merge_answers (Iface t u h g) t u (Interface h g) o z (q ∙ not-false closed w)
@@ -133,7 +134,7 @@ module _ (c e : List ℕ) (closed : Bool) (t u : ℕ) where
           (ap₂ (λ (as' bs : List ℕ). pairs_fit e t u as' bs) (sym l) (sym v) ∙ sym g ∙ not-true f a))
 
       pub cong_merged : {e' : List ℕ} → Merges e e' t u (Congruence (zip xs ys)) →
-          AnswersEngine closed (Cong t u) c e Given.TheVariants.Ok e'
+          AnswersEngine closed (Cong t u) c e (Ok Given.TheVariants.Ok) e'
       unfolding perform argument_pairs session state_with
       cong_merged {e'} M s o m z q =
           merge_answers (Cong t u) t u (Congruence (zip (children (context c) t) (children (context c) u))) o z (q ∙ not-false closed w)
@@ -215,7 +216,7 @@ module _ {c e s : List ℕ} {closed : Bool} {l : ℕ} where
         (yes_here _ _ (q ∙ not-false closed w) ∙ yes_here _ _ (sym p ∙ not-false r n) ∙ no_here _ _ (sym d ∙ not-true b k))
 
     pub equate_merged : {e' : List ℕ} → not b ≡ false → MergesSides c e s l e' →
-        AnswersEquate closed (Equate l) c e s Given.TheVariants.Ok e'
+        AnswersEquate closed (Equate l) c e s (Ok Given.TheVariants.Ok) e'
     unfolding questions after_close exist Session.equation Session.is_equation Session.var_exists atom_of session state_with perform merge_sides
     equate_merged k M o m z q =
         merge_answers (Equate l) M.left M.right (Asserted l) o z (q ∙ not-false closed w)

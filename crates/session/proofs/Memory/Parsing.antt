@@ -1,12 +1,14 @@
 -- Decimal numbers: digits read one by one, and the numbers of a value part by part.
 use Rattle.shinri_core.proofs.Kit.{ℕ, suc, ◌+◌, ◌-◌, ◌*◌, ◌≤◌, ◌<◌, ◌≡◌, refl, sym, ap, ap₂, ◌∙◌, Bool, true, false, cond, ◌&&◌, false≢true, List, [], ◌∷◌, ◌++◌, append_assoc, append-nil, ◌⊎◌, inl, inr, Option, none, some, add-one, arith, dec_le, le-leb, lt-leb, leb, length, get_or, take, drop, set, length-set, length-append, length-take-le, drop-cons, drop_of_length-le}
+use Rattle.std.specs.Char.{IsAsciiDigit, IsNotAsciiDigit}
 use Rattle.shinri_core.specs.Lists.{every}
+use Rattle.shinri_core.proofs.Lists.{and_no}
 use lib.Seq.{take-suc-set}
 use Rattle.session.specs.Text.{comma, parts, is_digit, value, well_written, number}
 use Rattle.session.specs.Line.{Key, add_number, numbers, at_most_17}
 use Rattle.session.specs.Memory.Lines.{FirstByte}
 use Rattle.session.specs.Memory.Commands.{max_numbers}
-use Rattle.session.specs.Memory.Numbers.{value_from, digits_from, ReadsNumbers}
+use Rattle.session.specs.Memory.Numbers.{value_from, digits_from, Unread, Read}
 use Rattle.session.proofs.Memory.Splitting.{some_part, first_part, part_from, last_from}
 
 -- ---- digits
@@ -19,6 +21,15 @@ digit_range d e = go (dec_le 48 d) (dec_le d 57)
     go (yes l) (yes h) = (l, h)
     go (yes l) (no h) = absurd (false≢true (sym (ap₂ ◌&&◌ (le-leb 48 d l) (lt-leb d 57 (omega arith))) ∙ e))
     go (no l) h = absurd (false≢true (sym (ap (λ (b : Bool). b && leb d 57) (lt-leb 48 d (omega arith))) ∙ e))
+
+pub ascii_digit : (d : ℕ) → IsAsciiDigit d → is_digit d ≡ true
+unfolding is_digit
+ascii_digit d (l, h) = rw (le-leb 48 d l, le-leb d 57 h)
+
+pub other_ascii : (d : ℕ) → IsNotAsciiDigit d → is_digit d ≡ false
+unfolding is_digit
+other_ascii d (inl h) = rw (lt-leb 48 d h)
+other_ascii d (inr h) = rw (lt-leb d 57 h) (and_no (leb 48 d))
 
 digits_good : (n d : ℕ) (ds : List ℕ) → is_digit d ≡ true → digits_from n (d ∷ ds) ≡ digits_from (n * 10 + (d - 48)) ds
 unfolding digits_from value_from every
@@ -65,11 +76,11 @@ module _ {ds : List ℕ} {n i : ℕ} (w : Digits ds n i) (h : i < length ds) whe
   this_first : digits_from n (d ∷ drop (suc i) ds) ≡ digits_from 0 ds
   this_first = ap (digits_from n) (sym (drop-cons ds i 0 h)) ∙ w.rest
 
-  pub digits_next : is_digit d ≡ true → m ≤ 4294967295 → Digits ds m (i + 1)
-  digits_next e l = record {
+  pub digits_next : is_digit d ≡ true → (v : ℕ) → v ≡ m → v ≤ 4294967295 → Digits ds v (i + 1)
+  digits_next e v q l = record {
     within = omega arith;
     small = l;
-    rest = ap (λ (j : ℕ). digits_from m (drop j ds)) (add-one i) ∙ sym (digits_good n d (drop (suc i) ds) e) ∙ this_first;
+    rest = rw q (ap (λ (j : ℕ). digits_from m (drop j ds)) (add-one i) ∙ sym (digits_good n d (drop (suc i) ds) e) ∙ this_first);
   }
 
   pub digits_other : is_digit d ≡ false → none ≡ digits_from 0 ds
@@ -162,17 +173,12 @@ pub record Taken (v start ns : List ℕ) (from n : ℕ) : Type 0 where
 pub taken_first : (v ns : List ℕ) → Taken v ns ns 0 0
 taken_first v ns = record { within = omega arith; most = omega arith; same = refl; rest = nothing_before (numbers (parts comma v)) }
 
-pub taken_over : (v start ns : List ℕ) (from n : ℕ) → Taken v start ns from n → max_numbers ≤ length start → max_numbers ≤ n →
-    ReadsNumbers v 0 ns
+pub taken_over : {v start ns : List ℕ} {from n : ℕ} → Taken v start ns from n → max_numbers ≤ length start → max_numbers ≤ n → Unread v
 unfolding with_behind at_most_17
-taken_over v start ns from n w l h = record {
-  most = omega arith;
-  unread = λ _ k.
-      let (p, ps, e) = some_part comma (drop from v) in
-      ap (at_most_17 k) (w.rest ∙ ap (λ (q : List (List ℕ)). with_behind (take n ns) (numbers q)) e)
-      ∙ go k (numbers (p ∷ ps)) (some_number p ps);
-  read = λ f. absurd (f refl);
-}
+taken_over {v} {start} {ns} {from} {n} w l h k =
+    let (p, ps, e) = some_part comma (drop from v) in
+    ap (at_most_17 k) (w.rest ∙ ap (λ (q : List (List ℕ)). with_behind (take n ns) (numbers q)) e)
+    ∙ go k (numbers (p ∷ ps)) (some_number p ps)
   where
     go : (k : Key) (o : Option (List ℕ)) → NoneOrSome o → at_most_17 k (with_behind (take n ns) o) ≡ none
     go k o (inl e) = rw e
@@ -192,11 +198,9 @@ module _ {v start ns : List ℕ} {from n end : ℕ} (w : Taken v start ns from n
       w.rest ∙ ap (λ (qs : List (List ℕ)). with_behind (take n ns) (numbers qs)) q
       ∙ ap (λ (x : Option ℕ). with_behind (take n ns) (add_number x (numbers ps))) (sym e)
 
-  pub taken_bad : none ≡ number (take (end - from) (drop from v)) → ReadsNumbers v 0 ns
+  pub taken_bad : none ≡ number (take (end - from) (drop from v)) → Unread v
   unfolding with_behind at_most_17 add_number
-  taken_bad e =
-      let (ps, q) = first_part comma v from end f in
-      record { most = omega arith; unread = λ _ k. ap (at_most_17 k) (part_read none ps e q); read = λ g. absurd (g refl) }
+  taken_bad e k = let (ps, q) = first_part comma v from end f in ap (at_most_17 k) (part_read none ps e q)
 
   module _ (l : max_numbers ≤ length start) (h : n < 17) {x : ℕ} (e : some x ≡ number (take (end - from) (drop from v))) where
     one_more : take n ns ++ (x ∷ []) ≡ take (n + 1) (set ns n x)
@@ -207,15 +211,14 @@ module _ {v start ns : List ℕ} {from n end : ℕ} (w : Taken v start ns from n
     with_one ps q =
         part_read (some x) ps e q ∙ one_before (take n ns) x (numbers ps) ∙ ap (λ (xs : List ℕ). with_behind xs (numbers ps)) one_more
 
-    pub taken_last : end ≡ length v → ReadsNumbers v (n + 1) (set ns n x)
+    pub taken_last : end ≡ length v → Read v (take (n + 1) (set ns n x))
     unfolding with_behind numbers
     taken_last g = record {
-      most = omega arith;
-      unread = λ z. absurd (omega arith);
-      read = λ _. with_one [] (last_from comma v from end f g) ∙ ap some (append-nil (take (n + 1) (set ns n x)));
+      most = let s = w.same in let a = length-set ns n x in let t = length-take-le (n + 1) (set ns n x) (omega arith) in omega arith;
+      is = with_one [] (last_from comma v from end f g) ∙ ap some (append-nil (take (n + 1) (set ns n x)));
     }
 
-    pub taken_next : (end ≡ length v → ⊥) → Taken v start (set ns n x) (end + 1) (n + 1)
+    pub taken_next : end < length v → Taken v start (set ns n x) (end + 1) (n + 1)
     taken_next g =
         let b = f.within in
         record {

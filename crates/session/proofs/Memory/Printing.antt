@@ -1,10 +1,10 @@
 -- Texts written one behind the other are one text, and so are those of a list.
-use Rattle.shinri_core.proofs.Kit.{ℕ, zero, suc, ◌+◌, ◌≤◌, ◌<◌, ◌≡◌, refl, sym, subst, subst⁻¹, ap, ◌∙◌, List, [], ◌∷◌, ◌++◌, map, map-append, append_assoc, add-zero, arith, length, get_or, take, set, length-append, length-map, sets, length-sets, length-take-le, take_all}
+use Rattle.shinri_core.proofs.Kit.{ℕ, zero, suc, ◌+◌, ◌-◌, ◌≤◌, ◌<◌, ◌≡◌, refl, sym, subst, subst⁻¹, ap, ◌∙◌, List, [], ◌∷◌, ◌++◌, append_assoc, add-zero, arith, length, get_or, take, drop, set, length-append, sets, length-sets, length-take-le, take_all}
 use lib.Seq.{take-suc, take-nil}
+use borrow.Rule.Slice.PartMut.{put_mid, Post-is}
+use Rattle.std.proofs.lemmas.List.Edits.{sets-eq}
 use Rattle.session.specs.Text.{comma, joined}
-use Rattle.session.specs.Answer.{answer_text}
-use Rattle.session.specs.declared.answer.Answer.{Answer}
-use Rattle.session.specs.Memory.Answers.{answer_meaning, Printable, Written, Room, parting}
+use Rattle.session.specs.Memory.Answers.{Written, Room, parting}
 
 -- ---- one text behind another
 
@@ -16,6 +16,16 @@ sets_more b i (x ∷ xs) ys =
 
 pub written_nothing : (b : List ℕ) (start : ℕ) → start ≤ length b → Written b start [] b start
 written_nothing b start h = record { bytes = refl; ends = omega arith; within = h }
+
+-- a text in the place of as many bytes
+pub text_put : (b : List ℕ) (start : ℕ) (text : List ℕ) → Room b start text →
+    Written b start text (put_mid start (start + length text - start) b text) (start + length text)
+text_put b start text h = record {
+  bytes = ap (λ (l : List ℕ). take start b ++ (text ++ l)) (Post-is start (start + length text) b (omega arith))
+      ∙ sym (append_assoc (take start b) text (drop (start + length text) b)) ∙ sym (sets-eq text b start h);
+  ends = refl;
+  within = h;
+}
 
 module _ {b : List ℕ} {start : ℕ} {xs b' : List ℕ} {r : ℕ} (w : Written b start xs b' r) where
   pub written_length : length b' ≡ length b
@@ -52,78 +62,64 @@ joined_last (x ∷ []) t = sym (append_assoc x (comma ∷ []) t)
 joined_last (x ∷ y ∷ ys) t =
     rw (joined_last (y ∷ ys) t) (simp append_assoc)
 
-module _ {A : Type 0} (text : A → List ℕ) where
-  joined_part : (xs : List A) (i : ℕ) → length (joined comma (map text (take i xs))) ≤ length (joined comma (map text xs))
-  unfolding joined
-  joined_part xs zero = omega arith
-  joined_part [] (suc i) = omega arith
-  joined_part (x ∷ []) (suc i) = rw (take-nil i) (omega arith)
-  joined_part (x ∷ y ∷ ys) (suc zero) = rw length-append (omega arith)
-  joined_part (x ∷ y ∷ ys) (suc (suc i)) = let h = joined_part (y ∷ ys) (suc i) in simp length-append (omega arith)
+joined_part : (ts : List (List ℕ)) (i : ℕ) → length (joined comma (take i ts)) ≤ length (joined comma ts)
+unfolding joined
+joined_part ts zero = omega arith
+joined_part [] (suc i) = omega arith
+joined_part (x ∷ []) (suc i) = rw (take-nil i) (omega arith)
+joined_part (x ∷ y ∷ ys) (suc zero) = rw length-append (omega arith)
+joined_part (x ∷ y ∷ ys) (suc (suc i)) = let h = joined_part (y ∷ ys) (suc i) in simp length-append (omega arith)
 
-  pub joined_more : (xs : List A) (i : ℕ) (d : A) → i < length xs →
-      joined comma (map text (take (suc i) xs)) ≡ joined comma (map text (take i xs)) ++ parting i ++ text (get_or xs i d)
-  joined_more xs i d h =
-      let n : length (map text (take i xs)) ≡ i = length-map (take i xs) text ∙ length-take-le i xs (omega arith) in
-      rw (take-suc xs i d h, map-append, joined_last, n)
+pub joined_more : (ts : List (List ℕ)) (i : ℕ) → i < length ts →
+    joined comma (take (suc i) ts) ≡ joined comma (take i ts) ++ parting i ++ get_or ts i []
+joined_more ts i h =
+    let n : length (take i ts) ≡ i = length-take-le i ts (omega arith) in
+    rw (take-suc ts i [] h, joined_last, n)
 
--- the first i of a list are written, and there is room for all
-pub record Listing {A : Type 0} (text : A → List ℕ) (xs : List A) (b₀ : List ℕ) (start : ℕ) (b : List ℕ) (r i : ℕ) : Type 0 where
-  pub room : Room b₀ start (joined comma (map text xs))
-  pub within : i ≤ length xs
-  pub done : Written b₀ start (joined comma (map text (take i xs))) b r
+-- the first i of a list of texts are written, and there is room for all
+pub record Listing (ts : List (List ℕ)) (b₀ : List ℕ) (start : ℕ) (b : List ℕ) (r i : ℕ) : Type 0 where
+  pub room : Room b₀ start (joined comma ts)
+  pub within : i ≤ length ts
+  pub done : Written b₀ start (joined comma (take i ts)) b r
 
-module _ {A : Type 0} {text : A → List ℕ} {xs : List A} {b₀ : List ℕ} {start : ℕ} where
-  pub list_first : Room b₀ start (joined comma (map text xs)) → Listing text xs b₀ start b₀ start 0
+module _ {ts : List (List ℕ)} {b₀ : List ℕ} {start : ℕ} where
+  pub list_first : Room b₀ start (joined comma ts) → Listing ts b₀ start b₀ start 0
   unfolding joined
   list_first h = record { room = h; within = omega arith; done = written_nothing b₀ start (omega arith) }
 
-  module _ {b : List ℕ} {r i : ℕ} (l : Listing text xs b₀ start b r i) where
+  module _ {b : List ℕ} {r i : ℕ} (l : Listing ts b₀ start b r i) where
     -- the next text has room behind what parts it from those before
-    fits : (d : A) → i < length xs → r + length (parting i) + length (text (get_or xs i d)) ≤ length b
-    fits d h =
-        let all = joined_part text xs (suc i) in
-        let more = ap length (joined_more text xs i d h) in
-        let two = length-append (joined comma (map text (take i xs)) ++ parting i) (text (get_or xs i d)) in
-        let one = length-append (joined comma (map text (take i xs))) (parting i) in
+    fits : i < length ts → r + length (parting i) + length (get_or ts i []) ≤ length b
+    fits h =
+        let all = joined_part ts (suc i) in
+        let more = ap length (joined_more ts i h) in
+        let two = length-append (joined comma (take i ts) ++ parting i) (get_or ts i []) in
+        let one = length-append (joined comma (take i ts)) (parting i) in
         let kept = written_length l.done in
         let ends = l.done.ends in
         let room = l.room in
         omega arith
 
-    pub parting_fits : (d : A) → i < length xs → Room b r (parting i)
-    parting_fits d h = let f = fits d h in omega arith
+    pub parting_fits : i < length ts → Room b r (parting i)
+    parting_fits h = let f = fits h in omega arith
 
-    module _ {b' : List ℕ} {r' : ℕ} (w : Written b r (parting i) b' r') (d : A) {x : A} (h : i < length xs) (e : x ≡ get_or xs i d) where
-      pub text_fits : Room b' r' (text x)
+    module _ {b' : List ℕ} {r' : ℕ} (w : Written b r (parting i) b' r') {text : List ℕ} (h : i < length ts) (e : text ≡ get_or ts i []) where
+      pub text_fits : Room b' r' text
       text_fits =
-          let f = fits d h in
-          let same = ap (λ (y : A). length (text y)) e in
+          let f = fits h in
+          let same = ap length e in
           let kept = written_length w in
           let ends = w.ends in
           omega arith
 
-      pub list_next : {b'' : List ℕ} {r'' : ℕ} → Written b' r' (text x) b'' r'' → Listing text xs b₀ start b'' r'' (i + 1)
+      pub list_next : {b'' : List ℕ} {r'' : ℕ} → Written b' r' text b'' r'' → Listing ts b₀ start b'' r'' (i + 1)
       list_next v =
           let n : i + 1 ≡ suc i = omega arith in
           record {
             room = l.room;
             within = omega arith;
-            done = written_as (written_more (written_more l.done w) v) (rw (n, joined_more text xs i d h, e));
+            done = written_as (written_more (written_more l.done w) v) (rw (n, joined_more ts i h, e));
           }
 
-    pub list_done : length xs ≤ i → Written b₀ start (joined comma (map text xs)) b r
-    list_done h = written_as l.done (rw (take_all i xs h))
-
--- ---- an answer
-
-module _ {a k : Answer} (o : List ℕ) (e : a ≡ k) where
-  pub printable_as : Printable a o → Printable k o
-  printable_as = subst (λ (x : Answer). Printable x o) e
-
-  pub length_as : length (answer_text (answer_meaning a o)) ≡ length (answer_text (answer_meaning k o))
-  length_as = ap (λ (x : Answer). length (answer_text (answer_meaning x o))) e
-
-  pub answer_as : {b b' : List ℕ} {start r : ℕ} → Written b start (answer_text (answer_meaning k o)) b' r →
-      Written b start (answer_text (answer_meaning a o)) b' r
-  answer_as {b} {b'} {start} {r} = subst⁻¹ (λ (x : Answer). Written b start (answer_text (answer_meaning x o)) b' r) e
+    pub list_done : length ts ≤ i → Written b₀ start (joined comma ts) b r
+    list_done h = written_as l.done (rw (take_all i ts h))

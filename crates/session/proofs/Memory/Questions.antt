@@ -1,5 +1,7 @@
 -- What the loops and tests of the questions say: lists by their places, operations, the pairs of a congruence.
-use Rattle.shinri_core.proofs.Kit.{ℕ, zero, suc, ◌+◌, ◌-◌, ◌≤◌, ◌<◌, ◌≡◌, refl, sym, ap, ap₂, ◌∙◌, subst⁻¹, Bool, true, false, cond, not, ◌&&◌, false≢true, true≢false, List, [], ◌∷◌, map, arith, length, get_or, length-map, eqb, ltb, leb, le-ltb, ne_eqb, eq-eqb, lt-leb, le-leb, ltb-true, eqb-true, below_more, dec_le, not-false, inl, inr}
+use Rattle.std.specs.Prelude.{◌↔◌, IsTrue, EachIndex, slice_index}
+use Rattle.std.proofs.lemmas.Bool.Decides.{same_from_decides}
+use Rattle.shinri_core.proofs.Kit.{ℕ, zero, suc, ◌+◌, ◌-◌, ◌≤◌, ◌<◌, ◌≡◌, refl, sym, ap, ap₂, ◌∙◌, subst⁻¹, Bool, true, false, cond, not, ◌&&◌, false≢true, true≢false, List, [], ◌∷◌, map, arith, length, get_or, length-map, eqb, ltb, leb, lt-leb, le-leb, ltb-true, eqb-true, below_more, dec_le, not-false, ◌⊎◌, inl, inr, subst}
 use borrow.Author.Tests.{lt-ltb, not-true}
 use Rattle.shinri_core.specs.Limits.{max_terms, max_pairs}
 use Rattle.shinri_core.specs.Ids as Ids
@@ -8,7 +10,7 @@ use Rattle.shinri_core.specs.Term.{Op, Eq, Uninterpreted, same_op}
 use Rattle.shinri_core.specs.Context.{Context, symbol, term, children, sort_of}
 use Rattle.shinri_core.specs.Formed.{Formed, Agrees}
 use Rattle.shinri_core.specs.declared.term.Op as Op
-use Rattle.shinri_core.specs.declared.ids.SymbolId.{SymbolId}
+use Rattle.shinri_core.specs.contracts.term.OpPartialEq.TheImpl as OpEq
 use Rattle.shinri_core.specs.Memory.Codes.{op_meaning, OpAt}
 use Rattle.shinri_core.specs.Memory.Table.{context, ContextSound, AllBelow, HasParam}
 use Rattle.shinri_core.proofs.Lists.{same_list_not, same_list_same}
@@ -16,11 +18,11 @@ use Rattle.theory.specs.Types.{Congruence}
 use Rattle.theory.specs.EqEngine.{Merge, are_equal, merge, pairs_of, pairs_in_force}
 use Rattle.theory.specs.Atom.{Registered, is_registered, atom}
 use Rattle.theory.specs.Memory.Registry.{atoms}
-use Rattle.theory.specs.Memory.Table.{TwoNodes}
+use Rattle.theory.specs.Memory.Table.{merges, TwoNodes}
 use Rattle.theory.proofs.Memory.Joining.{zip_length}
 use Rattle.solver.specs.Memory.Table.{registry}
 use Rattle.solver.proofs.Memory.Asserting.{atom_within}
-use Rattle.session.specs.Memory.Questions.{all_below, NamesApp, NamesLit, NodePairs, PairsNamed}
+use Rattle.session.specs.Memory.Questions.{all_below, pairs_equal, NamesApp, NamesLit, NodePairs, PairsNamed}
 
 -- ---- lists by their places
 
@@ -47,37 +49,14 @@ module _ {A : Type 0} where
       not_no true h = refl
       not_no false h = absurd (h refl)
 
--- the numbers of a list up to i are below n
-pub record BelowTo (n : ℕ) (xs : List ℕ) (i : ℕ) : Type 0 where
-  pub within : i ≤ length xs
-  pub below : (k : ℕ) → k < i → get_or xs k 0 < n
-
-pub below_first : (n : ℕ) (xs : List ℕ) → BelowTo n xs 0
-below_first n xs = record { within = omega arith; below = λ k l. absurd (omega arith) }
-
-pub below_next : {n : ℕ} {xs : List ℕ} {i : ℕ} → BelowTo n xs i → i < length xs → get_or xs i 0 < n → BelowTo n xs (i + 1)
-below_next {n} {xs} {i} b l h =
-    record { within = omega arith; below = below_more (λ (k : ℕ). get_or xs k 0 < n) i (λ k m. b.below k m) h }
-
-pub below_done : {n : ℕ} {xs : List ℕ} {i : ℕ} → BelowTo n xs i → length xs ≤ i → true ≡ all_below n xs
-below_done {n} {xs} {i} b l =
-    sym (every_passes (λ x. ltb x n) 0 xs (λ k h. lt-ltb (get_or xs k 0) n (b.below k (omega arith))))
-
-pub below_not : (n : ℕ) (xs : List ℕ) (i : ℕ) → i < length xs → n ≤ get_or xs i 0 → false ≡ all_below n xs
-below_not n xs i l h = sym (every_fails (λ x. ltb x n) 0 xs i l (le-ltb (get_or xs i 0) n h))
-
 pub below_all : (n : ℕ) (xs : List ℕ) → all_below n xs ≡ true → AllBelow n xs
 below_all n xs e j l = ltb-true (get_or xs j 0) n (every_at (λ x. ltb x n) 0 xs e j l)
 
--- ---- two tests in a row
-
--- the first says no
-pub either_no : (r a b : Bool) → r ≡ a → not r ≡ true → false ≡ a && b
-either_no r a b e n = rw (sym e ∙ not-true r n)
-
--- the first says yes, so the second decides
-pub both_yes : (r q a b : Bool) → r ≡ a → not r ≡ false → q ≡ b → q ≡ a && b
-both_yes r q a b e n h = rw (sym e ∙ not-false r n) h
+-- a test that says yes just if each number of a list is below n
+pub below_each : (n : ℕ) (xs : List ℕ) (r : Bool) → IsTrue r ↔ EachIndex xs (λ k. slice_index xs k < n) → r ≡ all_below n xs
+below_each n xs r h =
+    same_from_decides r (all_below n xs) h
+    (below_all n xs, λ all. every_passes (λ x. ltb x n) 0 xs (λ k l. lt-ltb (get_or xs k 0) n (all k l)))
 
 pub and_left : (a b : Bool) → (a && b) ≡ true → a ≡ true
 and_left true b e = refl
@@ -136,99 +115,86 @@ sorts_differ cx ps xs i a b l p q h =
 
 -- ---- operations
 
-pub eq_is : {t : List ℕ} {x : ℕ} {r : Op.Op} → OpAt t x r → r ≡ Op.TheVariants.Eq → true ≡ same_op (term (context t) x).op Eq
+-- what `==` says of two
+told : (r q : Op.Op) → OpEq.eq-value.it r q ≡ same_op (op_meaning r) (op_meaning q)
 unfolding op_meaning same_op
-eq_is a e = sym (ap (λ (o : Op). same_op o Eq) (sym a.is ∙ ap op_meaning e))
+told Op.TheVariants.Eq Op.TheVariants.Eq = refl
+told Op.TheVariants.Eq (Op.TheVariants.Uninterpreted g) = refl
+told (Op.TheVariants.Uninterpreted f) Op.TheVariants.Eq = refl
+told (Op.TheVariants.Uninterpreted f) (Op.TheVariants.Uninterpreted g) = refl
 
-pub eq_is_not : {t : List ℕ} {x : ℕ} {r : Op.Op} {f : SymbolId} → OpAt t x r → r ≡ Op.TheVariants.Uninterpreted f →
-    false ≡ same_op (term (context t) x).op Eq
-unfolding op_meaning same_op
-eq_is_not a e = sym (ap (λ (o : Op). same_op o Eq) (sym a.is ∙ ap op_meaning e))
+module _ {t : List ℕ} {x : ℕ} {r : Op.Op} {b : Bool} (u : OpAt t x r) where
+  pub op_is_eq : b ≡ OpEq.eq-value.it r Op.TheVariants.Eq → b ≡ same_op (term (context t) x).op Eq
+  unfolding op_meaning
+  op_is_eq e = e ∙ told r Op.TheVariants.Eq ∙ ap (λ (o : Op). same_op o Eq) u.is
 
-pub applies_not : {t : List ℕ} {x : ℕ} (g : ℕ) {r : Op.Op} → OpAt t x r → r ≡ Op.TheVariants.Eq →
-    false ≡ same_op (Uninterpreted g) (term (context t) x).op
-unfolding op_meaning same_op
-applies_not g a e = sym (ap (same_op (Uninterpreted g)) (sym a.is ∙ ap op_meaning e))
-
-pub applies_by : {t : List ℕ} {x : ℕ} (g : ℕ) {r : Op.Op} {f : SymbolId} → OpAt t x r → r ≡ Op.TheVariants.Uninterpreted f →
-    eqb g f.0 ≡ same_op (Uninterpreted g) (term (context t) x).op
-unfolding op_meaning same_op
-applies_by g a e = sym (ap (same_op (Uninterpreted g)) (sym a.is ∙ ap op_meaning e))
-
-same_op_eq : (o : Op) → same_op o Eq ≡ same_op Eq o
-unfolding same_op
-same_op_eq Eq = refl
-same_op_eq (Uninterpreted f) = refl
-
-pub both_eq : {t : List ℕ} {x : ℕ} (y : ℕ) {r : Op.Op} {b : Bool} → OpAt t x r → r ≡ Op.TheVariants.Eq →
-    b ≡ same_op (term (context t) y).op Eq → b ≡ same_op (term (context t) x).op (term (context t) y).op
-unfolding op_meaning
-both_eq {t} {x} y a e h =
-    h ∙ same_op_eq (term (context t) y).op ∙ sym (ap (λ (o : Op). same_op o (term (context t) y).op) (sym a.is ∙ ap op_meaning e))
-
-pub both_apply : {t : List ℕ} {x : ℕ} (y : ℕ) {r : Op.Op} {f : SymbolId} {b : Bool} → OpAt t x r → r ≡ Op.TheVariants.Uninterpreted f →
-    b ≡ same_op (Uninterpreted f.0) (term (context t) y).op → b ≡ same_op (term (context t) x).op (term (context t) y).op
-unfolding op_meaning
-both_apply {t} {x} y a e h = h ∙ sym (ap (λ (o : Op). same_op o (term (context t) y).op) (sym a.is ∙ ap op_meaning e))
+  pub ops_are : {y : ℕ} {q : Op.Op} → OpAt t y q → b ≡ OpEq.eq-value.it r q → b ≡ same_op (term (context t) x).op (term (context t) y).op
+  ops_are {q = q} v e = e ∙ told r q ∙ ap₂ same_op u.is v.is
 
 -- ---- pairs
 
-module _ (q : ℕ × ℕ → Bool) where
-  zip_passes : (xs ys : List ℕ) → ((k : ℕ) → k < length xs → q (get_or xs k 0, get_or ys k 0) ≡ true) → length xs ≡ length ys →
-      every q (zip xs ys) ≡ true
-  unfolding every zip
-  zip_passes [] ys h l = refl
-  zip_passes (x ∷ xs) [] h l = refl
-  zip_passes (x ∷ xs) (y ∷ ys) h l = rw (h 0 (omega arith)) (zip_passes xs ys (λ k m. h (suc k) (omega arith)) (omega arith))
+pub pair_nodes : {e xs ys : List ℕ} {i : ℕ} → NodePairs e xs ys → i < length xs → TwoNodes e (get_or xs i 0) (get_or ys i 0)
+pair_nodes {e} {xs} {ys} {i} N l = let h = N.same_count in record {
+  sound = N.sound;
+  first = N.left i l;
+  second = N.right i
+      (omega arith);
+}
 
-  zip_fails : (xs ys : List ℕ) (i : ℕ) → i < length xs → length xs ≡ length ys → q (get_or xs i 0, get_or ys i 0) ≡ false →
-      every q (zip xs ys) ≡ false
-  unfolding every zip
-  zip_fails [] ys i m l e = absurd (omega arith)
-  zip_fails (x ∷ xs) [] i m l e = absurd (omega arith)
-  zip_fails (x ∷ xs) (y ∷ ys) zero m l e = rw e
-  zip_fails (x ∷ xs) (y ∷ ys) (suc i) m l e = rw (zip_fails xs ys i (omega arith) (omega arith) e) (cond_no (q (x, y)))
+-- pairs of which those from some place on decide whether all are equal now
+pub record PairsLeft (e xs ys as' bs : List ℕ) : Type 0 where
+  pub nodes : NodePairs e as' bs
+  pub decide : pairs_equal e xs ys ≡ pairs_equal e as' bs
 
-  -- the pairs up to i pass
-  pub record PairsTo (xs ys : List ℕ) (i : ℕ) : Type 0 where
-    pub within : i ≤ length xs
-    pub pass : (k : ℕ) → k < i → q (get_or xs k 0, get_or ys k 0) ≡ true
+pub pairs_first : {e xs ys as' bs : List ℕ} → NodePairs e xs ys → as' ≡ xs → bs ≡ ys → PairsLeft e xs ys as' bs
+pairs_first {e} {xs} {ys} N p q =
+    let is : (as' bs : List ℕ) → xs ≡ as' → ys ≡ bs → PairsLeft e xs ys as' bs = λ as' bs p q.
+    subst (λ (vs : List ℕ). PairsLeft e xs ys vs bs) p (subst (λ (vs : List ℕ). PairsLeft e xs ys xs vs) q (record { nodes = N; decide = refl }))
+    in
+    is _ _ (sym p) (sym q)
 
-  pub pairs_first : (xs ys : List ℕ) → PairsTo xs ys 0
-  pairs_first xs ys = record { within = omega arith; pass = λ k l. absurd (omega arith) }
+module _ {e xs ys as' bs vs ws : List ℕ} {x y : ℕ} (L : PairsLeft e xs ys as' bs) (p : as' ≡ x ∷ vs) (q : bs ≡ y ∷ ws) where
+  here : NodePairs e (x ∷ vs) (y ∷ ws)
+  here = subst (λ (ks : List ℕ). NodePairs e (x ∷ vs) ks) q (subst (λ (ks : List ℕ). NodePairs e ks bs) p L.nodes)
 
-  pub pairs_next : {xs ys : List ℕ} {i : ℕ} {b : Bool} → PairsTo xs ys i → i < length xs → b ≡ q (get_or xs i 0, get_or ys i 0) →
-      not b ≡ false → PairsTo xs ys (i + 1)
-  pairs_next {xs} {ys} {i} {b} p l e n =
-      record {
-        within = omega arith;
-        pass = below_more (λ (k : ℕ). q (get_or xs k 0, get_or ys k 0) ≡ true) i (λ k m. p.pass k m) (sym e ∙ not-false b n);
-      }
+  decided : pairs_equal e xs ys ≡ pairs_equal e (x ∷ vs) (y ∷ ws)
+  decided = L.decide ∙ ap₂ (pairs_equal e) p q
 
-  pub pairs_done : {xs ys : List ℕ} {i : ℕ} → length xs ≡ length ys → PairsTo xs ys i → length xs ≤ i → true ≡ every q (zip xs ys)
-  pairs_done {xs} {ys} e p l = sym (zip_passes xs ys (λ k m. p.pass k (omega arith)) e)
+  pub turn_nodes : TwoNodes e x y
+  turn_nodes = pair_nodes {i = 0} here (omega arith)
 
-  pub pairs_not : (xs ys : List ℕ) (i : ℕ) {b : Bool} → length xs ≡ length ys → i < length xs → b ≡ q (get_or xs i 0, get_or ys i 0) →
-      not b ≡ true → false ≡ every q (zip xs ys)
-  pairs_not xs ys i {b} e l h n = sym (zip_fails xs ys i l e (sym h ∙ not-true b n))
+  module _ {r : Bool} (is : r ≡ are_equal (merges e) x y) where
+    pub pairs_not : not r ≡ true → false ≡ pairs_equal e xs ys
+    unfolding every zip
+    pairs_not n = sym (decided ∙ rw (sym is ∙ not-true r n))
+
+    pub pairs_next : not r ≡ false → PairsLeft e xs ys vs ws
+    unfolding every zip
+    pairs_next n =
+        let H = here in
+        let same = H.same_count in
+        let nodes : NodePairs e vs ws = record {
+          sound = H.sound;
+          same_count = omega arith;
+          left = λ j h. H.left (suc j) (omega arith);
+          right = λ j h. H.right (suc j) (omega arith);
+        } in
+        record { nodes = nodes; decide = decided ∙ rw (sym is ∙ not-false r n) }
+
+none_left : (e as' : List ℕ) → pairs_equal e as' [] ≡ true
+unfolding every zip
+none_left e [] = refl
+none_left e (x ∷ xs) = refl
+
+pub pairs_done : {e xs ys as' bs : List ℕ} → PairsLeft e xs ys as' bs → (as' ≡ []) ⊎ (bs ≡ []) → true ≡ pairs_equal e xs ys
+unfolding every zip
+pairs_done {e} {bs = bs} L (inl p) = sym (L.decide ∙ ap (λ (ks : List ℕ). pairs_equal e ks bs) p)
+pairs_done {e} {as' = as'} L (inr q) = sym (L.decide ∙ ap (pairs_equal e as') q ∙ none_left e as')
 
 -- ---- what is named
 
 pub count_is : (x n m : ℕ) → n ≡ m → ltb x n ≡ ltb x m
 count_is x n m e = ap (ltb x) e
-
-pub count_no : (x n m : ℕ) (b : Bool) → n ≡ m → n ≤ x → false ≡ ltb x m && b
-count_no x n m b e l = rw (le-ltb x m (omega arith))
-
--- x is below a count, and so are all numbers of a list below another
-pub counts_yes : (x n m k l : ℕ) (xs : List ℕ) (r : Bool) → n ≡ m → x < n → k ≡ l → r ≡ all_below k xs → r ≡ ltb x m && all_below l xs
-counts_yes x n m k l xs r e h f g = rw (lt-ltb x m (omega arith)) (g ∙ ap (λ (j : ℕ). all_below j xs) f)
-
-pub same_number : (x y : ℕ) (b : Bool) → x ≡ y → false ≡ not (eqb x y) && b
-same_number x y b e = rw (eq-eqb x y e)
-
-pub other_number : (x y : ℕ) (r b : Bool) → (x ≡ y → ⊥) → r ≡ b → r ≡ not (eqb x y) && b
-other_number x y r b n h = rw (ne_eqb x y n) h
 
 pub sorts_compared : (a b x y : ℕ) → a ≡ x → b ≡ y → eqb a b ≡ eqb x y
 sorts_compared a b x y p q = ap₂ eqb p q
@@ -240,14 +206,6 @@ arg_named {c} {f} {args} {i} N l = N.terms i l
 pub param_named : {c : List ℕ} {f : ℕ} {args : List ℕ} {i n : ℕ} → NamesApp c f args → n ≡ length (symbol (context c) f).params →
     n ≡ length args → i < length args → HasParam c f i
 param_named {c} {f} {args} {i} {n} N p q l = record { sound = N.sound; declared = N.declared; within = omega arith }
-
-pub pair_nodes : {e xs ys : List ℕ} {i : ℕ} → NodePairs e xs ys → i < length xs → TwoNodes e (get_or xs i 0) (get_or ys i 0)
-pair_nodes {e} {xs} {ys} {i} N l = let h = N.same_count in record {
-  sound = N.sound;
-  first = N.left i l;
-  second = N.right i
-      (omega arith);
-}
 
 pub var_named : (rs : List Registered) (l v : ℕ) (r : Bool) → v ≡ Ids.var l → r ≡ is_registered rs v → r ≡ is_registered rs (Ids.var l)
 var_named rs l v r e h = h ∙ ap (is_registered rs) e
@@ -263,30 +221,12 @@ named_atom {c} {s} {l} {v} {x} N p a =
 pub named_var : {c s : List ℕ} {l v : ℕ} → NamesLit c s l → v ≡ Ids.var l → is_registered (atoms (registry s)) v ≡ true
 named_var {c} {s} N p = ap (is_registered (atoms (registry s))) p ∙ N.registered
 
-pub equation_is : (c s : List ℕ) (l v x : ℕ) (p r : Bool) → p ≡ Ids.is_positive l → not p ≡ false → v ≡ Ids.var l →
-    x ≡ atom (atoms (registry s)) v → r ≡ same_op (term (context c) x).op Eq →
-    r ≡ Ids.is_positive l && same_op (term (context c) (atom (atoms (registry s)) (Ids.var l))).op Eq
-equation_is c s l v x p r e n f a h =
-    both_yes p r (Ids.is_positive l) _ e n
-    (h ∙ ap (λ (y : ℕ). same_op (term (context c) y).op Eq) (a ∙ ap (atom (atoms (registry s))) f))
-
--- 13
-
-pub differ_positive : (l : ℕ) (p b : Bool) → p ≡ Ids.is_positive l → p ≡ true → false ≡ not (Ids.is_positive l) && b
-differ_positive l p b e h = rw (sym e ∙ h)
-
-pub disequality_is : (c s : List ℕ) (l v x : ℕ) (p r : Bool) → p ≡ Ids.is_positive l → p ≡ false → v ≡ Ids.var l →
-    x ≡ atom (atoms (registry s)) v → r ≡ same_op (term (context c) x).op Eq →
-    r ≡ not (Ids.is_positive l) && same_op (term (context c) (atom (atoms (registry s)) (Ids.var l))).op Eq
-disequality_is c s l v x p r e n f a h =
-    rw (sym e ∙ n) (h ∙ ap (λ (y : ℕ). same_op (term (context c) y).op Eq) (a ∙ ap (atom (atoms (registry s))) f))
-
 -- ---- 11: the pairs of a congruence
 
-pub fit_joined : (ms : List Merge) (lv t u n : ℕ) (xs ys : List ℕ) (b : Bool) → n ≡ pairs_in_force ms → n ≤ max_pairs →
-    b ≡ are_equal ms t u → b ≡ true → true ≡ leb (pairs_in_force (merge ms lv t u (Congruence (zip xs ys)))) max_pairs
+pub fit_joined : (ms : List Merge) (lv t u : ℕ) (xs ys : List ℕ) (b : Bool) → pairs_in_force ms ≤ max_pairs → b ≡ are_equal ms t u →
+    b ≡ true → b ≡ leb (pairs_in_force (merge ms lv t u (Congruence (zip xs ys)))) max_pairs
 unfolding merge
-fit_joined ms lv t u n xs ys b p h e f = rw (sym e ∙ f) (sym (le-leb (pairs_in_force ms) max_pairs (omega arith)))
+fit_joined ms lv t u xs ys b h e f = f ∙ rw (sym e ∙ f) (sym (le-leb (pairs_in_force ms) max_pairs h))
 
 pub fit_apart : (ms : List Merge) (lv t u n : ℕ) (xs ys : List ℕ) (b : Bool) → length (t ∷ xs) ≡ length (u ∷ ys) →
     n ≡ pairs_in_force ms → n ≤ max_pairs → b ≡ are_equal ms t u → b ≡ false →
@@ -325,14 +265,14 @@ args_count cx (Uninterpreted f) (Uninterpreted g) xs ys e p q =
     ∙ length-map ys (sort_of cx)
 
 module _ {c e : List ℕ} {t u : ℕ} {xs ys : List ℕ} {p : Bool} (N : PairsNamed c e t u)
-    (o : p ≡ same_op (term (context c) t).op (term (context c) u).op) (n : not p ≡ false)
+    (o : p ≡ same_op (term (context c) t).op (term (context c) u).op) (n : p ≡ true)
     (l : xs ≡ children (context c) t) (r : ys ≡ children (context c) u) where
   pub arguments_are : NodePairs e xs ys
   arguments_are =
       let F = N.formed in
       let S = N.two.sound in
       let m : length (children (context c) t) ≡ length (children (context c) u) =
-      args_count (context c) (term (context c) t).op (term (context c) u).op _ _ (sym o ∙ not-false p n)
+      args_count (context c) (term (context c) t).op (term (context c) u).op _ _ (sym o ∙ n)
       (F.agrees t N.two.first) (F.agrees u N.two.second)
       in
       record {
@@ -341,7 +281,3 @@ module _ {c e : List ℕ} {t u : ℕ} {xs ys : List ℕ} {p : Bool} (N : PairsNa
         left = subst⁻¹ (AllBelow max_terms) l (children_nodes c t S F N.two.first);
         right = subst⁻¹ (AllBelow max_terms) r (children_nodes c u S F N.two.second);
       }
-
-  pub congruent_is : (q : ℕ × ℕ → Bool) (b : Bool) → b ≡ every q (zip xs ys) →
-      b ≡ same_op (term (context c) t).op (term (context c) u).op && every q (zip (children (context c) t) (children (context c) u))
-  congruent_is q b h = both_yes p b _ _ o n (h ∙ ap₂ (λ (vs ws : List ℕ). every q (zip vs ws)) l r)

@@ -1,7 +1,7 @@
 -- The run: words set to 0, an empty session, and the lines one by one: what the definition makes of all lines from the start is what it
 -- makes of the rest from the present session on, with the lines answered and the bytes written so far in front.
-use Rattle.shinri_core.proofs.Kit.{ℕ, suc, ◌+◌, ◌-◌, ◌≤◌, ◌<◌, ◌≡◌, refl, sym, ap, subst, subst⁻¹, ◌∙◌, ◌⊎◌, inl, inr, ⊎_elim, Bool, true, false, ◌&&◌, leb, List, [], ◌∷◌, ◌++◌, append_assoc, append-nil, zero-add, below_more, arith, le-leb, lt-leb, length, get_or, take, drop, set, length-set, length-map, ext_get_or, get_or-set_same, get_or-set_other}
-use lib.ListN.{get_or-map}
+use Rattle.std.specs.Prelude.{replicate, Option, None, Some}
+use Rattle.shinri_core.proofs.Kit.{ℕ, suc, ◌+◌, ◌-◌, ◌≤◌, ◌<◌, ◌≡◌, refl, sym, ap, subst, subst⁻¹, ◌∙◌, ◌⊎◌, inl, inr, ⊎_elim, Bool, true, false, ◌&&◌, leb, List, [], ◌∷◌, ◌++◌, append_assoc, append-nil, zero-add, arith, le-leb, lt-leb, length, take, drop}
 use lib.Seq.{sets-eq}
 use Rattle.shinri_core.proofs.Lists.{and_no}
 use Rattle.shinri_core.specs.Limits.{table_words, max_script}
@@ -15,11 +15,9 @@ use Rattle.session.specs.Session.{Performed, empty_session, step}
 use Rattle.session.specs.Run.{Full, Ran, answers_none, one_more, answer_line, run_lines, tables_suffice, run, output_after, zeros, table_after}
 use Rattle.session.specs.Promise.{ending_meaning, lent, Gives, Runs}
 use Rattle.session.specs.Memory.Lines.{LineEnd}
-use Rattle.session.specs.Memory.Answers.{Written, line_text, longest_answer}
+use Rattle.session.specs.Memory.Answers.{LineAnswer, Written, line_text, longest_answer}
 use Rattle.session.specs.Memory.Sessions.{Beside, level_marks, beside, session, after, Steps}
 use Rattle.session.specs.Memory.Running.{TablesLong, EmptyTables, Puts, Answerable, AnsweredBy, RunsLines, MayStart, Zeroed, RunsStarted}
-use Rattle.session.specs.declared.answer.Answer as GivenAnswer
-use Rattle.session.specs.declared.run.Placed as Placed
 use Rattle.session.specs.declared.run.Ending as Given
 use Rattle.session.specs.declared.run.Ran as GivenRan
 use Rattle.session.proofs.RunClaim.{Stops, run_stops}
@@ -36,28 +34,14 @@ zeros_same [] (x ∷ u) e = absurd (omega arith)
 zeros_same (x ∷ t) [] e = absurd (omega arith)
 zeros_same (x ∷ t) (y ∷ u) e = ap (λ (l : List ℕ). 0 ∷ l) (zeros_same t u (omega arith))
 
--- the words below i are 0
-pub record Zeroing (t₀ t : List ℕ) (i : ℕ) : Type 0 where
-  pub long : length t ≡ length t₀
-  pub done : (j : ℕ) → j < i → get_or t j 0 ≡ 0
-
-pub zero_first : (t : List ℕ) → Zeroing t t 0
-zero_first t = record { long = refl; done = λ j h. absurd (omega arith) }
-
-pub zero_next : {t₀ t : List ℕ} {i : ℕ} → Zeroing t₀ t i → i < length t → Zeroing t₀ (set t i 0) (i + 1)
-zero_next {t = t} {i} z h = record {
-  long = length-set t i 0 ∙ z.long;
-  done =
-      below_more (λ (j : ℕ). get_or (set t i 0) j 0 ≡ 0) i
-      (λ j l. get_or-set_other t i j 0 0 (omega arith) ∙ z.done j l)
-      (get_or-set_same t i 0 0 h);
-}
-
-pub zero_done : {t₀ t : List ℕ} {i : ℕ} → Zeroing t₀ t i → length t ≤ i → t ≡ zeros t₀
+-- a table filled with 0
+all_zero : (t : List ℕ) → replicate (length t) 0 ≡ zeros t
 unfolding zeros
-zero_done {t₀} {t} z h =
-    ext_get_or 0 t (zeros t₀) (z.long ∙ sym (length-map t₀ (λ w. 0)))
-    (λ j l. z.done j (omega arith) ∙ sym (get_or-map (λ (w : ℕ). 0) t₀ j 0))
+all_zero [] = refl
+all_zero (x ∷ xs) = ap (λ (ws : List ℕ). 0 ∷ ws) (all_zero xs)
+
+pub filled_zero : (t : List ℕ) {u : List ℕ} → u ≡ replicate (length t) 0 → u ≡ zeros t
+filled_zero t e = e ∙ all_zero t
 
 -- ---- an empty session
 
@@ -91,8 +75,8 @@ pub written_within : {b xs b' : List ℕ} {r : ℕ} → Written b 0 xs b' r → 
 written_within w = let kept = written_length w in let within = w.within in omega arith
 
 -- what the step answers is put as the definition's answer line
-pub answered_by : {line c e s ns : List ℕ} {b : Bool} {a : GivenAnswer.Answer} {c' e' s' ns' : List ℕ} {b' : Bool}
-    {t o o' : List ℕ} {start : ℕ} {d : Placed.Placed} → Steps line c e s (beside e ns b) a c' e' s' (beside e' ns' b') t →
+pub answered_by : {line c e s ns : List ℕ} {b : Bool} {a : LineAnswer} {c' e' s' ns' : List ℕ} {b' : Bool}
+    {t o o' : List ℕ} {start : ℕ} {d : Option ℕ} → Steps line c e s (beside e ns b) a c' e' s' (beside e' ns' b') t →
     Puts d o start (line_text a t) o' × (length (line_text a t) ≤ longest_answer) →
     AnsweredBy (step (session c e s (beside e ns b)) line) d c' e' s' (beside e' ns' b') o start o'
 unfolding answer_line
@@ -103,8 +87,8 @@ answered_by {o = o} {o'} {start} {d} z w = record {
   short = subst⁻¹ (λ (p : Performed). length (answer_line p) ≤ longest_answer) z.stepped w.1;
 }
 
-pub puts_as : {d k : Placed.Placed} (o : List ℕ) (start : ℕ) (text o' : List ℕ) → d ≡ k → Puts d o start text o' → Puts k o start text o'
-puts_as o start text o' = subst (λ (x : Placed.Placed). Puts x o start text o')
+pub puts_as : {d k : Option ℕ} (o : List ℕ) (start : ℕ) (text o' : List ℕ) → d ≡ k → Puts d o start text o' → Puts k o start text o'
+puts_as o start text o' = subst (λ (x : Option ℕ). Puts x o start text o')
 
 module _ (room : ℕ) (s : Session.Session) (l : List ℕ) (ls : List (List ℕ)) where
   pub line_fits : length (answer_line (step s l)) ≤ room →
@@ -179,10 +163,10 @@ module _ {script o₀ c e s : List ℕ} {m : Beside} {at n written : ℕ} {o : L
     abbrev line : List ℕ
     line = take (end - at) (drop at script)
 
-    module _ {d : Placed.Placed} {c' e' s' ns : List ℕ} {b : Bool} {o' : List ℕ}
+    module _ {d : Option ℕ} {c' e' s' ns : List ℕ} {b : Bool} {o' : List ℕ}
         (f : AnsweredBy (step (session c e s m) line) d c' e' s' (beside e' ns b) o written o') where
       -- the next line has no room
-      pub run_full : d ≡ Placed.TheVariants.Full →
+      pub run_full : d ≡ None →
           RunsLines script o₀ (record { ending = Given.TheVariants.Full; answered = n; written = written }) o'
       unfolding ending_meaning
       run_full g =
@@ -194,7 +178,7 @@ module _ {script o₀ c e s : List ℕ} {m : Beside} {at n written : ℕ} {o : L
           rw same (gives Given.TheVariants.Full z.done (z.rest ∙ rw (lines_from script at end h l, full)))
 
       -- the next line is answered
-      pub run_next : {k written' : ℕ} → k ≡ n + 1 → d ≡ Placed.TheVariants.Ends written' →
+      pub run_next : {k written' : ℕ} → k ≡ n + 1 → d ≡ Some written' →
           Running script o₀ c' e' s' (beside e' ns b) (end + 1) k written' o'
       run_next {k} {written'} counted g =
           let text' = answer_line (step (session c e s m) line) in

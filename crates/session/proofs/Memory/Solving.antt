@@ -1,12 +1,14 @@
 -- The lines of the solver. The mark counts stay sound since the records lose no entry.
+use Rattle.std.specs.Prelude.{Ok, Err}
 use Rattle.shinri_core.proofs.Kit.{ℕ, zero, suc, ◌+◌, ◌≤◌, ◌<◌, ◌≡◌, refl, sym, ap, ◌∙◌, subst⁻¹, Bool, true, false, cond, not, ◌&&◌, true≢false, List, Option, none, some, arith, length, eq-eqb, ne_eqb, ltb, ltb-true, not-false}
-use borrow.Author.Tests.{not-true, lt-ltb, le-ltb}
+use borrow.Author.Tests.{not-true, lt-ltb}
 use Rattle.shinri_core.specs.Limits.{max_terms, max_vars}
 use Rattle.shinri_core.specs.Lists.{gather, cons_option, range}
 use Rattle.shinri_core.specs.Ids as Ids
 use Rattle.shinri_core.specs.Term.{Eq}
 use Rattle.shinri_core.specs.Context.{sort_of, terms_fit}
 use Rattle.shinri_core.specs.Memory.Table.{context}
+use Rattle.shinri_core.specs.declared.limits.NoRoom.{NoRoom}
 use Rattle.shinri_core.proofs.Lists.{true_T}
 use Rattle.theory.specs.Types.{EqLeaf}
 use Rattle.theory.specs.Atom.{is_registered, register}
@@ -19,7 +21,7 @@ use Rattle.solver.specs.Check as Check
 use Rattle.solver.specs.declared.answer.TCheck as TCheck
 use Rattle.solver.specs.Memory.Table.{UNEQUAL, records#, registry, of_sign, of_unequal, entry_key, entry_rest, asserted, entry_of, record_of, dt_with, state_with, state, StateSound}
 use Rattle.solver.specs.Memory.Answer as SolverAnswer
-use Rattle.solver.specs.Memory.Answer.{Readable}
+use Rattle.solver.specs.Memory.Answer.{RuleAnswer, Readable}
 use Rattle.solver.specs.Memory.Levels.{entry_level, MarksSound}
 use Rattle.solver.specs.Memory.Testing.{ConflictIs}
 use Rattle.solver.specs.Memory.Recording.{MayRegister, Registers, Collecting, CollectsVar}
@@ -40,7 +42,7 @@ use Rattle.session.specs.Session as Session
 use Rattle.session.specs.Session.{after_close, exist, agree, unregistered, term_exists, questions, first_no, perform, done, conflict_or_ok}
 use Rattle.session.specs.declared.answer.Refusal as GivenRefusal
 use Rattle.session.specs.declared.answer.Answer as Given
-use Rattle.session.specs.Memory.Answers.{refusal_meaning, answer_meaning, Printable}
+use Rattle.session.specs.Memory.Answers.{LineAnswer, refusal_meaning, answer_meaning, Printable}
 use Rattle.session.specs.Memory.Questions.{var_named, var_exists, disequality, NamesLit}
 use Rattle.session.specs.Memory.Sessions.{Beside, session, SessionSound, Reached, Answers, AnswersWith, AnswersSolver, AnswersCheck, FitsWith, asserted_answer, checked_answer}
 use Rattle.session.proofs.Memory.Questions.{and_left, and_right}
@@ -100,12 +102,6 @@ marks_stay c e s c' e' u m z h = let n = same_count c e s c' e' u (entry_level m
 
 -- ---- `var`
 
-pub var_high : (v : ℕ) (b : Bool) → max_vars ≤ v → false ≡ ltb v max_vars && b
-var_high v b l = rw (le-ltb v max_vars l)
-
-pub var_low : (v : ℕ) (r b : Bool) → v < max_vars → r ≡ b → r ≡ ltb v max_vars && b
-var_low v r b l h = rw (lt-ltb v max_vars l) h
-
 module _ (c s : List ℕ) (v x : ℕ) (r : Bool) (F : FitsWith c s) (named : r ≡ var_named c v x) (yes_named : not r ≡ false) where
   var_yes : var_named c v x ≡ true
   var_yes = sym named ∙ not-false r yes_named
@@ -152,7 +148,7 @@ module _ {c s : List ℕ} {closed : Bool} {v x : ℕ} where
           ∙ yes_here _ _ (eq-eqb (sort_of (context c) x) 0 (sym d ∙ k)) ∙ no_here _ _ (ap not (sym g ∙ y)))
 
       pub var_registered : {u s' : List ℕ} → b ≡ false → Registers s v x u → CollectsVar c u x s' →
-          AnswersSolver closed (Register v x) c s Given.TheVariants.Ok s'
+          AnswersSolver closed (Register v x) c s (Ok Given.TheVariants.Ok) s'
       unfolding questions after_close exist agree unregistered term_exists session state_with perform done answer_meaning Records.new_var with_atoms with_marks with_dt
       var_registered {u} {s'} y R C e o m z q =
           let lv = entry_level m.marks in
@@ -182,15 +178,13 @@ assert_says TCheck.TheVariants.Sat w o e = sym (ap conflict_or_ok e)
 assert_says TCheck.TheVariants.Conflict w o e = sym (ap conflict_or_ok e)
 assert_says TCheck.TheVariants.Split w o e = absurd e
 assert_says TCheck.TheVariants.Unknown w o e = absurd e
-assert_says TCheck.TheVariants.NoRoom w o e = absurd e
 
-assert_printable : (r : TCheck.TCheck) (o : List ℕ) → Readable r o → Printable (asserted_answer r) o
+assert_printable : (r : TCheck.TCheck) (o : List ℕ) → Readable (Ok r) o → Printable (asserted_answer r) o
 unfolding asserted_answer
 assert_printable TCheck.TheVariants.Sat o h = tt
 assert_printable TCheck.TheVariants.Conflict o h = h
 assert_printable TCheck.TheVariants.Split o h = h
 assert_printable TCheck.TheVariants.Unknown o h = tt
-assert_printable TCheck.TheVariants.NoRoom o h = tt
 
 pub assert_may : (c e s o : List ℕ) (l : ℕ) (r : Bool) → StateSound c e s → answer_size ≤ length o →
     r ≡ var_exists s l → not r ≡ false → Assertable c e s l o
@@ -208,7 +202,7 @@ module _ {c e s : List ℕ} {closed : Bool} {l : ℕ} where
   assert_missing {o} {r} w p n m z q =
       refuses o z GivenRefusal.TheVariants.Missing (yes_here _ _ (q ∙ not-false closed w) ∙ no_here _ _ (sym p ∙ not-true r n))
 
-  pub assert_done : {s' o : List ℕ} {r : Bool} {k : TCheck.TCheck} {a : Given.Answer} → not closed ≡ false →
+  pub assert_done : {s' o : List ℕ} {r : Bool} {k : TCheck.TCheck} {a : LineAnswer} → not closed ≡ false →
       r ≡ var_exists s l → not r ≡ false → Asserts c e s l k s' o → a ≡ asserted_answer k →
       AnswersWith closed (Assert l) c e s a c e s' o
   unfolding questions after_close exist Session.var_exists session state_with perform done
@@ -221,7 +215,7 @@ module _ {c e s : List ℕ} {closed : Bool} {l : ℕ} where
         levels = z.levels;
         unclosed = λ h. absurd (true≢false (sym (q ∙ not-false closed w) ∙ h));
       } in
-      subst⁻¹ (λ (x : Given.Answer). Answers (Assert l) c e s m x c e s' m o) i
+      subst⁻¹ (λ (x : LineAnswer). Answers (Assert l) c e s m x c e s' m o) i
       (accepts o z (assert_printable k o A.readable) (yes_here _ _ (q ∙ not-false closed w) ∙ yes_last _ (sym p ∙ not-false r n)) z'
       (λ j. record { answer = sym (assert_says k _ o (A.conflict lv)) j; session = record { state = is j; closed = m.closed } }))
 
@@ -257,7 +251,7 @@ module _ {c s : List ℕ} {closed : Bool} {l : ℕ} where
         refuses o z GivenRefusal.TheVariants.NotDisequality
         (yes_here _ _ (q ∙ not-false closed w) ∙ yes_here _ _ (sym p ∙ not-false r n) ∙ no_here _ _ (sym d ∙ not-true b k))
 
-    pub differ_done : {s' : List ℕ} → not b ≡ false → Differs s l s' → AnswersSolver closed (Differ l) c s Given.TheVariants.Ok s'
+    pub differ_done : {s' : List ℕ} → not b ≡ false → Differs s l s' → AnswersSolver closed (Differ l) c s (Ok Given.TheVariants.Ok) s'
     unfolding questions after_close exist Session.disequality Session.is_equation Session.var_exists Session.atom_of session state_with perform done answer_meaning
     differ_done {s'} k D e o m z q =
         let lv = entry_level m.marks in
@@ -276,31 +270,31 @@ module _ {c s : List ℕ} {closed : Bool} {l : ℕ} where
 
 -- ---- `check`
 
-check_says : (r : TCheck.TCheck) (k : Rules.TCheck) (o : List ℕ) → SolverAnswer.answer_meaning r o ≡ some k →
+check_says : (r : RuleAnswer) (k : Rules.TCheck) (o : List ℕ) → SolverAnswer.answer_meaning r o ≡ some k →
     answer_meaning (checked_answer r) o ≡ Answer.Checked k
 unfolding SolverAnswer.answer_meaning answer_meaning checked_answer
-check_says TCheck.TheVariants.Sat k o e = ap Answer.Checked (some_is _ k e)
-check_says TCheck.TheVariants.Conflict k o e = ap Answer.Checked (some_is _ k e)
-check_says TCheck.TheVariants.Split k o e = ap Answer.Checked (some_is _ k e)
-check_says TCheck.TheVariants.Unknown k o e = ap Answer.Checked (some_is _ k e)
-check_says TCheck.TheVariants.NoRoom k o e = absurd (none_some k e)
+check_says (Ok TCheck.TheVariants.Sat) k o e = ap Answer.Checked (some_is _ k e)
+check_says (Ok TCheck.TheVariants.Conflict) k o e = ap Answer.Checked (some_is _ k e)
+check_says (Ok TCheck.TheVariants.Split) k o e = ap Answer.Checked (some_is _ k e)
+check_says (Ok TCheck.TheVariants.Unknown) k o e = ap Answer.Checked (some_is _ k e)
+check_says (Err n) k o e = absurd (none_some k e)
 
-check_full : (r : TCheck.TCheck) (o : List ℕ) → SolverAnswer.answer_meaning r o ≡ none →
+check_full : (r : RuleAnswer) (o : List ℕ) → SolverAnswer.answer_meaning r o ≡ none →
     checked_answer r ≡ Refused GivenRefusal.TheVariants.NoRoom
 unfolding SolverAnswer.answer_meaning checked_answer
-check_full TCheck.TheVariants.Sat o e = absurd (some_none _ e)
-check_full TCheck.TheVariants.Conflict o e = absurd (some_none _ e)
-check_full TCheck.TheVariants.Split o e = absurd (some_none _ e)
-check_full TCheck.TheVariants.Unknown o e = absurd (some_none _ e)
-check_full TCheck.TheVariants.NoRoom o e = refl
+check_full (Ok TCheck.TheVariants.Sat) o e = absurd (some_none _ e)
+check_full (Ok TCheck.TheVariants.Conflict) o e = absurd (some_none _ e)
+check_full (Ok TCheck.TheVariants.Split) o e = absurd (some_none _ e)
+check_full (Ok TCheck.TheVariants.Unknown) o e = absurd (some_none _ e)
+check_full (Err n) o e = refl
 
-check_printable : (r : TCheck.TCheck) (o : List ℕ) → Readable r o → Printable (checked_answer r) o
+check_printable : (r : RuleAnswer) (o : List ℕ) → Readable r o → Printable (checked_answer r) o
 unfolding checked_answer
-check_printable TCheck.TheVariants.Sat o h = tt
-check_printable TCheck.TheVariants.Conflict o h = h
-check_printable TCheck.TheVariants.Split o h = h
-check_printable TCheck.TheVariants.Unknown o h = tt
-check_printable TCheck.TheVariants.NoRoom o h = tt
+check_printable (Ok TCheck.TheVariants.Sat) o h = tt
+check_printable (Ok TCheck.TheVariants.Conflict) o h = h
+check_printable (Ok TCheck.TheVariants.Split) o h = h
+check_printable (Ok TCheck.TheVariants.Unknown) o h = tt
+check_printable (Err n) o h = tt
 
 -- a check leaves the records
 check_entries : (full : Bool) (st : State) → Ready st → SameRecords st (Check.check full st).state
@@ -317,7 +311,7 @@ module _ {c e s : List ℕ} {closed full : Bool} where
   unfolding questions after_close session refusal_meaning
   check_early {o} w m z R q = refuses o z GivenRefusal.TheVariants.Misplaced (no_here _ _ (q ∙ not-true closed w))
 
-  module _ {c' s' o : List ℕ} {r : TCheck.TCheck} (w : not closed ≡ false) (K : Checks full c e s r c' s' o) (m : Beside)
+  module _ {c' s' o : List ℕ} {r : RuleAnswer} (w : not closed ≡ false) (K : Checks full c e s r c' s' o) (m : Beside)
       (z : SessionSound c e s m) (R : Reached (session c e s m)) (q : m.closed ≡ closed) where
     abbrev lv : ℕ → ℕ
     lv = entry_level m.marks
@@ -360,7 +354,7 @@ module _ {c e s : List ℕ} {closed full : Bool} where
         let no : Answers (Line.Check full) c e s m (Refused GivenRefusal.TheVariants.NoRoom) c e s m o =
         no_room o z check_asked (unfit_terms after_check.state f)
         in
-        subst⁻¹ (λ (x : Given.Answer). Answers (Line.Check full) c e s m x c' e s' m o) (check_full r o says)
+        subst⁻¹ (λ (x : LineAnswer). Answers (Line.Check full) c e s m x c' e s' m o) (check_full r o says)
         (record {
           sound = check_sound;
           printable = tt;
@@ -371,19 +365,18 @@ module _ {c e s : List ℕ} {closed full : Bool} where
           });
         })
 
-  pub check_done : {c' s' o : List ℕ} {r : TCheck.TCheck} {a : Given.Answer} → not closed ≡ false → Checks full c e s r c' s' o →
+  pub check_done : {c' s' o : List ℕ} {r : RuleAnswer} {a : LineAnswer} → not closed ≡ false → Checks full c e s r c' s' o →
       a ≡ checked_answer r → AnswersCheck closed full c e s a c' s' o
   check_done {c'} {s'} {o} {r} w K i m z R q =
-      subst⁻¹ (λ (x : Given.Answer). Answers (Line.Check full) c e s m x c' e s' m o) i
+      subst⁻¹ (λ (x : LineAnswer). Answers (Line.Check full) c e s m x c' e s' m o) i
       (by_test (terms_fit (Check.check full (state c e s (entry_level m.marks))).state.terms) (check_fits w K m z R q)
       (check_unfit w K m z R q))
 
--- ---- no room
+-- ---- the answer
 
-pub asserted_full : {r : TCheck.TCheck} → r ≡ TCheck.TheVariants.NoRoom → Refused GivenRefusal.TheVariants.NoRoom ≡ asserted_answer r
-unfolding asserted_answer
-asserted_full e = sym (ap asserted_answer e)
+pub check_told : {r : RuleAnswer} {k : TCheck.TCheck} {a : Given.Answer} → r ≡ Ok k → Ok a ≡ checked_answer (Ok k) → Ok a ≡ checked_answer r
+check_told e h = h ∙ sym (ap checked_answer e)
 
-pub checked_full : {r : TCheck.TCheck} → r ≡ TCheck.TheVariants.NoRoom → Refused GivenRefusal.TheVariants.NoRoom ≡ checked_answer r
+pub checked_full : {r : RuleAnswer} {n : NoRoom} → r ≡ Err n → Refused GivenRefusal.TheVariants.NoRoom ≡ checked_answer r
 unfolding checked_answer
 checked_full e = sym (ap checked_answer e)

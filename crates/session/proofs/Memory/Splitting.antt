@@ -1,12 +1,14 @@
 -- The first of a byte in a text: what lines, parts and key=value are before and behind it.
-use Rattle.shinri_core.proofs.Kit.{ℕ, zero, suc, ◌+◌, ◌-◌, ◌≤◌, ◌<◌, ◌≡◌, refl, sym, ap, ap₂, ◌∙◌, subst, Bool, true, false, cond, List, [], ◌∷◌, Option, none, some, add-one, arith, dec_lt, eq-eqb, eqb, length, get_or, take, drop, length-drop, drop_of_length-le, get_or-take, get_or-drop, length-take-le, take_all}
+use Rattle.shinri_core.proofs.Kit.{ℕ, zero, suc, ◌+◌, ◌-◌, ◌≤◌, ◌<◌, ◌≡◌, refl, sym, ap, ap₂, ◌∙◌, subst, subst⁻¹, Bool, true, false, false≢true, cond, List, [], ◌∷◌, Option, none, some, add-one, arith, dec_lt, eq-eqb, eqb, length, get_or, take, drop, length-drop, drop_of_length-le, get_or-take, get_or-drop, length-take-le, take_all}
+use Rattle.std.specs.Prelude.{None, Some, is_some, IfSome, unwrap_or}
+use Rattle.std.specs.declared.option.Option as GivenOption
 use lib.Seq.{drop-drop, take-nil, drop-nil}
 use Rattle.shinri_core.proofs.Memory.Searching.{Searched}
 use Rattle.shinri_core.specs.Lists.{first, same_list}
 use Rattle.shinri_core.proofs.Lists.{same_list_not}
 use Rattle.session.specs.Text.{LF, equals, bytes, cons_first, parts, lines}
 use Rattle.session.specs.Line.{Key, SortKey, CtorKey, FunKey, CloseKey, TermKey, EqKey, VarKey, EquateKey, CongKey, IfaceKey, AssertKey, DifferKey, PushKey, PopKey, CheckKey, key_text, keys, after_byte, key_and_value, known, read_parts, read_line}
-use Rattle.session.specs.Memory.Lines.{FirstByte, LineEnd, KeyRoom}
+use Rattle.session.specs.Memory.Lines.{FirstByte, FindsByte, LineEnd, KeyRoom}
 
 -- ---- the search
 
@@ -14,8 +16,30 @@ module _ {b : ℕ} {s : List ℕ} {start i : ℕ} (w : Searched (λ k. eqb (get_
   pub found_here : i < length s → get_or s i 0 ≡ b → FirstByte b s start i
   found_here l e = record { after = w.after; within = w.within; inside = w.none; ends = λ _. e }
 
-  pub found_none : length s ≤ i → FirstByte b s start i
-  found_none l = record { after = w.after; within = w.within; inside = w.none; ends = λ h. absurd (omega arith) }
+  pub found_none : length s ≤ i → FirstByte b s start (length s)
+  found_none l =
+      let a = w.after in
+      let h = w.within in
+      record { after = omega arith; within = omega arith; inside = λ k g m. w.none k g (omega arith); ends = λ m. absurd (omega arith) }
+
+-- the place of the byte, or the end
+module _ {b : ℕ} {s : List ℕ} {start : ℕ} {r : GivenOption.Option ℕ} (f : FindsByte b s start r) {n : ℕ} (e : n ≡ unwrap_or r (length s)) where
+  pub found_end : FirstByte b s start n
+  found_end = subst⁻¹ (λ (k : ℕ). FirstByte b s start k) e f.ends
+
+  pub found_last : is_some r ≡ false → n ≡ length s
+  found_last g = e ∙ go r g
+    where
+      go : (o : GivenOption.Option ℕ) → is_some o ≡ false → unwrap_or o (length s) ≡ length s
+      go None h = refl
+      go (Some i) h = absurd (false≢true (sym h))
+
+  pub found_before : is_some r ≡ true → n < length s
+  found_before g = subst⁻¹ (λ (k : ℕ). k < length s) e (go r f.within g)
+    where
+      go : (o : GivenOption.Option ℕ) → IfSome o (λ i. i < length s) → is_some o ≡ true → unwrap_or o (length s) < length s
+      go None l h = absurd (false≢true h)
+      go (Some i) l h = l
 
 -- ---- in a text's rest
 
@@ -204,47 +228,51 @@ unfolding LongKey read_parts known
 long_unread none l = refl
 long_unread (some (k, v)) l = rw (unknown_key k l keys)
 
-module _ {s : List ℕ} {r k : ℕ} (z : KeyRoom s r) (f : FirstByte equals (take r s) 0 k) where
-  pub head_within : k ≤ length s
-  head_within = let e = length-take-le r s z.within in let w = f.within in let h = z.within in omega arith
-
-  pub head_before : (k ≡ r → ⊥) → k < length s
-  head_before n = let e = length-take-le r s z.within in let w = f.within in let h = z.within in omega arith
-
-  none_before : (i : ℕ) → i < k → k ≤ r → eqb (get_or s i 0) equals ≡ false
-  none_before i l h = ap (λ (x : ℕ). eqb x equals) (sym (get_or-take r s i 0 (omega arith))) ∙ f.inside i (omega arith) l
-
-  -- an equals sign there is the line's first
-  pub head_parted : (k ≡ r → ⊥) → key_and_value s ≡ some (take k s, take (length s - (k + 1)) (drop (k + 1) s))
-  head_parted n =
+module _ {s : List ℕ} {r : ℕ} (z : KeyRoom s r) where
+  none_before : {k : ℕ} → FirstByte equals (take r s) 0 k → (i : ℕ) → i < k → eqb (get_or s i 0) equals ≡ false
+  none_before f i l =
       let e = length-take-le r s z.within in
       let w = f.within in
-      let h = z.within in
-      key_parted s k
-      (record {
-        after = omega arith;
-        within = omega arith;
-        inside = λ i l m. none_before i m (omega arith);
-        ends = λ l. sym (get_or-take r s k 0 (omega arith)) ∙ f.ends (omega arith);
-      })
-      (omega arith)
+      ap (λ (x : ℕ). eqb x equals) (sym (get_or-take r s i 0 (omega arith))) ∙ f.inside i (omega arith) l
+
+  -- an equals sign there is the line's first
+  module _ {k : ℕ} (f : FindsByte equals (take r s) 0 (Some k)) where
+    pub head_before : k < length s
+    head_before = let e = length-take-le r s z.within in let w = f.within in let h = z.within in omega arith
+
+    pub head_parted : key_and_value s ≡ some (take k s, take (length s - (k + 1)) (drop (k + 1) s))
+    head_parted =
+        let e = length-take-le r s z.within in
+        let w = f.within in
+        let h = z.within in
+        key_parted s k
+        (record {
+          after = omega arith;
+          within = omega arith;
+          inside = λ i l m. none_before f.ends i m;
+          ends = λ l. sym (get_or-take r s k 0 (omega arith)) ∙ f.ends.ends w;
+        })
+        (omega arith)
 
   -- without one the line does not read
-  pub head_unread : k ≡ r → read_line s ≡ none
+  pub head_unread : FindsByte equals (take r s) 0 None → read_line s ≡ none
   unfolding read_line read_parts
-  head_unread e = go (dec_lt r (length s))
+  head_unread f = go (dec_lt r (length s))
     where
+      none_in : (i : ℕ) → i < r → eqb (get_or s i 0) equals ≡ false
+      none_in i l = let e = length-take-le r s z.within in none_before f.ends i (omega arith)
+
       go : Dec (r < length s) → read_line s ≡ none
       go (yes h) =
           let seven = z.enough h in
-          long_unread (key_and_value s) (key_behind 7 s (omega arith) (λ i l. none_before i (omega arith) (omega arith)))
+          long_unread (key_and_value s) (key_behind 7 s (omega arith) (λ i l. none_in i (omega arith)))
       go (no h) =
           let w = z.within in
-          let all : FirstByte equals s 0 k =
+          let all : FirstByte equals s 0 (length s) =
           record {
             after = omega arith;
             within = omega arith;
-            inside = λ i l m. none_before i m (omega arith);
+            inside = λ i l m. none_in i (omega arith);
             ends = λ l. absurd (omega arith);
           } in
-          rw (no_key s k all (omega arith))
+          rw (no_key s (length s) all (omega arith))

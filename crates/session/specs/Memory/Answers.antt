@@ -1,13 +1,13 @@
 -- What the code's answers mean, beside the answer table, and what printing one promises.
-use Rattle.std.specs.Prelude.{ℕ, zero, suc, ◌+◌, ◌*◌, ◌≤◌, ◌≡◌, List, [], ◌∷◌, ◌++◌, map, length}
+use Rattle.std.specs.Prelude.{ℕ, zero, suc, ◌+◌, ◌*◌, ◌≤◌, ◌≡◌, List, [], ◌∷◌, ◌++◌, map, length, Result, Ok, Err}
 use Rattle.std.proofs.lemmas.List.Edits.{sets}
 use Rattle.shinri_core.specs.Limits.{max_terms}
 use Rattle.theory.specs.Memory.Answer.{leaves, LeavesSound}
 use Rattle.solver.specs.Rules as Rules
 use Rattle.solver.specs.Memory.Answer.{split_atoms, split_guard, split_phases, listed, split_of, SplitSound}
-use Rattle.session.specs.Text.{LF, comma, joined, decimal}
+use Rattle.session.specs.Text.{LF, bytes, comma, joined, decimal}
 use Rattle.session.specs.Answer as Answer
-use Rattle.session.specs.Answer.{Answer, leaf_text, phase_text, answer_text}
+use Rattle.session.specs.Answer.{Answer, leaf_text, phase_text, check_text, answer_text}
 use Rattle.session.specs.declared.answer.Refusal as GivenRefusal
 use Rattle.session.specs.declared.answer.Answer as Given
 
@@ -23,24 +23,33 @@ refusal_meaning GivenRefusal.TheVariants.NotCongruent = Answer.NotCongruent
 refusal_meaning GivenRefusal.TheVariants.NotGrounded = Answer.NotGrounded
 refusal_meaning GivenRefusal.TheVariants.NoRoom = Answer.NoRoom
 
-unfoldable pub answer_meaning : Given.Answer → List ℕ → Answer
-answer_meaning Given.TheVariants.Ok o = Answer.Ok
-answer_meaning (Given.TheVariants.TermIs t) o = Answer.TermIs t.0
-answer_meaning Given.TheVariants.Sat o = Answer.Checked Rules.Sat
-answer_meaning Given.TheVariants.Conflict o = Answer.Checked (Rules.Conflict (leaves o))
-answer_meaning Given.TheVariants.Split o = Answer.Checked (split_of o)
-answer_meaning Given.TheVariants.Unknown o = Answer.Checked Rules.Unknown
-answer_meaning (Given.TheVariants.Refused r) o = Answer.Refused (refusal_meaning r)
+-- what the code says of a line: its answer, or a no to one of the questions
+abbrev pub LineAnswer : Type 0
+LineAnswer = Result Given.Answer GivenRefusal.Refusal
+
+unfoldable pub answer_meaning : LineAnswer → List ℕ → Answer
+answer_meaning (Ok Given.TheVariants.Ok) o = Answer.Ok
+answer_meaning (Ok (Given.TheVariants.TermIs t)) o = Answer.TermIs t.0
+answer_meaning (Ok Given.TheVariants.Sat) o = Answer.Checked Rules.Sat
+answer_meaning (Ok Given.TheVariants.Conflict) o = Answer.Checked (Rules.Conflict (leaves o))
+answer_meaning (Ok Given.TheVariants.Split) o = Answer.Checked (split_of o)
+answer_meaning (Ok Given.TheVariants.Unknown) o = Answer.Checked Rules.Unknown
+answer_meaning (Err r) o = Answer.Refused (refusal_meaning r)
+
+-- the texts of what the code says, opened together
+unfoldable pub texts_told : Unit {0}
+unfolding answer_meaning answer_text check_text bytes
+texts_told = tt
 
 -- the answer table can be read
-abbrev pub Printable : Given.Answer → List ℕ → Type 0
-Printable Given.TheVariants.Ok o = Unit {0}
-Printable (Given.TheVariants.TermIs t) o = Unit {0}
-Printable Given.TheVariants.Sat o = Unit {0}
-Printable Given.TheVariants.Conflict o = LeavesSound o
-Printable Given.TheVariants.Split o = SplitSound o
-Printable Given.TheVariants.Unknown o = Unit {0}
-Printable (Given.TheVariants.Refused r) o = Unit {0}
+abbrev pub Printable : LineAnswer → List ℕ → Type 0
+Printable (Ok Given.TheVariants.Ok) o = Unit {0}
+Printable (Ok (Given.TheVariants.TermIs t)) o = Unit {0}
+Printable (Ok Given.TheVariants.Sat) o = Unit {0}
+Printable (Ok Given.TheVariants.Conflict) o = LeavesSound o
+Printable (Ok Given.TheVariants.Split) o = SplitSound o
+Printable (Ok Given.TheVariants.Unknown) o = Unit {0}
+Printable (Err r) o = Unit {0}
 
 -- a text stands at a place of a table of bytes, which is else as it was, and ends at r
 pub record Written (b : List ℕ) (start : ℕ) (text b' : List ℕ) (r : ℕ) : Type 0 where
@@ -75,5 +84,5 @@ abbrev pub longest_answer : ℕ
 longest_answer = 10 + 23 * max_terms
 
 -- the answer line, with its LF
-abbrev pub line_text : Given.Answer → List ℕ → List ℕ
+abbrev pub line_text : LineAnswer → List ℕ → List ℕ
 line_text a o = answer_text (answer_meaning a o) ++ (LF ∷ [])

@@ -1,13 +1,12 @@
 -- How lent tables hold a session between calls: the three work tables as in a run, and a fourth with a mark that a session is open and with
 -- what a session keeps beside the work tables. And what the functions of a call promise one another.
-use Rattle.std.specs.Prelude.{ℕ, ◌≤◌, ◌<◌, ◌≡◌, Bool, true, cond, not, ◌&&◌, List, eqb, leb, length, get_or, take, drop}
+use Rattle.std.specs.Prelude.{ℕ, ◌≤◌, ◌<◌, ◌≡◌, Bool, true, cond, not, ◌&&◌, List, eqb, leb, length, get_or, take, drop, Option, None, Some}
 use Rattle.shinri_core.specs.Limits.{table_words, max_levels}
 use Rattle.session.specs.Session.{Session, Performed, step}
 use Rattle.session.specs.Run.{answer_line}
 use Rattle.session.specs.Memory.Answers.{longest_answer}
 use Rattle.session.specs.Memory.Sessions.{Beside, beside, session}
 use Rattle.session.specs.Memory.Running.{Answerable, AnsweredBy}
-use Rattle.session.specs.declared.run.Placed as Placed
 
 -- the tables that are lent for a session kept open
 pub record Tables : Type 0 where
@@ -107,12 +106,12 @@ pub record Unfit (p : Performed) (c e s c' e' s' o o' : List ℕ) : Type 0 where
   pub few : length o < longest_answer
 
 -- a line was answered by the step p, or its answer line does not fit
-pub record Tried (p : Performed) (d : Placed.Placed) (c e s c' e' s' : List ℕ) (m' : Beside) (o o' : List ℕ) : Type 0 where
-  pub answered : (n : ℕ) → d ≡ Placed.TheVariants.Ends n → AnsweredBy p (Placed.TheVariants.Ends n) c' e' s' m' o 0 o'
-  pub unfit : d ≡ Placed.TheVariants.Full → Unfit p c e s c' e' s' o o'
+pub record Tried (p : Performed) (d : Option ℕ) (c e s c' e' s' : List ℕ) (m' : Beside) (o o' : List ℕ) : Type 0 where
+  pub answered : (n : ℕ) → d ≡ Some n → AnsweredBy p (Some n) c' e' s' m' o 0 o'
+  pub unfit : d ≡ None → Unfit p c e s c' e' s' o o'
 
 abbrev pub TriesLine :
-    List ℕ → List ℕ → List ℕ → List ℕ → Beside → Placed.Placed → List ℕ → List ℕ → List ℕ → Beside → List ℕ → List ℕ → Type 0
+    List ℕ → List ℕ → List ℕ → List ℕ → Beside → Option ℕ → List ℕ → List ℕ → List ℕ → Beside → List ℕ → List ℕ → Type 0
 TriesLine line c e s m d c' e' s' m' o o' = Tried (step (session c e s m) line) d c e s c' e' s' m' o o'
 
 -- an open session, in work tables of just so many words
@@ -128,14 +127,14 @@ pub record Keeps (k n : List ℕ) (b : Bool) (k' : List ℕ) : Type 0 where
   pub mark : is_open k' ≡ is_open k
 
 -- the same of a line of it
-pub record TriedOpen (p : Performed) (d : Placed.Placed) (c e s k c' e' s' k' o o' : List ℕ) : Type 0 where
-  pub answered : (n : ℕ) → d ≡ Placed.TheVariants.Ends n →
-      AnsweredBy p (Placed.TheVariants.Ends n) c' e' s' (beside e' (mark_counts k') (close_accepted k')) o 0 o'
+pub record TriedOpen (p : Performed) (d : Option ℕ) (c e s k c' e' s' k' o o' : List ℕ) : Type 0 where
+  pub answered : (n : ℕ) → d ≡ Some n →
+      AnsweredBy p (Some n) c' e' s' (beside e' (mark_counts k') (close_accepted k')) o 0 o'
   pub mark : is_open k' ≡ is_open k
-  pub unfit : d ≡ Placed.TheVariants.Full → Unfit p c e s c' e' s' o o'
-  pub untouched : d ≡ Placed.TheVariants.Full → k' ≡ k
+  pub unfit : d ≡ None → Unfit p c e s c' e' s' o o'
+  pub untouched : d ≡ None → k' ≡ k
 
-abbrev pub AnswersOpen : List ℕ → List ℕ → List ℕ → List ℕ → List ℕ → Placed.Placed → List ℕ → List ℕ → List ℕ → List ℕ → List ℕ →
+abbrev pub AnswersOpen : List ℕ → List ℕ → List ℕ → List ℕ → List ℕ → Option ℕ → List ℕ → List ℕ → List ℕ → List ℕ → List ℕ →
     List ℕ → Type 0
 AnswersOpen line c e s k d c' e' s' k' o o' =
     TriedOpen (step (session c e s (beside e (mark_counts k) (close_accepted k))) line) d c e s k c' e' s' k' o o'

@@ -1,16 +1,17 @@
 -- What reading decimal numbers promises.
-use Rattle.std.specs.Prelude.{ℕ, ◌+◌, ◌-◌, ◌*◌, ◌≤◌, ◌≡◌, cond, ◌&&◌, leb, take}
+use Rattle.std.specs.Prelude.{ℕ, ◌+◌, ◌-◌, ◌*◌, ◌≤◌, ◌≡◌, cond, ◌&&◌, leb, length, None, Some, MatchOption}
+use Rattle.std.specs.Borrow.{Bor}
 use mathlib.Core.List.{List, foldl}
 use Rattle.std.proofs.Math.Option.{Option, none, some}
 use Rattle.shinri_core.specs.Lists.{every}
 use Rattle.session.specs.Text.{comma, parts, is_digit}
 use Rattle.session.specs.Line.{Key, numbers, at_most_17}
 use Rattle.session.specs.Memory.Commands.{max_numbers}
-use Rattle.session.specs.declared.numbers.Number as Given
+use Rattle.std.specs.declared.option.Option as Given
 
-unfoldable pub number_meaning : Given.Number → Option ℕ
-number_meaning (Given.TheVariants.At n) = some n
-number_meaning Given.TheVariants.Bad = none
+unfoldable pub number_meaning : Given.Option ℕ → Option ℕ
+number_meaning (Some n) = some n
+number_meaning None = none
 
 -- the value of a number with digits behind it
 unfoldable pub value_from : ℕ → List ℕ → ℕ
@@ -20,8 +21,15 @@ value_from n ds = foldl (λ m d. m * 10 + (d - 48)) n ds
 unfoldable pub digits_from : ℕ → List ℕ → Option ℕ
 digits_from n ds = cond (every is_digit ds && leb (value_from n ds) 4294967295) (some (value_from n ds)) none
 
--- the numbers of a value were read to the start of ns: r of them; 0 if one does not read or there are more than 17
-pub record ReadsNumbers (v : List ℕ) (r : ℕ) (ns : List ℕ) : Type 0 where
-  pub most : r ≤ max_numbers
-  pub unread : r ≡ 0 → (k : Key) → at_most_17 k (numbers (parts comma v)) ≡ none
-  pub read : (r ≡ 0 → ⊥) → numbers (parts comma v) ≡ some (take r ns)
+-- one of the numbers of a value does not read, or there are more than 17
+abbrev pub Unread : List ℕ → Type 0
+Unread v = (k : Key) → at_most_17 k (numbers (parts comma v)) ≡ none
+
+-- the numbers of a value are ns, at most 17
+pub record Read (v ns : List ℕ) : Type 0 where
+  pub most : length ns ≤ max_numbers
+  pub is : numbers (parts comma v) ≡ some ns
+
+-- the numbers of a value were read, or none if they do not read
+abbrev pub ReadsNumbers : List ℕ → Given.Option (Bor (List ℕ)) → Type 0
+ReadsNumbers v r = MatchOption r (Unread v) (λ ns. Read v ns.now)

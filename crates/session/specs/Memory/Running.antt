@@ -1,5 +1,5 @@
 -- What the functions of the run promise one another.
-use Rattle.std.specs.Prelude.{ℕ, ◌+◌, ◌≤◌, ◌<◌, ◌≡◌, List, [], length}
+use Rattle.std.specs.Prelude.{ℕ, ◌+◌, ◌≤◌, ◌<◌, ◌≡◌, List, [], length, Option, None, Some}
 use Rattle.shinri_core.specs.Limits.{table_words, max_script}
 use Rattle.shinri_core.specs.Context.{empty_context}
 use Rattle.shinri_core.specs.Memory.Table.{context, ContextSound}
@@ -11,7 +11,6 @@ use Rattle.session.specs.Run.{answer_line, run_lines, zeros}
 use Rattle.session.specs.Promise.{Gives}
 use Rattle.session.specs.Memory.Sessions.{Beside, session, Reached, SessionSound}
 use Rattle.session.specs.Memory.Answers.{Written, longest_answer}
-use Rattle.session.specs.declared.run.Placed as Placed
 use Rattle.session.specs.declared.run.Ran.{Ran}
 
 -- ---- an empty session
@@ -32,9 +31,9 @@ pub record EmptyTables (c e s : List ℕ) : Type 0 where
 -- ---- an answer line
 
 -- A text was put at a place of the output; or it does not fit there, and the output is as it was.
-abbrev pub Puts : Placed.Placed → List ℕ → ℕ → List ℕ → List ℕ → Type 0
-Puts (Placed.TheVariants.Ends r) o start text o' = Written o start text o' r
-Puts Placed.TheVariants.Full o start text o' = (o' ≡ o) × (length o < start + length text)
+abbrev pub Puts : Option ℕ → List ℕ → ℕ → List ℕ → List ℕ → Type 0
+Puts (Some r) o start text o' = Written o start text o' r
+Puts None o start text o' = (o' ≡ o) × (length o < start + length text)
 
 -- ---- the lines
 
@@ -44,7 +43,7 @@ pub record Answerable (c e s : List ℕ) (m : Beside) : Type 0 where
   pub reached : Reached (session c e s m)
 
 -- It was: the tables and m show the session after the definition's step p, and its answer line was put at a place of the output.
-pub record AnsweredBy (p : Performed) (d : Placed.Placed) (c e s : List ℕ) (m : Beside) (o : List ℕ) (start : ℕ) (o' : List ℕ) : Type 0
+pub record AnsweredBy (p : Performed) (d : Option ℕ) (c e s : List ℕ) (m : Beside) (o : List ℕ) (start : ℕ) (o' : List ℕ) : Type 0
   where
     pub answerable : Answerable c e s m
     pub after : p.session ≡ session c e s m
@@ -52,7 +51,7 @@ pub record AnsweredBy (p : Performed) (d : Placed.Placed) (c e s : List ℕ) (m 
     pub short : length (answer_line p) ≤ longest_answer
 
 abbrev pub AnswersLine :
-    List ℕ → List ℕ → List ℕ → List ℕ → Beside → Placed.Placed → List ℕ → List ℕ → List ℕ → Beside → List ℕ → ℕ → List ℕ → Type 0
+    List ℕ → List ℕ → List ℕ → List ℕ → Beside → Option ℕ → List ℕ → List ℕ → List ℕ → Beside → List ℕ → ℕ → List ℕ → Type 0
 AnswersLine line c e s m d c' e' s' m' o start o' = AnsweredBy (step (session c e s m) line) d c' e' s' m' o start o'
 
 -- the lines of a script may be answered, from the first on

@@ -1,11 +1,12 @@
 -- The session that the three tables mean, when they fit together, and what answering a line promises.
-use Rattle.std.specs.Prelude.{ℕ, ◌≤◌, ◌≡◌, Bool, true, false, List, [], ◌∷◌, length}
+use Rattle.std.specs.Prelude.{ℕ, ◌≤◌, ◌≡◌, Bool, true, false, List, [], ◌∷◌, length, Result, Ok, Err}
+use mathlib.Core.Option.{some}
 use Rattle.shinri_core.specs.Ids as Ids
 use Rattle.shinri_core.specs.Term.{Eq, same_op}
 use Rattle.shinri_core.specs.Context.{term, children}
 use Rattle.shinri_core.specs.Formed.{Formed}
-use Rattle.shinri_core.specs.declared.context.Declared as Declared
-use Rattle.shinri_core.specs.declared.context.Made as Made
+use Rattle.shinri_core.specs.declared.ids.TermId.{TermId}
+use Rattle.shinri_core.specs.declared.limits.NoRoom.{NoRoom}
 use Rattle.shinri_core.specs.Memory.Table.{context, ContextSound}
 use Rattle.theory.specs.Types.{Asserted}
 use Rattle.theory.specs.Atom.{is_registered, atom}
@@ -14,13 +15,14 @@ use Rattle.theory.specs.Memory.Registry.{atoms}
 use Rattle.theory.specs.Memory.Table.{level, EngineSound, Merges}
 use Rattle.solver.specs.declared.answer.TCheck as TCheck
 use Rattle.solver.specs.declared.levels.TesterMarks.{TesterMarks}
+use Rattle.solver.specs.Memory.Answer.{RuleAnswer}
 use Rattle.solver.specs.Memory.Table.{registry, state, StateSound}
 use Rattle.solver.specs.Memory.Levels.{entry_level, MarksSound, RecordsSound}
 use Rattle.solver.specs.Memory.Recording.{SolverCleared}
 use Rattle.session.specs.Line.{Command, Close, Check}
 use Rattle.session.specs.Session as Session
 use Rattle.session.specs.Session.{asked, first_no, questions, empty_session, answer_read, step}
-use Rattle.session.specs.Memory.Answers.{answer_meaning, Printable}
+use Rattle.session.specs.Memory.Answers.{LineAnswer, answer_meaning, Printable}
 use Rattle.session.specs.Memory.Commands.{max_numbers, command_meaning, ListFits}
 use Rattle.session.specs.declared.line.Command as GivenCommand
 use Rattle.session.specs.declared.answer.Refusal as GivenRefusal
@@ -68,7 +70,7 @@ pub record SessionSound (c e s : List ℕ) (m : Beside) : Type 0 where
 -- ---- answering a line
 
 -- a line that reads was answered: the questions 4 to 11 and 13, and what an accepted line does
-pub record Answers (k : Command) (c e s : List ℕ) (m : Beside) (a : Given.Answer) (c' e' s' : List ℕ) (m' : Beside) (o : List ℕ) :
+pub record Answers (k : Command) (c e s : List ℕ) (m : Beside) (a : LineAnswer) (c' e' s' : List ℕ) (m' : Beside) (o : List ℕ) :
     Type 0 where
   pub sound : SessionSound c' e' s' m'
   pub printable : Printable a o
@@ -77,34 +79,34 @@ pub record Answers (k : Command) (c e s : List ℕ) (m : Beside) (a : Given.Answ
       ≡ record { answer = answer_meaning a o; session = session c' e' s' m' }
 
 -- a line that asks of what the session keeps only whether a `close` was accepted, and changes nothing of it
-abbrev pub AnswersWith : Bool → Command → List ℕ → List ℕ → List ℕ → Given.Answer → List ℕ → List ℕ → List ℕ → List ℕ → Type 0
+abbrev pub AnswersWith : Bool → Command → List ℕ → List ℕ → List ℕ → LineAnswer → List ℕ → List ℕ → List ℕ → List ℕ → Type 0
 AnswersWith closed k c e s a c' e' s' o = (m : Beside) → SessionSound c e s m → m.closed ≡ closed → Answers k c e s m a c' e' s' m o
 
 -- and works on core's table alone; on core's and the engine's; on core's and the solver's
-abbrev pub AnswersCore : Bool → Command → List ℕ → Given.Answer → List ℕ → Type 0
+abbrev pub AnswersCore : Bool → Command → List ℕ → LineAnswer → List ℕ → Type 0
 AnswersCore closed k c a c' = (e s o : List ℕ) → AnswersWith closed k c e s a c' e s o
 
-abbrev pub AnswersEngine : Bool → Command → List ℕ → List ℕ → Given.Answer → List ℕ → Type 0
+abbrev pub AnswersEngine : Bool → Command → List ℕ → List ℕ → LineAnswer → List ℕ → Type 0
 AnswersEngine closed k c e a e' = (s o : List ℕ) → AnswersWith closed k c e s a c e' s o
 
-abbrev pub AnswersSolver : Bool → Command → List ℕ → List ℕ → Given.Answer → List ℕ → Type 0
+abbrev pub AnswersSolver : Bool → Command → List ℕ → List ℕ → LineAnswer → List ℕ → Type 0
 AnswersSolver closed k c s a s' = (e o : List ℕ) → AnswersWith closed k c e s a c e s' o
 
 -- on all three, and changes the engine's alone
-abbrev pub AnswersEquate : Bool → Command → List ℕ → List ℕ → List ℕ → Given.Answer → List ℕ → Type 0
+abbrev pub AnswersEquate : Bool → Command → List ℕ → List ℕ → List ℕ → LineAnswer → List ℕ → Type 0
 AnswersEquate closed k c e s a e' = (o : List ℕ) → AnswersWith closed k c e s a c e' s o
 
 -- `close`; `push` and `pop`, which change the counts
-abbrev pub AnswersClose : List ℕ → Bool → Given.Answer → Bool → Type 0
+abbrev pub AnswersClose : List ℕ → Bool → LineAnswer → Bool → Type 0
 AnswersClose c closed a closed' =
     (e s n o : List ℕ) → SessionSound c e s (beside e n closed) → Answers Close c e s (beside e n closed) a c e s (beside e n closed') o
 
-abbrev pub AnswersLevels : Command → List ℕ → List ℕ → List ℕ → Bool → Given.Answer → List ℕ → List ℕ → List ℕ → Type 0
+abbrev pub AnswersLevels : Command → List ℕ → List ℕ → List ℕ → Bool → LineAnswer → List ℕ → List ℕ → List ℕ → Type 0
 AnswersLevels k e s n closed a e' s' n' =
     (c o : List ℕ) → SessionSound c e s (beside e n closed) → Answers k c e s (beside e n closed) a c e' s' (beside e' n' closed) o
 
 -- a check; that it keeps the records is known of sessions that lines lead to
-abbrev pub AnswersCheck : Bool → Bool → List ℕ → List ℕ → List ℕ → Given.Answer → List ℕ → List ℕ → List ℕ → Type 0
+abbrev pub AnswersCheck : Bool → Bool → List ℕ → List ℕ → List ℕ → LineAnswer → List ℕ → List ℕ → List ℕ → Type 0
 AnswersCheck closed full c e s a c' s' o =
     (m : Beside) → SessionSound c e s m → Reached (session c e s m) → m.closed ≡ closed → Answers (Check full) c e s m a c' e s' m o
 
@@ -139,20 +141,20 @@ pub record LevelsSound (e s n : List ℕ) : Type 0 where
 
 -- ---- any line
 
--- a command may be answered; its numbers stand in ns
-pub record Performable (c e s : List ℕ) (m : Beside) (k : GivenCommand.Command) (ns o : List ℕ) : Type 0 where
+-- a command may be answered
+pub record Performable (c e s : List ℕ) (m : Beside) (k : GivenCommand.Command) (o : List ℕ) : Type 0 where
   pub sound : SessionSound c e s m
   pub reached : Reached (session c e s m)
-  pub fits : ListFits k (length ns)
+  pub fits : ListFits k
   pub long : answer_size ≤ length o
 
 -- it was: a is the answer, m' what the session keeps after it
-pub record Performs (k : GivenCommand.Command) (ns c e s : List ℕ) (m : Beside) (a : Given.Answer) (c' e' s' : List ℕ) (m' : Beside)
+pub record Performs (k : GivenCommand.Command) (c e s : List ℕ) (m : Beside) (a : LineAnswer) (c' e' s' : List ℕ) (m' : Beside)
     (o : List ℕ) : Type 0 where
   pub sound : SessionSound c' e' s' m'
   pub printable : Printable a o
   pub performed :
-      answer_read (session c e s m) (command_meaning k ns)
+      answer_read (session c e s m) (some (command_meaning k))
       ≡ record { answer = answer_meaning a o; session = session c' e' s' m' }
 
 -- a line may be answered
@@ -163,7 +165,7 @@ pub record Steppable (c e s : List ℕ) (m : Beside) (ns o : List ℕ) : Type 0 
   pub long : answer_size ≤ length o
 
 -- it was, by the definition's step
-pub record Steps (line c e s : List ℕ) (m : Beside) (a : Given.Answer) (c' e' s' : List ℕ) (m' : Beside) (o : List ℕ) : Type 0 where
+pub record Steps (line c e s : List ℕ) (m : Beside) (a : LineAnswer) (c' e' s' : List ℕ) (m' : Beside) (o : List ℕ) : Type 0 where
   pub sound : SessionSound c' e' s' m'
   pub reached : Reached (session c' e' s' m')
   pub printable : Printable a o
@@ -171,25 +173,24 @@ pub record Steps (line c e s : List ℕ) (m : Beside) (a : Given.Answer) (c' e' 
 
 -- ---- answers of the layers below as answers of a line
 
-unfoldable pub declared_answer : Declared.Declared → Given.Answer
-declared_answer Declared.TheVariants.Done = Given.TheVariants.Ok
-declared_answer Declared.TheVariants.NoRoom = Given.TheVariants.Refused GivenRefusal.TheVariants.NoRoom
+unfoldable pub declared_answer : Result (Unit {0}) NoRoom → LineAnswer
+declared_answer (Ok u) = Ok Given.TheVariants.Ok
+declared_answer (Err n) = Err GivenRefusal.TheVariants.NoRoom
 
-unfoldable pub numbered_answer : Made.Made → Given.Answer
-numbered_answer (Made.TheVariants.At x) = Given.TheVariants.TermIs x
-numbered_answer Made.TheVariants.NoRoom = Given.TheVariants.Refused GivenRefusal.TheVariants.NoRoom
+unfoldable pub numbered_answer : Result TermId NoRoom → LineAnswer
+numbered_answer (Ok x) = Ok (Given.TheVariants.TermIs x)
+numbered_answer (Err n) = Err GivenRefusal.TheVariants.NoRoom
 
 -- an `assert` without conflict is done
-unfoldable pub asserted_answer : TCheck.TCheck → Given.Answer
-asserted_answer TCheck.TheVariants.Sat = Given.TheVariants.Ok
-asserted_answer TCheck.TheVariants.Conflict = Given.TheVariants.Conflict
-asserted_answer TCheck.TheVariants.Split = Given.TheVariants.Split
-asserted_answer TCheck.TheVariants.Unknown = Given.TheVariants.Unknown
-asserted_answer TCheck.TheVariants.NoRoom = Given.TheVariants.Refused GivenRefusal.TheVariants.NoRoom
+unfoldable pub asserted_answer : TCheck.TCheck → LineAnswer
+asserted_answer TCheck.TheVariants.Sat = Ok Given.TheVariants.Ok
+asserted_answer TCheck.TheVariants.Conflict = Ok Given.TheVariants.Conflict
+asserted_answer TCheck.TheVariants.Split = Ok Given.TheVariants.Split
+asserted_answer TCheck.TheVariants.Unknown = Ok Given.TheVariants.Unknown
 
-unfoldable pub checked_answer : TCheck.TCheck → Given.Answer
-checked_answer TCheck.TheVariants.Sat = Given.TheVariants.Sat
-checked_answer TCheck.TheVariants.Conflict = Given.TheVariants.Conflict
-checked_answer TCheck.TheVariants.Split = Given.TheVariants.Split
-checked_answer TCheck.TheVariants.Unknown = Given.TheVariants.Unknown
-checked_answer TCheck.TheVariants.NoRoom = Given.TheVariants.Refused GivenRefusal.TheVariants.NoRoom
+unfoldable pub checked_answer : RuleAnswer → LineAnswer
+checked_answer (Ok TCheck.TheVariants.Sat) = Ok Given.TheVariants.Sat
+checked_answer (Ok TCheck.TheVariants.Conflict) = Ok Given.TheVariants.Conflict
+checked_answer (Ok TCheck.TheVariants.Split) = Ok Given.TheVariants.Split
+checked_answer (Ok TCheck.TheVariants.Unknown) = Ok Given.TheVariants.Unknown
+checked_answer (Err n) = Err GivenRefusal.TheVariants.NoRoom

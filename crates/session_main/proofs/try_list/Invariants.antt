@@ -1,9 +1,8 @@
--- The buffers stay as long as they were, and each turn counts a script.
-use Rattle.std.proofs.Common.{◌≡◌, ◌-◌, length}
+-- A script counts at most as many lines and bytes as a head can say.
+use Rattle.std.proofs.Common.{◌≡◌, ◌*◌, ◌≤◌}
+use Rattle.session_main.specs.declared.list.TheConstants.{MAX_BYTES}
 use Rattle.session_main.proofs.try_list.Given as goal
 
-abbrev pub invariant-loop-t : goal.invariant-loop-t
-invariant-loop-t g l = (length l.script ≡ 99999) × (length l.answers ≡ 99999)
-
-abbrev pub decreases-loop-t : goal.decreases-loop-t
-decreases-loop-t g l = 100000 - l.t.scripts
+abbrev pub invariant-loop-place : goal.invariant-loop-place
+invariant-loop-place g l =
+    (l.tally.scripts ≡ l.place) × (l.tally.lines ≤ MAX_BYTES * l.place) × (l.tally.bytes ≤ MAX_BYTES * l.place)

@@ -5,7 +5,7 @@ use Rattle.shinri_core.specs.Limits.{max_sorts, max_params}
 use Rattle.shinri_core.specs.Memory.Table.{digit, packed, packed_words, op_of, role_of, member_role, context, AllBelow}
 use Rattle.shinri_core.specs.Context.{symbol, sort_of, result_of}
 use Rattle.shinri_core.specs.declared.ids.SymbolId.{SymbolId}
-use Rattle.shinri_core.specs.Memory.Codes.{op_meaning, OpBelow, RoleBelow, OpAt}
+use Rattle.shinri_core.specs.Memory.Codes.{op_code, op_meaning, OpBelow, RoleBelow, OpAt}
 use Rattle.shinri_core.specs.declared.term.Op as Op
 use Rattle.shinri_core.specs.declared.term.DtRole as DtRole
 
@@ -17,6 +17,12 @@ pub op_of_pred : (w : ℕ) → (w ≡ 0 → ⊥) → Uninterpreted (w - 1) ≡ o
 unfolding op_of
 op_of_pred zero n = absurd (n refl)
 op_of_pred (suc w) n = let e : suc w - 1 ≡ w = omega arith in ap Uninterpreted e
+
+-- the word of an operation, read back
+pub code_means : (o : Op.Op) → op_of (op_code o) ≡ op_meaning o
+unfolding op_of op_code op_meaning
+code_means Op.TheVariants.Eq = refl
+code_means (Op.TheVariants.Uninterpreted s) = refl
 
 pub role_of_zero : (s w : ℕ) → w ≡ 0 → Function ≡ role_of s w
 unfolding role_of
@@ -69,6 +75,65 @@ unfolding sort_of result_of op_meaning
 symbol_sort {t} o e p = p ∙ ap (result_of (context t)) (sym (ap op_meaning e) ∙ o.is)
 
 -- ---- four sorts in a word
+
+-- what the digits of a word count by
+abbrev pub digit_places : List ℕ
+digit_places = 1 ∷ 64 ∷ 4096 ∷ 262144 ∷ []
+
+pub place_counts : (d : ℕ) → d < 4 → 0 < get_or digit_places d 0
+place_counts zero h = omega arith
+place_counts (suc zero) h = omega arith
+place_counts (suc (suc zero)) h = omega arith
+place_counts (suc (suc (suc zero))) h = omega arith
+place_counts (suc (suc (suc (suc d)))) h = absurd (omega arith)
+
+pub digit_there : (w d : ℕ) → d < 4 → w / get_or digit_places d 0 % 64 ≡ digit w d
+unfolding digit
+digit_there w zero h = omega arith
+digit_there w (suc zero) h = refl
+digit_there w (suc (suc zero)) h = refl
+digit_there w (suc (suc (suc zero))) h = refl
+digit_there w (suc (suc (suc (suc d)))) h = absurd (omega arith)
+
+-- a number below 64 there
+place_at_most : (d x : ℕ) → x < 64 → get_or digit_places d 0 * x ≤ 16515072
+place_at_most zero x h = omega arith
+place_at_most (suc zero) x h = omega arith
+place_at_most (suc (suc zero)) x h = omega arith
+place_at_most (suc (suc (suc zero))) x h = omega arith
+place_at_most (suc (suc (suc (suc d)))) x h = omega arith
+
+-- the word of the first d of four numbers
+unfoldable pub packed_first : List ℕ → ℕ → ℕ → ℕ
+packed_first xs q zero = 0
+packed_first xs q (suc d) = packed_first xs q d + get_or digit_places d 0 * get_or xs (4 * q + d) 0
+
+-- a loop has packed the first d of them
+pub record Packing (xs : List ℕ) (q d word : ℕ) : Type 0 where
+  pub is : word ≡ packed_first xs q d
+  pub small : word ≤ d * 16515072
+
+pub pack_none : (xs : List ℕ) (q : ℕ) → Packing xs q 0 0
+unfolding packed_first
+pack_none xs q = record { is = refl; small = omega arith }
+
+pub pack_fits : {xs : List ℕ} {q d word x : ℕ} → Packing xs q d word → d < 4 → x < 64 →
+    (get_or digit_places d 0 * x ≤ 16515072) × (word + get_or digit_places d 0 * x ≤ (d + 1) * 16515072)
+pack_fits {d = d} {x = x} w h l = let s = w.small in let p = place_at_most d x l in (p, omega arith)
+
+pub pack_more : {xs : List ℕ} {q d word x : ℕ} → Packing xs q d word → d < 4 → x < 64 → x ≡ get_or xs (4 * q + d) 0 →
+    Packing xs q (d + 1) (word + get_or digit_places d 0 * x)
+unfolding packed_first
+pack_more {xs} {q} {d} {word} {x} w h l e = record {
+  is = rw (add-one d, ← w.is, ← e);
+  small = (pack_fits w h l).1;
+}
+
+pub pack_all : {xs : List ℕ} {q d word : ℕ} → Packing xs q d word → d ≡ 4 → word ≡ packed xs q
+unfolding packed packed_first
+pack_all {xs} {q} w e =
+    let z : 4 * q + 0 ≡ 4 * q = omega arith in
+    w.is ∙ rw (e, z) (omega arith)
 
 -- past its end a list gives 0
 pub each_below : (xs : List ℕ) (n : ℕ) → 0 < n → AllBelow n xs → (i : ℕ) → get_or xs i 0 < n

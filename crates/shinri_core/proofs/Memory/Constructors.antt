@@ -1,123 +1,119 @@
--- Constructors of a datatype, and question 10, by the words of the table.
-use Rattle.shinri_core.proofs.Kit.{ℕ, zero, suc, ◌+◌, ◌-◌, ◌≤◌, ◌<◌, ◌≡◌, refl, sym, ap, ◌∙◌, Bool, true, false, not, ◌&&◌, ◌||◌, List, arith, eq-eqb, ne_eqb, eqb, length}
+-- Constructors of a datatype, and question 10, by what the view has of symbols and sorts.
+use Rattle.shinri_core.proofs.Kit.{ℕ, ◌+◌, ◌≤◌, ◌<◌, ◌≡◌, refl, sym, ap, ◌∙◌, Bool, true, false, not, ◌&&◌, ◌||◌, List, arith, eqb, length, get_or}
 use Rattle.shinri_core.specs.Lists.{In, every, any, range}
-use Rattle.shinri_core.specs.Context.{is_constructor, is_datatype_sort, builds, datatypes, ready, has_ready_fields}
-use Rattle.shinri_core.specs.Memory.Words.{at, counted}
-use Rattle.shinri_core.specs.Memory.Table.{SORT, OWNER, RESULT, ARITY, sorts#, symbols#, role_of, member_role, param_at, context, ContextSound, NextConstructor, marked, adds}
+use Rattle.shinri_core.specs.Context.{symbol, is_constructor, is_datatype_sort, builds, datatypes, ready, has_ready_fields}
+use Rattle.shinri_core.specs.Memory.Words.{counted}
+use Rattle.shinri_core.specs.Memory.Table.{context, NoneBuilds, LowestConstructor, marked, adds}
+use Rattle.shinri_core.specs.Memory.Codes.{role_meaning, RoleAt}
+use Rattle.shinri_core.specs.declared.term.DtRole as DtRole
 use Rattle.shinri_core.proofs.Lists.{any_same}
-use Rattle.shinri_core.proofs.Memory.Codes.{ctor_role}
-use Rattle.shinri_core.proofs.Memory.Counted.{counted_range}
+use Rattle.shinri_core.proofs.Memory.Counted.{counted_range, counted_list}
 use Rattle.shinri_core.proofs.Memory.Searching.{Searched, search_next, any_found, any_missing, every_by_any, any_kept}
-use Rattle.shinri_core.proofs.Memory.Views.{sorts_length, symbols_length, datatype_word, role_is, result_is, params_are}
 
 -- ---- constructors
 
-member_not : (c d : ℕ) → (d ≡ 0 → ⊥) → is_constructor (member_role c d) ≡ false
-unfolding is_constructor member_role
-member_not c zero n = absurd (n refl)
-member_not c (suc zero) n = refl
-member_not c (suc (suc i)) n = refl
+is_ctor : (r : DtRole.DtRole) → r ≡ DtRole.TheVariants.Constructor → is_constructor (role_meaning r) ≡ true
+unfolding is_constructor role_meaning
+is_ctor r e = rw e
 
-role_not : (s w : ℕ) → w ≤ s + 1 → (w ≡ s + 1 → ⊥) → is_constructor (role_of s w) ≡ false
-unfolding is_constructor role_of
-role_not s zero l n = refl
-role_not s (suc c) l n = member_not c (s - c) (omega arith)
+not_ctor : (r : DtRole.DtRole) → (r ≡ DtRole.TheVariants.Constructor → ⊥) → is_constructor (role_meaning r) ≡ false
+unfolding is_constructor role_meaning
+not_ctor DtRole.TheVariants.Constructor n = absurd (n refl)
+not_ctor (DtRole.TheVariants.Tester c) n = refl
+not_ctor (DtRole.TheVariants.Selector c i) n = refl
+not_ctor DtRole.TheVariants.Function n = refl
 
-module _ (t : List ℕ) (dt s w : ℕ) (h : s < symbols# t) (e : w ≡ at t OWNER s) where
-  pub not_constructor : ContextSound t → (w ≡ s + 1 → ⊥) → false ≡ builds (context t) dt s
+module _ {t : List ℕ} {s : ℕ} {r : DtRole.DtRole} {b : Bool} (dt : ℕ) (o : RoleAt t s r) where
+  pub other_builds : (r ≡ DtRole.TheVariants.Constructor → ⊥) → b ≡ false → b ≡ builds (context t) dt s
   unfolding builds
-  not_constructor z n = rw (← role_is t s h, role_not s (at t OWNER s) (z.symbols s h).owner (λ q. n (e ∙ q)))
+  other_builds n e = rw (e, ← o.is, not_ctor r n)
 
-  pub builds_by_result : (r : ℕ) → w ≡ s + 1 → r ≡ at t RESULT s → eqb r dt ≡ builds (context t) dt s
-  unfolding builds is_constructor
-  builds_by_result r q p = rw (← role_is t s h, ← e, q, ctor_role s, p, result_is t s h)
+  pub ctor_builds : {q : ℕ} → r ≡ DtRole.TheVariants.Constructor → q ≡ (symbol (context t) s).result → b ≡ eqb q dt →
+      b ≡ builds (context t) dt s
+  unfolding builds
+  ctor_builds e p d = rw (← o.is, is_ctor r e, ← p) d
 
-module _ (t : List ℕ) (dt : ℕ) {from s n : ℕ} (w : Searched (builds (context t) dt) from s n) (e : n ≡ symbols# t) where
-  pub seek_found : (b : Bool) → s < n → b ≡ builds (context t) dt s → b ≡ true → NextConstructor t dt from s
-  seek_found b h r q =
-      let l = symbols_length t in record { after = w.after; within = omega arith; between = w.none; here = λ g. sym r ∙ q }
+module _ (t : List ℕ) (dt : ℕ) {from s n : ℕ} (w : Searched (builds (context t) dt) from s n) (e : n ≡ length (context t).symbols) where
+  pub seek_found : (b : Bool) → s < n → b ≡ builds (context t) dt s → b ≡ true → LowestConstructor t dt from s
+  seek_found b h r q = record { after = w.after; within = omega arith; between = w.none; here = sym r ∙ q }
 
   pub seek_next : (b : Bool) → s < n → b ≡ builds (context t) dt s → b ≡ false → Searched (builds (context t) dt) from (s + 1) n
   seek_next b h r q = search_next w h (sym r ∙ q)
 
-  pub seek_none : n ≤ s → NextConstructor t dt from s
-  seek_none l =
-      let m = symbols_length t in
-      let h = w.within in
-      record { after = w.after; within = omega arith; between = w.none; here = λ g. absurd (omega arith) }
+  pub seek_none : n ≤ s → NoneBuilds t dt from (length (context t).symbols)
+  seek_none l k g h = w.none k g (omega arith)
 
 -- ---- question 10: sorts
 
-module _ (t m : List ℕ) (s r : ℕ) (h : s < sorts# t) (e : r ≡ at t SORT s) where
-  pub other_ready : (r ≡ 1 → ⊥) → true ≡ ready (context t) (marked m) s
+module _ (t : List ℕ) (m : List Bool) (s : ℕ) {d : Bool} (e : d ≡ is_datatype_sort (context t) s) where
+  pub other_ready : not d ≡ true → not d ≡ ready (context t) (marked m) s
   unfolding ready
-  other_ready n = rw (← datatype_word t s r h e, ne_eqb r 1 n)
+  other_ready q = rw (← e, q)
 
-  pub datatype_ready : (w : ℕ) → r ≡ 1 → w ≡ at m 0 s → eqb w 1 ≡ ready (context t) (marked m) s
+  pub datatype_ready : not d ≡ false → get_or m s false ≡ ready (context t) (marked m) s
   unfolding ready marked
-  datatype_ready w q f = rw (← datatype_word t s r h e, eq-eqb r 1 q, f)
+  datatype_ready q = rw (← e, q)
 
 -- a sort is not ready
-abbrev pub Unready : List ℕ → List ℕ → ℕ → Bool
+abbrev pub Unready : List ℕ → List Bool → ℕ → Bool
 Unready t m s = not (ready (context t) (marked m) s)
 
 -- ---- question 10: fields
 
 -- field i of symbol c is not ready
-abbrev pub UnreadyField : List ℕ → List ℕ → ℕ → ℕ → Bool
-UnreadyField t m c i = Unready t m (param_at t c i)
+abbrev pub UnreadyField : List ℕ → List Bool → ℕ → ℕ → Bool
+UnreadyField t m c i = Unready t m (get_or (symbol (context t) c).params i 0)
 
-module _ (t m : List ℕ) (c n : ℕ) (e : n ≡ at t ARITY c) where
-  fields_are : c < symbols# t → not (any (Unready t m) (counted (param_at t c) n)) ≡ has_ready_fields (context t) (marked m) c
+module _ (t : List ℕ) (m : List Bool) (c n : ℕ) (e : n ≡ length (symbol (context t) c).params) where
+  abbrev fields : List ℕ
+  fields = (symbol (context t) c).params
+
+  fields_are : not (any (Unready t m) (counted (λ i. get_or fields i 0) n)) ≡ has_ready_fields (context t) (marked m) c
   unfolding has_ready_fields
-  fields_are h =
-      sym (every_by_any (ready (context t) (marked m)) (counted (param_at t c) n))
-      ∙ ap (every (ready (context t) (marked m))) (ap (counted (param_at t c)) e ∙ sym (params_are t c h))
+  fields_are =
+      ap (λ (xs : List ℕ). not (any (Unready t m) xs)) (counted_list (λ i. get_or fields i 0) n fields e (λ i l. refl))
+      ∙ sym (every_by_any (ready (context t) (marked m)) fields)
 
-  module _ (i p : ℕ) (r : Bool) (l : i < n) (q : p ≡ param_at t c i) (w : r ≡ ready (context t) (marked m) p) where
-    field_word : UnreadyField t m c i ≡ not r
-    field_word = ap (λ (x : ℕ). Unready t m x) (sym q) ∙ ap not (sym w)
+  module _ (i p : ℕ) (r : Bool) (l : i < n) (q : p ≡ get_or (symbol (context t) c).params i 0)
+      (w : r ≡ ready (context t) (marked m) p) where
+    field_is : UnreadyField t m c i ≡ not r
+    field_is = ap (λ (x : ℕ). Unready t m x) (sym q) ∙ ap not (sym w)
 
     pub field_ready : Searched (UnreadyField t m c) 0 i n → not r ≡ false → Searched (UnreadyField t m c) 0 (i + 1) n
-    field_ready v o = search_next v l (field_word ∙ o)
+    field_ready v o = search_next v l (field_is ∙ o)
 
-    pub field_unready : c < symbols# t → not r ≡ true → false ≡ has_ready_fields (context t) (marked m) c
-    field_unready h o = sym (ap not (any_found (Unready t m) (param_at t c) n i l (field_word ∙ o))) ∙ fields_are h
+    pub field_unready : not r ≡ true → false ≡ has_ready_fields (context t) (marked m) c
+    field_unready o = sym (ap not (any_found (Unready t m) (λ j. get_or fields j 0) n i l (field_is ∙ o))) ∙ fields_are
 
-  pub fields_ready : (i : ℕ) → c < symbols# t → n ≤ i → Searched (UnreadyField t m c) 0 i n →
-      true ≡ has_ready_fields (context t) (marked m) c
-  fields_ready i h l w = sym (ap not (any_missing (Unready t m) (param_at t c) n (λ k a b. w.none k a (omega arith)))) ∙ fields_are h
+  pub fields_ready : (i : ℕ) → n ≤ i → Searched (UnreadyField t m c) 0 i n → true ≡ has_ready_fields (context t) (marked m) c
+  fields_ready i l w =
+      sym (ap not (any_missing (Unready t m) (λ j. get_or fields j 0) n (λ k a b. w.none k a (omega arith)))) ∙ fields_are
 
 -- ---- question 10: a datatype is found by its constructor
 
-pub result_declared : (t : List ℕ) (c p : ℕ) → ContextSound t → c < symbols# t → p ≡ at t RESULT c → p < sorts# t
-result_declared t c p z h f = let k = (z.symbols c h).result in omega arith
-
-module _ (t m : List ℕ) (c w : ℕ) (h : c < symbols# t) (e : w ≡ at t OWNER c) where
-  pub other_adds : ContextSound t → (w ≡ c + 1 → ⊥) → false ≡ adds (context t) (marked m) c
+module _ {t : List ℕ} (m : List Bool) {c : ℕ} {r : DtRole.DtRole} {b : Bool} (o : RoleAt t c r) where
+  pub other_adds : (r ≡ DtRole.TheVariants.Constructor → ⊥) → b ≡ false → b ≡ adds (context t) (marked m) c
   unfolding adds
-  other_adds z n = rw (← role_is t c h, role_not c (at t OWNER c) (z.symbols c h).owner (λ q. n (e ∙ q)))
+  other_adds n e = rw (e, ← o.is, not_ctor r n)
 
-  module _ (p : ℕ) (r : Bool) (q : w ≡ c + 1) (f : p ≡ at t RESULT c) (g : r ≡ ready (context t) (marked m) p) where
-    -- the test of a constructor
-    constructor_adds : adds (context t) (marked m) c ≡ (not r && has_ready_fields (context t) (marked m) c)
-    unfolding adds is_constructor
-    constructor_adds = rw (← role_is t c h, ← e, q, ctor_role c, ← result_is t c h, ← f, ← g)
+  module _ {p : ℕ} {d : Bool} (e : r ≡ DtRole.TheVariants.Constructor) (f : p ≡ (symbol (context t) c).result)
+      (g : d ≡ ready (context t) (marked m) p) where
+    pub ready_adds : not d ≡ false → b ≡ false → b ≡ adds (context t) (marked m) c
+    unfolding adds
+    ready_adds q k = rw (← o.is, is_ctor r e, ← f, ← g, q) k
 
-    pub ready_adds : r ≡ true → false ≡ adds (context t) (marked m) c
-    ready_adds o = sym (constructor_adds ∙ ap (λ (b : Bool). not b && has_ready_fields (context t) (marked m) c) o)
-
-    pub fields_add : (b : Bool) → r ≡ false → b ≡ has_ready_fields (context t) (marked m) c → b ≡ adds (context t) (marked m) c
-    fields_add b o k = k ∙ sym (constructor_adds ∙ ap (λ (b : Bool). not b && has_ready_fields (context t) (marked m) c) o)
+    pub fields_add : not d ≡ true → b ≡ has_ready_fields (context t) (marked m) c → b ≡ adds (context t) (marked m) c
+    unfolding adds
+    fields_add q k = rw (← o.is, is_ctor r e, ← f, ← g, q) k
 
 -- ---- question 10: all datatypes
 
-module _ (t m : List ℕ) (n : ℕ) (e : n ≡ sorts# t) where
+module _ (t : List ℕ) (m : List Bool) (n : ℕ) (e : n ≡ length (context t).sorts) where
   all_found_is : not (any (Unready t m) (counted (λ i. i) n)) ≡ every (marked m) (datatypes (context t))
   unfolding datatypes ready
   all_found_is =
       ap not
-      (ap (any (Unready t m)) (counted_range n ∙ ap (range 0) (e ∙ sym (sorts_length t)))
+      (ap (any (Unready t m)) (counted_range n ∙ ap (range 0) e)
       ∙ any_same (Unready t m) (λ s. is_datatype_sort (context t) s && not (marked m s)) (range 0 (length (context t).sorts)) each
       ∙ sym (any_kept (is_datatype_sort (context t)) (λ s. not (marked m s)) (range 0 (length (context t).sorts))))
       ∙ sym (every_by_any (marked m) (datatypes (context t)))

@@ -1,5 +1,7 @@
 -- Declarations: an empty table, terms given back, one more sort, one more symbol, a function, a constructor.
-use Rattle.shinri_core.proofs.Kit.{ℕ, zero, suc, ◌+◌, ◌-◌, ◌*◌, ◌/◌, ◌%◌, ◌≤◌, ◌<◌, ◌≡◌, refl, sym, subst, ap, ◌∙◌, true, false, true≢false, List, [], ◌∷◌, ◌++◌, append_assoc, append-nil, add-one, arith, below_more, le-leb, lt-leb, leb, length, get_or, take, drop, length-append, drop_of_length-le, drop-cons, take_all, take-take, length-take-le}
+use Rattle.shinri_core.proofs.Kit.{ℕ, zero, suc, ◌+◌, ◌-◌, ◌*◌, ◌/◌, ◌%◌, ◌≤◌, ◌<◌, ◌≡◌, refl, sym, subst, ap, ◌∙◌, true, false, true≢false, List, [], ◌∷◌, ◌++◌, append_assoc, append-nil, add-one, zero-add, replicate, arith, le-leb, lt-leb, leb, length, get_or, take, drop, length-append, length-drop, drop_of_length-le, drop-cons, take_all, take-take, length-take-le}
+use borrow.Rule.Slice.PartMut.{put_mid}
+use lib.ListN.{length-replicate}
 use Rattle.shinri_core.specs.Limits.{max_sorts, max_symbols, table_words}
 use Rattle.shinri_core.specs.Lists.{range}
 use Rattle.shinri_core.specs.Sort.{SortNode, BoolSort}
@@ -8,12 +10,12 @@ use Rattle.shinri_core.specs.Context.{Context, empty_context, with_symbols, decl
 use Rattle.shinri_core.specs.Memory.Words.{at, put, put_all, Kept, counted}
 use Rattle.shinri_core.specs.Memory.Table.{COUNTS, SORTS, SYMBOLS, TERMS, SORT, OWNER, RESULT, ARITY, PARAMS, OP, OFFSET, BUCKET, LINK, core_room, sorts#, symbols#, terms#, digit, packed, packed_words, node_of, role_of, sort_at, param_at, symbol_at, term_at, context, buckets, bucket_of, newest, Indexed, AllBelow, SymbolSound, ContextSound, MayDeclare, SymbolRoom, SymbolAdded, SelectorRoom, SymbolsAdded, NoTerms}
 use Rattle.shinri_core.specs.Memory.Codes.{Declares}
-use Rattle.shinri_core.specs.declared.context.Declared as Declared
-use Rattle.shinri_core.proofs.Lists.{and_no}
+use Rattle.std.specs.Prelude.{Ok, Err}
+use Rattle.shinri_core.proofs.Lists.{and_no, zeros}
 use Rattle.shinri_core.proofs.Symbols.{constructor_count}
 use Rattle.shinri_core.proofs.Memory.Counted.{counted_same, counted_cut, counted_grown, counted_list}
-use Rattle.shinri_core.proofs.Memory.Stores.{other_place, length_put}
-use Rattle.shinri_core.proofs.Memory.Regions.{stores}
+use Rattle.shinri_core.proofs.Memory.Stores.{other_place, part_stored}
+use Rattle.shinri_core.proofs.Memory.Regions.{stores, all_long, all_same}
 use Rattle.shinri_core.proofs.Memory.Index.{indexed_less, found}
 use Rattle.shinri_core.proofs.Memory.Codes.{digit_packed, ctor_role, tester_role, selector_role}
 use Rattle.shinri_core.proofs.Memory.Views.{sorts_length, symbols_length, terms_length, offset_mono}
@@ -69,29 +71,24 @@ cleared {t} {u} a e₁ e₂ e₃ e₄ e₅ =
     let c : Cleared u = search (e₅, e₄, e₃, e₂, e₁, stores, a.heads) depth 9 in
     (cleared_sound u c, cleared_view u c)
 
--- the buckets below i are cleared
-pub record Clearing (t₀ t : List ℕ) (i : ℕ) : Type 0 where
-  pub within : i ≤ buckets
-  pub long : table_words ≤ length t
-  pub same : length t ≡ length t₀
-  pub heads : (h : ℕ) → h < i → at t BUCKET h ≡ 0
-
-pub clear_first : {t : List ℕ} → table_words ≤ length t → Clearing t t 0
-clear_first l = record { within = omega arith; long = l; same = refl; heads = λ h g. absurd (omega arith) }
-
-pub clear_next : {t₀ t u : List ℕ} {i : ℕ} → Clearing t₀ t i → i < buckets → u ≡ put t BUCKET i 0 → Clearing t₀ u (i + 1)
-clear_next {t = t} {u} {i} c h e =
-    let l : table_words ≤ length t = c.long in
-    let r : i < 1024 = omega arith in
-    record {
-      within = omega arith;
-      long = search (e, stores);
-      same = ap length e ∙ length_put t BUCKET i 0 ∙ c.same;
-      heads = below_more (λ (x : ℕ). at u BUCKET x ≡ 0) i (λ x g. search (e, stores, c.heads)) (search (e, stores));
-    }
-
-pub clear_done : {t₀ t : List ℕ} {i : ℕ} → Clearing t₀ t i → buckets ≤ i → NoTerms t
-clear_done c h = record { long = c.long; heads = λ x l. c.heads x (omega arith) }
+-- each bucket is written over by 0
+pub buckets_cleared : (t ws : List ℕ) → ws ≡ replicate (length (take buckets (drop BUCKET t))) 0 → table_words ≤ length t →
+    NoTerms (put_mid BUCKET buckets t ws)
+buckets_cleared t ws e l =
+    let d = length-drop BUCKET t in
+    let k : length (take buckets (drop BUCKET t)) ≡ buckets = length-take-le buckets (drop BUCKET t) (omega arith) in
+    let n = length-replicate {A = ℕ} buckets 0 in
+    let m : buckets ≤ 1024 = omega arith in
+    let c : put_mid BUCKET buckets t ws ≡ put_all t BUCKET 0 (replicate buckets 0) =
+    part_stored t BUCKET 0 buckets (replicate buckets 0) ws (e ∙ ap (λ (j : ℕ). replicate j 0) k) (sym n) (omega arith) in
+    rw c (record { long = all_long t BUCKET 0 (replicate buckets 0) l; heads = λ h g. zero_there h g })
+  where
+    zero_there : (h : ℕ) → h < buckets → at (put_all t BUCKET 0 (replicate buckets 0)) BUCKET h ≡ 0
+    zero_there h g =
+        let n = length-replicate {A = ℕ} buckets 0 in
+        ap (at (put_all t BUCKET 0 (replicate buckets 0)) BUCKET) (sym (zero-add h))
+        ∙ all_same t BUCKET 0 (replicate buckets 0) h tt l (omega arith) (omega arith)
+        ∙ zeros buckets h
 
 -- ---- terms taken back
 
@@ -179,10 +176,10 @@ drop_done {n = n} {i = i} d h = let a = d.above in let e : n ≡ i = omega arith
 
 -- ---- whether declarations fit
 
-refused : (t : List ℕ) (cx : Context) → ContextSound t → declarations_fit cx ≡ false → Declares t cx Declared.TheVariants.NoRoom t
+refused : (t : List ℕ) (cx : Context) → ContextSound t → declarations_fit cx ≡ false → Declares t cx (Err (record {})) t
 refused t cx z b = record { sound = z; answer = rw b; view = rw b; unchanged = λ q. refl }
 
-accepted : (t : List ℕ) (cx : Context) (u : List ℕ) → ContextSound u → context u ≡ cx → Declares t cx Declared.TheVariants.Done u
+accepted : (t : List ℕ) (cx : Context) (u : List ℕ) → ContextSound u → context u ≡ cx → Declares t cx (Ok tt) u
 unfolding declarations_fit
 accepted t cx u z e =
     let s = ap (λ (x : Context). length x.sorts) e in
@@ -194,7 +191,7 @@ accepted t cx u z e =
 -- ---- one more sort
 
 pub no_more_sorts : {t : List ℕ} {n : ℕ} (node : SortNode) → ContextSound t → n ≡ sorts# t → n ≡ max_sorts →
-    Declares t (declare_sort (context t) node) Declared.TheVariants.NoRoom t
+    Declares t (declare_sort (context t) node) (Err (record {})) t
 unfolding declare_sort declarations_fit
 no_more_sorts {t} {n} node z e q =
     let m = length-append (context t).sorts (node ∷ []) in
@@ -202,7 +199,7 @@ no_more_sorts {t} {n} node z e q =
 
 pub sort_declared : (v : ℕ) {t : List ℕ} {n : ℕ} {node : SortNode} {t₁ u : List ℕ} → ContextSound t → n ≡ sorts# t → (n ≡ max_sorts → ⊥) →
     node_of v ≡ node → t₁ ≡ put t SORT n v → u ≡ put t₁ COUNTS SORTS (n + 1) →
-    Declares t (declare_sort (context t) node) Declared.TheVariants.Done u
+    Declares t (declare_sort (context t) node) (Ok tt) u
 unfolding context declare_sort sort_at
 sort_declared v {t} {n} {node} {t₁} {u} z e q p e₁ e₂ =
     let l : table_words ≤ length t = z.long in
@@ -328,7 +325,7 @@ counts t u new e =
     record { symbols = omega arith; sorts = sym (sorts_length u) ∙ ap (λ (x : Context). length x.sorts) e ∙ sorts_length t }
 
 too_many : (t : List ℕ) (new : List Symbol) → max_symbols < symbols# t + length new → ContextSound t →
-    Declares t (with_symbols (context t) new) Declared.TheVariants.NoRoom t
+    Declares t (with_symbols (context t) new) (Err (record {})) t
 unfolding with_symbols declarations_fit
 too_many t new h z =
     let l = length-append (context t).symbols new in
@@ -365,7 +362,7 @@ single_room t n owner result dt z e r o d q =
 -- ---- a function
 
 module _ {t : List ℕ} {n result : ℕ} {params : List ℕ} (a : MayDeclare t result params) (e : n ≡ symbols# t) where
-  pub no_function : n ≡ max_symbols → Declares t (declare_fun (context t) result params) Declared.TheVariants.NoRoom t
+  pub no_function : n ≡ max_symbols → Declares t (declare_fun (context t) result params) (Err (record {})) t
   unfolding declare_fun
   no_function q = too_many t (record { role = Function; params = params; result = result } ∷ []) (omega arith) a.sound
 
@@ -373,7 +370,7 @@ module _ {t : List ℕ} {n result : ℕ} {params : List ℕ} (a : MayDeclare t r
   function_room q = let z = a.sound in symbol_room a e (omega arith) (omega arith)
 
 pub function_added : {t : List ℕ} {n result : ℕ} {params u : List ℕ} → SymbolAdded t n 0 result params u →
-    Declares t (declare_fun (context t) result params) Declared.TheVariants.Done u
+    Declares t (declare_fun (context t) result params) (Ok tt) u
 unfolding declare_fun role_of
 function_added {t} {result = result} {params} {u} a = accepted t (declare_fun (context t) result params) u a.sound a.view
 
@@ -443,7 +440,7 @@ module _ {t₀ : List ℕ} {c dt : ℕ} {fields : List ℕ} where
 
 module _ {t : List ℕ} {n dt : ℕ} {fields : List ℕ} (m : MayDeclare t dt fields) (e : n ≡ symbols# t) where
   pub no_constructor : max_symbols - n < length fields + 2 →
-      Declares t (dt_add_constructor (context t) dt fields) Declared.TheVariants.NoRoom t
+      Declares t (dt_add_constructor (context t) dt fields) (Err (record {})) t
   unfolding dt_add_constructor
   no_constructor h =
       let l = constructor_count (length (context t).symbols) dt fields in
@@ -482,7 +479,7 @@ module _ {t : List ℕ} {n dt : ℕ} {fields t₁ : List ℕ} (e : n ≡ symbols
 
   pub constructor_added : {t₂ u : List ℕ} → SymbolAdded t₁ (n + 1) (n + 1) 0 (dt ∷ []) t₂ →
       SymbolsAdded t₂ (selectors_from n dt 0 fields) u →
-      Declares t (dt_add_constructor (context t) dt fields) Declared.TheVariants.Done u
+      Declares t (dt_add_constructor (context t) dt fields) (Ok tt) u
   unfolding dt_add_constructor constructor_symbols
   constructor_added {u = u} b c =
       accepted t (dt_add_constructor (context t) dt fields) u c.sound

@@ -1,21 +1,17 @@
 -- Question 10: rounds over the marks. A mark that a round adds is right, since the inhabited datatypes have each one that is grounded in
 -- them; a round that adds none has marked each datatype that is grounded in the marks. So the marks are the least such set at the end.
-use Rattle.shinri_core.proofs.Kit.{ℕ, ◌+◌, ◌≤◌, ◌<◌, ◌≡◌, refl, sym, subst, subst⁻¹, ap, ◌∙◌, ◌⊎◌, inl, inr, Bool, true, false, cond, not, ◌&&◌, ◌||◌, false≢true, true≢false, List, ℕ_discrete, arith, T, eqb, eqb→eq, eqb_refl, eq-eqb, length, replicate, get_or-set_same}
+use Rattle.shinri_core.proofs.Kit.{ℕ, zero, suc, ◌+◌, ◌≤◌, ◌<◌, ◌≡◌, refl, sym, subst, subst⁻¹, ap, ◌∙◌, ◌⊎◌, inl, inr, Bool, true, false, not, ◌&&◌, ◌||◌, false≢true, true≢false, List, ℕ_discrete, arith, T, eqb, eqb→eq, eqb_refl, length, get_or, set, length-set, replicate, get_or-set_same, get_or-set_other}
 use lib.Dec.{not_T}
 use lib.ListN.{length-replicate}
 use Rattle.shinri_core.specs.Limits.{max_sorts}
 use Rattle.shinri_core.specs.Lists.{In, keep, every, range}
 use Rattle.shinri_core.specs.Context.{Context, symbol, is_constructor, is_datatype_sort, builds, dt_constructors, datatypes, ready, has_ready_fields, grounded, inhabited, all_grounded}
 use Rattle.shinri_core.specs.Inhabited.{Closed}
-use Rattle.shinri_core.specs.Memory.Words.{at, put}
-use Rattle.shinri_core.specs.Memory.Table.{RESULT, symbols#, context, ContextSound, marked, unmarked, adds, Marks, MarkRound}
-use Rattle.shinri_core.proofs.Lists.{T_and, T-both, T-or, T_true, true_T, T-same, in_any, any_in, every_same, zeros, in_keep, keep_in, keep_more, in_range}
+use Rattle.shinri_core.specs.Memory.Table.{context, ContextSound, marked, unmarked, adds, Marks, MarkRound}
+use Rattle.shinri_core.proofs.Lists.{T_and, T-both, T-or, T_true, true_T, T-same, in_any, any_in, every_same, in_keep, keep_in, keep_more, in_range}
 use Rattle.shinri_core.proofs.Symbols.{builds_in, in_builds, in_symbols}
 use Rattle.shinri_core.proofs.Inhabited.{grounded_more, inhabited_closed, inhabited_least}
-use Rattle.shinri_core.proofs.Memory.Constructors.{result_declared}
 use Rattle.shinri_core.proofs.Memory.Searching.{NoneFrom, none_yet, none_more}
-use Rattle.shinri_core.proofs.Memory.Stores.{length_put, other_place}
-use Rattle.shinri_core.proofs.Memory.Views.{symbols_length, result_is}
 
 -- a sort that is not ready is a datatype that is not found
 unready_is : (d f : Bool) → T (not (not d || f)) → T d × (T f → ⊥)
@@ -29,38 +25,38 @@ not_turned a false f t = tt
 
 -- ---- one mark more
 
-module _ (u : List ℕ) (p : ℕ) (h : 0 + p < length u) where
-  mark_there : marked (put u 0 p 1) p ≡ true
-  unfolding marked at put
-  mark_there = eq-eqb (at (put u 0 p 1) 0 p) 1 (get_or-set_same u (0 + p) 1 0 (omega arith))
+module _ (u : List Bool) (p : ℕ) (h : p < length u) where
+  mark_there : marked (set u p true) p ≡ true
+  unfolding marked
+  mark_there = get_or-set_same u p true false h
 
-  mark_old : (x : ℕ) → T (marked (put u 0 p 1) x) → (x ≡ p) ⊎ T (marked u x)
+  mark_old : (x : ℕ) → T (marked (set u p true) x) → (x ≡ p) ⊎ T (marked u x)
   unfolding marked
   mark_old x t = go (ℕ_discrete x p)
     where
       go : Dec (x ≡ p) → (x ≡ p) ⊎ T (marked u x)
       go (yes e) = inl e
-      go (no d) = inr (subst (λ (w : ℕ). T (eqb w 1)) (other_place u 0 p x 1 d) t)
+      go (no d) = inr (subst T (get_or-set_other u p x true false d) t)
 
-  mark_stays : (x : ℕ) → T (marked u x) → T (marked (put u 0 p 1) x)
+  mark_stays : (x : ℕ) → T (marked u x) → T (marked (set u p true) x)
   unfolding marked
   mark_stays x t = go (ℕ_discrete x p)
     where
-      go : Dec (x ≡ p) → T (marked (put u 0 p 1) x)
-      go (yes e) = subst⁻¹ (λ (y : ℕ). T (marked (put u 0 p 1) y)) e (true_T (marked (put u 0 p 1) p) mark_there)
-      go (no d) = subst⁻¹ (λ (w : ℕ). T (eqb w 1)) (other_place u 0 p x 1 d) t
+      go : Dec (x ≡ p) → T (marked (set u p true) x)
+      go (yes e) = subst⁻¹ (λ (y : ℕ). T (marked (set u p true) y)) e (true_T (marked (set u p true) p) mark_there)
+      go (no d) = subst⁻¹ T (get_or-set_other u p x true false d) t
 
   abbrev before : ℕ → Bool
   before s = not (marked u s)
 
   abbrev after : ℕ → Bool
-  after s = not (marked (put u 0 p 1) s)
+  after s = not (marked (set u p true) s)
 
-  unmarked_less : (T (marked u p) → ⊥) → length (unmarked (put u 0 p 1)) < length (unmarked u)
+  unmarked_less : (T (marked u p) → ⊥) → length (unmarked (set u p true)) < length (unmarked u)
   unfolding unmarked
   unmarked_less new =
-      subst⁻¹ (λ (n : ℕ). length (keep after (range 0 n)) < length (keep before (range 0 (length u)))) (length_put u 0 p 1)
-      (less (keep_more after before (range 0 (length u)) (λ x. not_turned (marked (put u 0 p 1) x) (marked u x) (mark_stays x))))
+      subst⁻¹ (λ (n : ℕ). length (keep after (range 0 n)) < length (keep before (range 0 (length u)))) (length-set u p true)
+      (less (keep_more after before (range 0 (length u)) (λ x. not_turned (marked (set u p true) x) (marked u x) (mark_stays x))))
     where
       there : In p (keep before (range 0 (length u)))
       there = in_keep before (range 0 (length u)) p (in_range 0 (length u) p (omega arith) (omega arith)) (not_T (marked u p) new)
@@ -122,18 +118,18 @@ none_adds cx found none s d g =
 -- ---- a round
 
 -- symbols below c were tried on marks m, which are u now
-pub record Rounding (t m : List ℕ) (c : ℕ) (added : Bool) (u : List ℕ) : Type 0 where
+pub record Rounding (t : List ℕ) (m : List Bool) (c : ℕ) (added : Bool) (u : List Bool) : Type 0 where
   pub long : length u ≡ length m
   pub marks : Marks t u
   pub more : added ≡ true → length (unmarked u) < length (unmarked m)
   pub same : added ≡ false → u ≡ m
   pub none : added ≡ false → NoneFrom (adds (context t) (marked u)) 0 c
 
--- there is room for the mark of a constructor's datatype
-pub mark_fits : {t u : List ℕ} {c p : ℕ} → ContextSound t → c < symbols# t → p ≡ at t RESULT c → Marks t u → 0 + p < length u
-mark_fits {t} {u} {c} {p} z h f k = let l = k.long in let r = result_declared t c p z h f in let n = z.sorts_fit in omega arith
+-- there is room for the mark of a sort
+pub mark_fits : {t : List ℕ} {u : List Bool} {p : ℕ} → ContextSound t → p < length (context t).sorts → Marks t u → p < length u
+mark_fits {t} z h k = let l = k.long in let e = z.sort_count in let n = z.sorts_fit in omega arith
 
-module _ {t m : List ℕ} where
+module _ {t : List ℕ} {m : List Bool} where
   pub round_first : Marks t m → Rounding t m 0 false m
   round_first k = record {
     long = refl;
@@ -143,7 +139,7 @@ module _ {t m : List ℕ} where
     none = λ e. none_yet (adds (context t) (marked m)) 0;
   }
 
-  module _ {c : ℕ} {b : Bool} {u : List ℕ} {r : Bool} (w : Rounding t m c b u) (e : r ≡ adds (context t) (marked u) c) where
+  module _ {c : ℕ} {b : Bool} {u : List Bool} {r : Bool} (w : Rounding t m c b u) (e : r ≡ adds (context t) (marked u) c) where
     pub round_passes : r ≡ false → Rounding t m (c + 1) b u
     round_passes q = record {
       long = w.long;
@@ -153,22 +149,19 @@ module _ {t m : List ℕ} where
       none = λ f. none_more (adds (context t) (marked u)) 0 c (w.none f) (sym e ∙ q);
     }
 
-    pub round_adds : {p : ℕ} {v : List ℕ} → r ≡ true → ContextSound t → c < symbols# t → p ≡ at t RESULT c → v ≡ put u 0 p 1 →
-        Rounding t m (c + 1) true v
-    round_adds {p} q z h f d = subst⁻¹ (Rounding t m (c + 1) true) d (record {
-      long = length_put u 0 p 1 ∙ w.long;
+    pub round_adds : {p : ℕ} → r ≡ true → ContextSound t → p ≡ (symbol (context t) c).result → p < length (context t).sorts →
+        Rounding t m (c + 1) true (set u p true)
+    round_adds {p} q z result h = record {
+      long = length-set u p true ∙ w.long;
       marks = record {
-        long = let n = length_put u 0 p 1 in omega arith;
-        inhabited = λ s i. right s (mark_old u p (mark_fits z h f w.marks) s i);
+        long = let n = length-set u p true in let l = w.marks.long in omega arith;
+        inhabited = λ s i. right s (mark_old u p (mark_fits z h w.marks) s i);
       };
       more = λ o. fewer b refl;
       same = λ o. absurd (true≢false o);
       none = λ o. absurd (true≢false o);
-    })
+    }
       where
-        result : p ≡ (symbol (context t) c).result
-        result = f ∙ result_is t c h
-
         a : Added (context t) (marked u) c
         a = added (context t) (marked u) c (true_T (adds (context t) (marked u) c) (sym e ∙ q))
 
@@ -182,59 +175,49 @@ module _ {t m : List ℕ} where
         right s (inl g) = subst⁻¹ (λ (x : ℕ). T (inhabited (context t) x)) (g ∙ result) inhabited_now
         right s (inr i) = w.marks.inhabited s i
 
-        one_less : length (unmarked (put u 0 p 1)) < length (unmarked u)
-        one_less = unmarked_less u p (mark_fits z h f w.marks) (λ i. a.new (subst (λ (x : ℕ). T (marked u x)) result i))
+        one_less : length (unmarked (set u p true)) < length (unmarked u)
+        one_less = unmarked_less u p (mark_fits z h w.marks) (λ i. a.new (subst (λ (x : ℕ). T (marked u x)) result i))
 
-        fewer : (o : Bool) → b ≡ o → length (unmarked (put u 0 p 1)) < length (unmarked m)
+        fewer : (o : Bool) → b ≡ o → length (unmarked (set u p true)) < length (unmarked m)
         fewer true g = let l = w.more g in let k = one_less in omega arith
-        fewer false g = subst (λ (v : List ℕ). length (unmarked (put u 0 p 1)) < length (unmarked v)) (w.same g) one_less
+        fewer false g = subst (λ (v : List Bool). length (unmarked (set u p true)) < length (unmarked v)) (w.same g) one_less
 
-  pub round_done : {c : ℕ} {b : Bool} {u : List ℕ} (n : ℕ) → Rounding t m c b u → n ≡ symbols# t → n ≤ c → MarkRound t m b u
+  pub round_done : {c : ℕ} {b : Bool} {u : List Bool} (n : ℕ) → Rounding t m c b u → n ≡ length (context t).symbols → n ≤ c →
+      MarkRound t m b u
   round_done {c} {b} {u} n w e h = record {
     marks = w.marks;
     more = w.more;
     same = w.same;
-    closed = λ o. let l = symbols_length t in none_adds (context t) (marked u) (λ k i j. w.none o k i (omega arith));
+    closed = λ o. none_adds (context t) (marked u) (λ k i j. w.none o k i (omega arith));
   }
 
 -- ---- all rounds
 
--- marks after some rounds; when no more are to come, they have each datatype that is grounded in them
-pub record Finding (t : List ℕ) (more : Bool) (u : List ℕ) : Type 0 where
+-- marks after some rounds
+pub record Finding (t : List ℕ) (u : List Bool) : Type 0 where
   pub long : length u ≡ max_sorts
   pub marks : Marks t u
-  pub closed : more ≡ false → Closed (context t) (marked u)
 
--- how many rounds may come: one for each sort without a mark, and one that adds none
-abbrev pub rounds_left : Bool → List ℕ → ℕ
-rounds_left more u = cond more 1 0 + length (unmarked u)
-
-pub finding_first : (t : List ℕ) → Finding t true (replicate max_sorts 0)
-unfolding marked at
+pub finding_first : (t : List ℕ) → Finding t (replicate max_sorts false)
+unfolding marked
 finding_first t = record {
-  long = length-replicate {A = ℕ} max_sorts 0;
+  long = length-replicate {A = Bool} max_sorts false;
   marks = record {
-    long = let l = length-replicate {A = ℕ} max_sorts 0 in omega arith;
-    inhabited = λ s i. absurd (subst (λ (w : ℕ). T (eqb w 1)) (zeros max_sorts (0 + s)) i);
+    long = let l = length-replicate {A = Bool} max_sorts false in omega arith;
+    inhabited = λ s i. absurd (subst T (none_marked max_sorts s) i);
   };
-  closed = λ e. absurd (true≢false e);
 }
+  where
+    none_marked : (n s : ℕ) → get_or (replicate n false) s false ≡ false
+    none_marked zero s = refl
+    none_marked (suc n) zero = refl
+    none_marked (suc n) (suc s) = none_marked n s
 
-module _ {t m u : List ℕ} {b more : Bool} (w : MarkRound t m more u) where
-  pub finding_next : Finding t b m → length u ≡ length m → Finding t more u
-  finding_next f l = record { long = l ∙ f.long; marks = w.marks; closed = w.closed }
-
-  pub fewer_left : b ≡ true → rounds_left more u < rounds_left b m
-  fewer_left e = rw e (by_more more refl)
-    where
-      by_more : (o : Bool) → more ≡ o → rounds_left o u < rounds_left true m
-      by_more true q = let l = w.more q in omega arith
-      by_more false q = let l = ap (λ (v : List ℕ). length (unmarked v)) (w.same q) in omega arith
-
-pub finding_done : {t u : List ℕ} {more r : Bool} → Finding t more u → more ≡ false → r ≡ every (marked u) (datatypes (context t)) →
-    r ≡ all_grounded (context t)
-unfolding all_grounded
-finding_done {t} {u} w q e =
-    e ∙ every_same (marked u) (inhabited (context t)) (datatypes (context t))
-    (λ s i. T-same (marked u s) (inhabited (context t) s) (w.marks.inhabited s)
-    (inhabited_least (context t) (marked u) (w.closed q) s))
+module _ {t : List ℕ} {m u : List Bool} {more : Bool} (w : MarkRound t m more u) where
+  -- a round that adds none has found them all
+  pub finding_done : {r : Bool} → more ≡ false → r ≡ every (marked u) (datatypes (context t)) → r ≡ all_grounded (context t)
+  unfolding all_grounded
+  finding_done q e =
+      e ∙ every_same (marked u) (inhabited (context t)) (datatypes (context t))
+      (λ s i. T-same (marked u s) (inhabited (context t) s) (w.marks.inhabited s)
+      (inhabited_least (context t) (marked u) (w.closed q) s))

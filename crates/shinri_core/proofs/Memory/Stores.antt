@@ -1,6 +1,9 @@
 -- Stores by region: what stands in a table after words of a region were written. `room` gives the room of each region, `size` is
 -- how many words the table has at least. Whether two regions lie apart is computed, so at named regions `tt` proves it.
-use Rattle.shinri_core.proofs.Kit.{ℕ, ◌+◌, ◌≤◌, ◌<◌, ◌≡◌, refl, sym, ap, ◌∙◌, subst, ◌⊎◌, inl, inr, Bool, true, false, cond, ◌||◌, List, [], ◌∷◌, ℕ_discrete, arith, eq-eqb, ne_eqb, eqb-true, T, eqb, leb, leb→le, length, get_or, length-set, get_or-set_same, get_or-set_other, length-sets, sets}
+use Rattle.shinri_core.proofs.Kit.{ℕ, ◌+◌, ◌≤◌, ◌<◌, ◌≡◌, refl, sym, ap, ◌∙◌, subst, ◌⊎◌, inl, inr, Bool, true, false, cond, ◌||◌, List, [], ◌∷◌, ℕ_discrete, arith, eq-eqb, ne_eqb, eqb-true, T, eqb, leb, leb→le, length, get_or, length-set, get_or-set_same, get_or-set_other, length-sets, sets, append_assoc, take, drop}
+use borrow.Rule.Slice.PartMut.{put_mid}
+use Rattle.std.proofs.lemmas.List.Edits.{sets-eq, paste_all}
+use Rattle.std.proofs.lemmas.Slice.{put_mid-paste}
 use Rattle.shinri_core.specs.Memory.Words.{at, put, put_all, apart, clear_of, one_of, among, Kept}
 use Rattle.shinri_core.proofs.Lists.{T_and, T-both, getD_sets_in, getD_sets_out}
 
@@ -26,6 +29,16 @@ later t b x y v h = other_place t b x y v (omega arith)
 pub all_before : (t : List ℕ) (b x : ℕ) (vs : List ℕ) (k : ℕ) → k < x → at (put_all t b x vs) b k ≡ at t b k
 unfolding at put_all
 all_before t b x vs k h = getD_sets_out t (b + x) vs (b + k) 0 (inl (omega arith))
+
+-- what a part of the table holds is replaced: a run of stores
+pub part_stored : (t : List ℕ) (b x n : ℕ) (vs ws : List ℕ) → ws ≡ vs → n ≡ length vs → b + x + length vs ≤ length t →
+    put_mid (b + x) n t ws ≡ put_all t b x vs
+unfolding put_all
+part_stored t b x n vs ws e q h =
+    put_mid-paste (b + x) n t ws vs (length vs) e (sym q) refl
+    ∙ paste_all t (b + x) vs (length vs) refl
+    ∙ sym (append_assoc (take (b + x) t) vs (drop (b + x + length vs) t))
+    ∙ sym (sets-eq vs t (b + x) h)
 
 module _ (room : ℕ → ℕ) where
   -- the places of regions that lie apart are ordered

@@ -1,20 +1,27 @@
 -- Terms: an application looked up among them, one more at their end, and making one.
-use Rattle.shinri_core.proofs.Kit.{ℕ, zero, suc, ◌+◌, ◌-◌, ◌≤◌, ◌<◌, ◌≡◌, refl, sym, ap, ap₂, ◌∙◌, subst, Bool, true, false, not, ◌&&◌, true≢false, List, [], ◌∷◌, ◌++◌, map, map-append, none, zero-add, add_assoc, add-one, ℕ_discrete, arith, eq-eqb, ne_eqb, eqb-true, not-false, le-leb, lt-leb, T, eqb, leb, eqb→eq, eqb_suc_suc, length, get_or, length-append}
+use Rattle.shinri_core.proofs.Kit.{ℕ, zero, suc, ◌+◌, ◌-◌, ◌≤◌, ◌<◌, ◌≡◌, refl, sym, ap, ap₂, ◌∙◌, subst, Bool, true, false, ◌&&◌, true≢false, List, [], ◌∷◌, ◌++◌, map, map-append, none, zero-add, add_assoc, add-one, ℕ_discrete, arith, eq-eqb, ne_eqb, le-leb, lt-leb, T, eqb, leb, eqb→eq, eqb_suc_suc, length, get_or, length-append}
+use lib.Pointwise.{pointwise}
 use Rattle.shinri_core.specs.Limits.{max_terms, max_places, table_words}
 use Rattle.shinri_core.specs.Lists.{same_list, range, total}
-use Rattle.shinri_core.specs.Term.{Op, Eq, Uninterpreted, Term, same_op, same_term}
-use Rattle.shinri_core.specs.Context.{Context, intern, mk_app, places, terms_fit}
+use Rattle.shinri_core.specs.Term as Term
+use Rattle.shinri_core.specs.Term.{Term, same_op, same_term}
+use Rattle.shinri_core.specs.Context.{Context, children, intern, mk_app, places, terms_fit}
 use Rattle.shinri_core.specs.Memory.Words.{at, put, put_all, Kept, counted, stretch}
-use Rattle.shinri_core.specs.Memory.Table.{COUNTS, TERMS, OP, OFFSET, POOL, BUCKET, LINK, core_room, sorts#, symbols#, terms#, op_of, args_at, term_at, context, buckets, bucket, bucket_of, Indexed, AllBelow, TermSound, IndexSound, ContextSound, FindsApp, MayIntern, MayApply, MayEquate, Appendable, Appended}
-use Rattle.shinri_core.specs.Memory.Codes.{made_answer, made_context, MkApp}
-use Rattle.shinri_core.specs.declared.context.Made as Made
-use Rattle.shinri_core.proofs.Lists.{T_and, true_T, and_no, not_true_false, same_list_eq, same_list_same, same_list_not}
-use Rattle.shinri_core.proofs.Memory.Counted.{counted_more, counted_grown, counted_list, stretch_length, stretch_at}
-use Rattle.shinri_core.proofs.Memory.Searching.{NoneFrom, Searched, search_next, first_found, first_missing}
+use Rattle.shinri_core.specs.Memory.Table.{COUNTS, TERMS, OP, OFFSET, POOL, BUCKET, LINK, core_room, sorts#, symbols#, terms#, op_of, args_at, term_at, context, buckets, bucket, bucket_of, Indexed, AllBelow, TermSound, IndexSound, ContextSound, AppAt, NoApp, MayIntern, MayApply, MayEquate, Appendable, Appended}
+use Rattle.shinri_core.specs.Memory.Codes.{op_code, op_meaning, OpAt, made_answer, made_context, MkApp}
+use Rattle.std.specs.Prelude.{Result, Ok, Err}
+use Rattle.shinri_core.specs.declared.ids.TermId as TermId
+use Rattle.shinri_core.specs.declared.ids.SymbolId.{SymbolId}
+use Rattle.shinri_core.specs.declared.term.Op as Op
+use Rattle.shinri_core.specs.declared.limits.NoRoom as NoRoom
+use Rattle.shinri_core.proofs.Lists.{T_and, slices_same, true_T, and_no, not_true_false, same_list_eq, same_list_same}
+use Rattle.shinri_core.proofs.Memory.Codes.{code_means}
+use Rattle.shinri_core.proofs.Memory.Counted.{counted_more, counted_grown, counted_list, stretch_length}
+use Rattle.shinri_core.proofs.Memory.Searching.{NoneFrom, first_found, first_missing}
 use Rattle.shinri_core.proofs.Memory.Stores.{other_place}
 use Rattle.shinri_core.proofs.Memory.Regions.{stores}
 use Rattle.shinri_core.proofs.Memory.Index.{indexed_more, Asking, ask_first, ask_next, ask_less, found}
-use Rattle.shinri_core.proofs.Memory.Views.{terms_length}
+use Rattle.shinri_core.proofs.Memory.Views.{terms_length, term_is}
 use Rattle.shinri_core.proofs.Memory.Keeping.{TermsKept, continued, term_kept, bucket_kept, once_kept, sorts_view, symbols_view, symbols_apart}
 
 -- ---- one term
@@ -26,58 +33,36 @@ same_op_codes zero (suc b) = sym (ne_eqb zero (suc b) (omega arith))
 same_op_codes (suc a) zero = sym (ne_eqb (suc a) zero (omega arith))
 same_op_codes (suc a) (suc b) = sym (eqb_suc_suc a b)
 
--- argument k is not the word at its place
-unfoldable pub ArgDiffers : List ℕ → ℕ → List ℕ → ℕ → Bool
-ArgDiffers t start args k = not (eqb (at t POOL (start + k)) (get_or args k 0))
-
-module _ (t : List ℕ) (start : ℕ) (args : List ℕ) where
-  pub arg_next : {k w : ℕ} → Searched (ArgDiffers t start args) 0 k (length args) → k < length args → w ≡ at t POOL (start + k) →
-      w ≡ get_or args k 0 → Searched (ArgDiffers t start args) 0 (k + 1) (length args)
-  unfolding ArgDiffers
-  arg_next {k} {w} s h e q = search_next s h (ap not (eq-eqb (at t POOL (start + k)) (get_or args k 0) (sym e ∙ q)))
-
-  pub args_same : (i : ℕ) → length args ≤ i → Searched (ArgDiffers t start args) 0 i (length args) →
-      true ≡ same_list args (stretch t POOL start (length args))
-  unfolding ArgDiffers stretch
-  args_same i h w =
-      let same : stretch t POOL start (length args) ≡ args =
-      counted_list (λ k. at t POOL (start + k)) (length args) args refl (λ k l.
-      eqb-true (at t POOL (start + k)) (get_or args k 0)
-      (not-false (eqb (at t POOL (start + k)) (get_or args k 0)) (w.none k (omega arith) (omega arith)))) in
-      sym (ap (same_list args) same ∙ same_list_same args)
-
-  pub args_differ : (k w : ℕ) → k < length args → w ≡ at t POOL (start + k) → (w ≡ get_or args k 0 → ⊥) →
-      false ≡ same_list args (stretch t POOL start (length args))
-  args_differ k w l e n =
-      sym
-      (same_list_not args (stretch t POOL start (length args))
-      (λ q. n (e ∙ sym (ap (λ (xs : List ℕ). get_or xs k 0) q ∙ stretch_at t POOL start (length args) k l))))
+-- the word that holds a term's operation
+pub op_word : {t : List ℕ} {x : ℕ} {r : Op.Op} → OpAt t x r → x < terms# t → op_code r ≡ at t OP x
+unfolding term_at
+op_word {t} {x} {r} o h =
+    let e = code_means r ∙ o.is ∙ ap (λ (y : Term). y.op) (term_is t x h) in
+    let q = same_op_codes (op_code r) (op_code r) ∙ eq-eqb (op_code r) (op_code r) refl in
+    eqb→eq (op_code r) (at t OP x)
+    (true_T (eqb (op_code r) (at t OP x))
+    (sym (same_op_codes (op_code r) (at t OP x)) ∙ ap (same_op (op_of (op_code r))) (sym e) ∙ q))
 
 -- term i is the operation of a code over the arguments
 abbrev pub Fits : List ℕ → ℕ → List ℕ → ℕ → Bool
 Fits t code args i = same_term (op_of code) args (term_at t i)
 
+pub fits_meant : (t : List ℕ) (o : Op.Op) (args : List ℕ) (i : ℕ) →
+    same_term (op_meaning o) args (term_at t i) ≡ Fits t (op_code o) args i
+fits_meant t o args i = ap (λ (p : Term.Op). same_term p args (term_at t i)) (sym (code_means o))
+
 module _ (t : List ℕ) (code : ℕ) (args : List ℕ) where
   module _ (i w : ℕ) (o : w ≡ at t OP i) where
-    pub app_other_op : (w ≡ code → ⊥) → false ≡ Fits t code args i
+    other_code : (w ≡ code → ⊥) → eqb w code ≡ Fits t code args i
     unfolding same_term term_at
-    app_other_op n = rw (same_op_codes code (at t OP i), ne_eqb code (at t OP i) (λ q. n (o ∙ sym q)))
+    other_code n = rw (ne_eqb w code n, same_op_codes code (at t OP i), ne_eqb code (at t OP i) (λ q. n (o ∙ sym q)))
 
-    module _ (a e : ℕ) (p : a ≡ at t OFFSET i) (q : e ≡ at t OFFSET (i + 1)) where
-      length_is : e - a ≡ length (args_at t i)
-      unfolding args_at
-      length_is = ap₂ (λ (x y : ℕ). x - y) q p ∙ sym (stretch_length t POOL (at t OFFSET i) (at t OFFSET (i + 1) - at t OFFSET i))
-
-      pub app_other_length : (e - a ≡ length args → ⊥) → false ≡ Fits t code args i
-      unfolding same_term term_at
-      app_other_length n =
-          rw (same_list_not args (args_at t i) (λ l. n (length_is ∙ sym (ap length l))))
-          (sym (and_no (same_op (op_of code) (op_of (at t OP i)))))
-
-      pub app_same : (r : Bool) → w ≡ code → e - a ≡ length args → r ≡ same_list args (stretch t POOL a (length args)) →
-          r ≡ Fits t code args i
-      unfolding same_term term_at args_at
-      app_same r c l s = rw (same_op_codes code (at t OP i), eq-eqb code (at t OP i) (sym c ∙ o), ← p, ← q, l) s
+    same_code : (xs : List ℕ) (r : Bool) → i < terms# t → w ≡ code → xs ≡ children (context t) i → r ≡ pointwise eqb xs args →
+        r ≡ Fits t code args i
+    unfolding same_term term_at children
+    same_code xs r h c e q =
+        let l : same_list args xs ≡ same_list args (args_at t i) = ap (same_list args) (e ∙ ap (λ (y : Term). y.args) (term_is t i h)) in
+        rw (same_op_codes code (at t OP i), eq-eqb code (at t OP i) (sym c ∙ o)) (slices_same xs args r q ∙ l)
 
   -- a term that fits is the application, and the other way round
   fits_words : (i : ℕ) → Fits t code args i ≡ true → (code ≡ at t OP i) × (args ≡ args_at t i)
@@ -101,45 +86,47 @@ module _ (t : List ℕ) (code : ℕ) (args : List ℕ) where
   unfolding bucket_of
   its_bucket i e = let (o, l) = fits_words i e in sym (ap₂ bucket o l)
 
+-- the same by the operation, whose word is v
+module _ (t : List ℕ) (o : Op.Op) (args : List ℕ) (i : ℕ) {w v : ℕ} (e : w ≡ at t OP i) (f : v ≡ op_code o) where
+  pub app_other_op : (w ≡ v → ⊥) → eqb w v ≡ same_term (op_meaning o) args (term_at t i)
+  app_other_op n = ap (eqb w) f ∙ other_code t (op_code o) args i w e (λ q. n (q ∙ sym f)) ∙ sym (fits_meant t o args i)
+
+  pub app_same : {xs : List ℕ} {r : Bool} → i < terms# t → w ≡ v → xs ≡ children (context t) i → r ≡ pointwise eqb xs args →
+      r ≡ same_term (op_meaning o) args (term_at t i)
+  app_same {xs} {r} h c k q = same_code t (op_code o) args i w e xs r h (c ∙ f) k q ∙ sym (fits_meant t o args i)
+
 -- ---- among the terms of a bucket
 
--- none from k on fits, and term k - 1 stands in the application's bucket h, if k is not 0
-pub record Walking (t : List ℕ) (code : ℕ) (args : List ℕ) (h k : ℕ) : Type 0 where
+-- none from k on fits, and term k - 1 stands in the application's bucket, if k is not 0
+pub record Walking (t : List ℕ) (code : ℕ) (args : List ℕ) (k : ℕ) : Type 0 where
   pub sound : ContextSound t
-  pub hash : h ≡ bucket code args
-  pub asked : Asking (bucket_of t) (Fits t code args) h (terms# t) k
+  pub asked : Asking (bucket_of t) (Fits t code args) (bucket code args) (terms# t) k
 
-module _ {t : List ℕ} (code : ℕ) (args : List ℕ) {h : ℕ} (z : ContextSound t) (e : h ≡ bucket code args) where
-  only : (i : ℕ) → i < terms# t → Fits t code args i ≡ true → bucket_of t i ≡ h
-  only i l q = its_bucket t code args i q ∙ sym e
+module _ {t : List ℕ} (code : ℕ) (args : List ℕ) (z : ContextSound t) where
+  only : (i : ℕ) → i < terms# t → Fits t code args i ≡ true → bucket_of t i ≡ bucket code args
+  only i l q = its_bucket t code args i q
 
-  pub walk_first : {k : ℕ} → h < buckets → k ≡ at t BUCKET h → Walking t code args h k
-  walk_first l q = record { sound = z; hash = e; asked = ask_first (found z.index) only l q }
+  pub walk_first : {h k : ℕ} → h ≡ bucket code args → h < buckets → k ≡ at t BUCKET h → Walking t code args k
+  walk_first {h} e l q = record { sound = z; asked = ask_first (found z.index) only (rw e at l) (rw e at q) }
 
-module _ {t : List ℕ} {code : ℕ} {args : List ℕ} {h k : ℕ} (w : Walking t code args h k) where
+module _ {t : List ℕ} {code : ℕ} {args : List ℕ} {k : ℕ} (w : Walking t code args k) where
   module _ (n : k ≡ 0 → ⊥) where
-    pub walk_next : {r : ℕ} {b : Bool} → r ≡ at t LINK (k - 1) → b ≡ Fits t code args (k - 1) → b ≡ false → Walking t code args h r
+    pub walk_next : {r : ℕ} {b : Bool} → r ≡ at t LINK (k - 1) → b ≡ Fits t code args (k - 1) → b ≡ false → Walking t code args r
     walk_next q f o =
-        record {
-          sound = w.sound;
-          hash = w.hash;
-          asked = ask_next (found w.sound.index) (only code args w.sound w.hash) w.asked n q (sym f ∙ o);
-        }
+        record { sound = w.sound; asked = ask_next (found w.sound.index) (only code args w.sound) w.asked n q (sym f ∙ o) }
 
     pub walk_less : {r : ℕ} → r ≡ at t LINK (k - 1) → r < k
-    walk_less = ask_less (found w.sound.index) (only code args w.sound w.hash) w.asked n
+    walk_less = ask_less (found w.sound.index) (only code args w.sound) w.asked n
 
     -- no term stands twice, so none below it fits
-    pub walk_found : {b : Bool} → b ≡ Fits t code args (k - 1) → b ≡ true → FindsApp t code args (k - 1)
+    pub walk_found : {b : Bool} → b ≡ Fits t code args (k - 1) → b ≡ true → AppAt t code args (k - 1)
     unfolding context
     walk_found f o =
         let within = w.asked.within in
         let s = sym f ∙ o in
         record {
           within = omega arith;
-          found = λ l. first_found (same_term (op_of code) args) (term_at t) (terms# t) (k - 1) l (λ j a m. lower j m s) s;
-          missing = λ q. absurd (omega arith);
-          new = λ q. absurd (omega arith);
+          found = first_found (same_term (op_of code) args) (term_at t) (terms# t) (k - 1) (omega arith) (λ j a m. lower j m s) s;
         }
       where
         lower : (j : ℕ) → j < k - 1 → Fits t code args (k - 1) ≡ true → Fits t code args j ≡ false
@@ -150,15 +137,13 @@ module _ {t : List ℕ} {code : ℕ} {args : List ℕ} {h k : ℕ} (w : Walking 
             let i = w.sound.index.once j (k - 1) (omega arith) (omega arith) same in
             omega arith)
 
-  pub walk_missing : {n : ℕ} → k ≡ 0 → n ≡ terms# t → FindsApp t code args n
+  pub walk_missing : k ≡ 0 → NoApp t code args
   unfolding context
-  walk_missing q p =
+  walk_missing q =
       let rest : NoneFrom (Fits t code args) 0 (terms# t) = λ j l g. w.asked.rest j (omega arith) g in
       record {
-        within = omega arith;
-        found = λ l. absurd (omega arith);
-        missing = λ o. first_missing (same_term (op_of code) args) (term_at t) (terms# t) rest;
-        new = λ o i l. rest i (omega arith) (omega arith);
+        missing = first_missing (same_term (op_of code) args) (term_at t) (terms# t) rest;
+        new = λ i l. rest i (omega arith) l;
       }
 
 -- ---- one more term
@@ -322,23 +307,23 @@ unfolding terms_fit
 fits cx h l = rw (le-leb (length cx.terms) max_terms h, le-leb (places cx) max_places l)
 
 -- the context with one more term at its end
-more_terms : (cx : Context) (o : Op) (args : List ℕ) → length (intern cx o args none).context.terms ≡ suc (length cx.terms)
+more_terms : (cx : Context) (o : Term.Op) (args : List ℕ) → length (intern cx o args none).context.terms ≡ suc (length cx.terms)
 unfolding intern
 more_terms cx o args = length-append cx.terms (record { op = o; args = args } ∷ []) ∙ omega arith
 
-more_places : (cx : Context) (o : Op) (args : List ℕ) → places (intern cx o args none).context ≡ places cx + length args
+more_places : (cx : Context) (o : Term.Op) (args : List ℕ) → places (intern cx o args none).context ≡ places cx + length args
 unfolding intern places args_length
 more_places cx o args = total_more cx.terms (record { op = o; args = args })
 
 -- ---- making a term: the old one, no room, or a new one
 
-module _ {t : List ℕ} {o : Op} {args : List ℕ} {k : ℕ} {cx : Context}
+module _ {t : List ℕ} {o : Term.Op} {args : List ℕ} {k : ℕ} {cx : Context}
     (m : mk_app (context t) o args ≡ record { id = k; context = cx }) where
-  refuse : terms_fit cx ≡ false → ContextSound t → MkApp t o args Made.TheVariants.NoRoom t
+  refuse : terms_fit cx ≡ false → ContextSound t → MkApp t o args (Err (record {})) t
   unfolding made_answer made_context
   refuse b z = record { sound = z; answer = rw (m, b); view = rw (m, b); unchanged = λ q. refl }
 
-  accept : {u : List ℕ} → terms_fit cx ≡ true → ContextSound u → context u ≡ cx → MkApp t o args (Made.TheVariants.At (record { 0 = k })) u
+  accept : {u : List ℕ} → terms_fit cx ≡ true → ContextSound u → context u ≡ cx → MkApp t o args (Ok (record { 0 = k })) u
   unfolding made_answer made_context
   accept b y v = record { sound = y; answer = rw (m, b); view = rw (m, b) v; unchanged = λ q. absurd (true≢false (sym b ∙ (rw m at q))) }
 
@@ -354,75 +339,76 @@ pub start_fits : {t : List ℕ} {code : ℕ} {args : List ℕ} {n start : ℕ} �
     start ≤ max_places
 start_fits a e o = (begins a e o).1
 
-module _ {t : List ℕ} {code : ℕ} {args : List ℕ} {n k : ℕ} (a : MayIntern t code args) (e : n ≡ terms# t) (f : FindsApp t code args k) where
-  pub made_old : k < n → MkApp t (op_of code) args (Made.TheVariants.At (record { 0 = k })) t
-  unfolding mk_app intern
-  made_old h =
-      let z = a.sound in
-      let l = places_are t z in
-      accept (ap (intern (context t) (op_of code) args) (f.found (omega arith))) (fits (context t) (omega arith) (omega arith)) z refl
+pub made_old : {t : List ℕ} {code : ℕ} {args : List ℕ} {x : TermId.TermId} → MayIntern t code args → AppAt t code args x.0 →
+    MkApp t (op_of code) args (Ok x) t
+unfolding mk_app intern
+made_old {t} {code} {args} a f =
+    let z = a.sound in
+    let l = places_are t z in
+    accept (ap (intern (context t) (op_of code) args) f.found) (fits (context t) (omega arith) (omega arith)) z refl
 
-  module _ (h : n ≤ k) where
-    -- the context with the term at its end
-    more : Context
-    more = (intern (context t) (op_of code) args none).context
+module _ {t : List ℕ} {code : ℕ} {args : List ℕ} {n : ℕ} (a : MayIntern t code args) (e : n ≡ terms# t) (f : NoApp t code args) where
+  -- the context with the term at its end
+  more : Context
+  more = (intern (context t) (op_of code) args none).context
 
-    made_none : mk_app (context t) (op_of code) args ≡ record { id = n; context = more }
-    unfolding mk_app intern more
-    made_none =
-        let w = f.within in
-        let l : length (context t).terms ≡ n = terms_length t ∙ sym e in
-        ap (intern (context t) (op_of code) args) (f.missing (omega arith)) ∙ (λ i. record { id = l i; context = more })
+  made_none : mk_app (context t) (op_of code) args ≡ record { id = n; context = more }
+  unfolding mk_app intern more
+  made_none =
+      let l : length (context t).terms ≡ n = terms_length t ∙ sym e in
+      ap (intern (context t) (op_of code) args) f.missing ∙ (λ i. record { id = l i; context = more })
 
-    pub no_more_terms : n ≡ max_terms → MkApp t (op_of code) args Made.TheVariants.NoRoom t
+  pub no_more_terms : n ≡ max_terms → MkApp t (op_of code) args (Err (record {})) t
+  unfolding more terms_fit
+  no_more_terms q =
+      let s = more_terms (context t) (op_of code) args in
+      refuse made_none (rw (lt-leb (length more.terms) max_terms (omega arith))) a.sound
+
+  module _ {start : ℕ} (o : start ≡ at t OFFSET n) where
+    pub no_more_places : max_places - start < length args → MkApp t (op_of code) args (Err (record {})) t
     unfolding more terms_fit
-    no_more_terms q =
-        let s = more_terms (context t) (op_of code) args in
-        refuse made_none (rw (lt-leb (length more.terms) max_terms (omega arith))) a.sound
+    no_more_places q =
+        let p = begins a e o in
+        let s = more_places (context t) (op_of code) args in
+        refuse made_none (rw (lt-leb (places more) max_places (omega arith)) (and_no (leb (length more.terms) max_terms))) a.sound
 
-    module _ {start : ℕ} (o : start ≡ at t OFFSET n) where
-      pub no_more_places : max_places - start < length args → MkApp t (op_of code) args Made.TheVariants.NoRoom t
-      unfolding more terms_fit
-      no_more_places q =
+    module _ (r : n ≡ max_terms → ⊥) (q : length args ≤ max_places - start) where
+      pub appendable : Appendable t n start code args
+      appendable =
+          let z = a.sound in
           let p = begins a e o in
-          let s = more_places (context t) (op_of code) args in
-          refuse made_none (rw (lt-leb (places more) max_places (omega arith)) (and_no (leb (length more.terms) max_terms))) a.sound
+          record {
+            sound = z;
+            next = e;
+            begins = o;
+            room = omega arith;
+            places = omega arith;
+            declared = a.declared;
+            terms = λ j l. let g = a.terms j l in omega arith;
+            new = λ i l. f.new i (omega arith);
+          }
 
-      module _ (r : n ≡ max_terms → ⊥) (q : length args ≤ max_places - start) where
-        pub appendable : Appendable t n start code args
-        appendable =
-            let z = a.sound in
-            let p = begins a e o in
-            let w = f.within in
-            record {
-              sound = z;
-              next = e;
-              begins = o;
-              room = omega arith;
-              places = omega arith;
-              declared = a.declared;
-              terms = λ j l. let g = a.terms j l in omega arith;
-              new = λ i l. f.new (omega arith) i (omega arith);
-            }
-
-        pub made_new : {u : List ℕ} → Appended t code args u → MkApp t (op_of code) args (Made.TheVariants.At (record { 0 = n })) u
-        unfolding more
-        made_new b =
-            let z = a.sound in
-            let p = begins a e o in
-            let st = more_terms (context t) (op_of code) args in
-            let sp = more_places (context t) (op_of code) args in
-            accept made_none (fits more (omega arith) (omega arith)) b.sound b.view
+      pub made_new : {u : List ℕ} → Appended t code args u → MkApp t (op_of code) args (Ok (record { 0 = n })) u
+      unfolding more
+      made_new b =
+          let z = a.sound in
+          let p = begins a e o in
+          let st = more_terms (context t) (op_of code) args in
+          let sp = more_places (context t) (op_of code) args in
+          accept made_none (fits more (omega arith) (omega arith)) b.sound b.view
 
 -- ---- the two public ways to make a term
 
-pub may_apply : (t : List ℕ) (f : ℕ) (args : List ℕ) → MayApply t f args → MayIntern t (f + 1) args
+pub may_apply : (t : List ℕ) (f : SymbolId) (args : List ℕ) → MayApply t f.0 args →
+    MayIntern t (op_code (Op.TheVariants.Uninterpreted f)) args
+unfolding op_code
 may_apply t f args a =
     let z = a.sound in
     let d = a.declared in
     record { sound = z; declared = omega arith; terms = λ j l. let h = a.terms j l in omega arith }
 
-pub may_equate : (t : List ℕ) (a b : ℕ) → MayEquate t a b → MayIntern t 0 (a ∷ b ∷ [])
+pub may_equate : (t : List ℕ) (a b : ℕ) → MayEquate t a b → MayIntern t (op_code Op.TheVariants.Eq) (a ∷ b ∷ [])
+unfolding op_code
 may_equate t a b m =
     let z = m.sound in
     record { sound = z; declared = omega arith; terms = two (let l = m.left in omega arith) (let r = m.right in omega arith) }
@@ -432,11 +418,6 @@ may_equate t a b m =
     two l r (suc zero) h = r
     two l r (suc (suc j)) h = absurd (omega arith)
 
-pub symbol_code : (t : List ℕ) (s : ℕ) (args : List ℕ) (r : Made.Made) (u : List ℕ) → MkApp t (op_of (s + 1)) args r u →
-    MkApp t (Uninterpreted s) args r u
-unfolding op_of
-symbol_code t s args r u m = rw add-one at m
-
-pub eq_code : (t args : List ℕ) (r : Made.Made) (u : List ℕ) → MkApp t (op_of 0) args r u → MkApp t Eq args r u
-unfolding op_of
-eq_code t args r u m = m
+pub made_meant : {t args : List ℕ} (o : Op.Op) {r : Result TermId.TermId NoRoom.NoRoom} {u : List ℕ} →
+    MkApp t (op_of (op_code o)) args r u → MkApp t (op_meaning o) args r u
+made_meant {t} {args} o {r} {u} m = subst (λ (p : Term.Op). MkApp t p args r u) (code_means o) m

@@ -1,11 +1,11 @@
 -- What a table means, by its words: the counts, and the sort, the symbol and the term of each number.
-use Rattle.shinri_core.proofs.Kit.{ℕ, zero, suc, ◌+◌, ◌-◌, ◌≤◌, ◌<◌, ◌≡◌, refl, sym, ap, ap₂, ◌∙◌, subst, List, arith, ne_eqb, eqb, length, get_or, take, drop}
+use Rattle.shinri_core.proofs.Kit.{ℕ, zero, suc, ◌+◌, ◌-◌, ◌*◌, ◌/◌, ◌%◌, ◌≤◌, ◌<◌, ◌≡◌, refl, sym, ap, ap₂, ◌∙◌, subst, List, arith, ne_eqb, eqb, length, get_or, take, drop}
 use Rattle.shinri_core.specs.Limits.{max_places, max_params}
 use Rattle.shinri_core.specs.Sort.{BoolSort, is_datatype}
 use Rattle.shinri_core.specs.Term.{Symbol, Term}
 use Rattle.shinri_core.specs.Context.{sort_node, is_datatype_sort, no_symbol, symbol, no_term, term, children}
 use Rattle.shinri_core.specs.Memory.Words.{at, counted, stretch}
-use Rattle.shinri_core.specs.Memory.Table.{SORT, OWNER, RESULT, ARITY, OP, OFFSET, POOL, sorts#, symbols#, terms#, node_of, role_of, op_of, sort_at, param_at, symbol_at, args_at, term_at, context, bucket, bucket_of, ContextSound, HasParam, HasParamWord}
+use Rattle.shinri_core.specs.Memory.Table.{SORT, OWNER, RESULT, ARITY, PARAMS, OP, OFFSET, POOL, sorts#, symbols#, terms#, node_of, digit, role_of, op_of, sort_at, param_at, symbol_at, args_at, term_at, context, bucket, bucket_of, ContextSound, HasParam}
 use Rattle.shinri_core.specs.Memory.Codes.{op_meaning, role_meaning, OpBelow, RoleBelow, OpAt, RoleAt}
 use Rattle.shinri_core.specs.declared.term.Op as Op
 use Rattle.shinri_core.specs.declared.term.DtRole as DtRole
@@ -89,13 +89,28 @@ module _ (t : List ℕ) where
     declared = role_below (s + 1) (length (context t).symbols) r (omega arith) b;
   }
 
-  pub param_word : (f i : ℕ) → HasParam t f i → HasParamWord t f i
+  -- parameter i of a symbol, out of the word w that holds it
+  pub param_word : (f i : ℕ) → HasParam t f i → PARAMS + (4 * f + i / 4) < length t
   param_word f i a =
       let z = a.sound in
-      let d = a.declared in
+      let k = arity_at f (at t ARITY f) z a.declared refl in
       let l = a.within in
-      let e = arity_is f (omega arith) in
-      record { sound = z; declared = omega arith; within = omega arith }
+      let h = z.symbols_fit in
+      let b = symbols_below f a.declared in
+      let m = z.long in omega arith
+
+  pub param_found : (f i : ℕ) {w r : ℕ} → HasParam t f i → w ≡ at t PARAMS (4 * f + i / 4) → r ≡ digit w (i % 4) →
+      (r ≡ get_or (symbol (context t) f).params i 0) × (r < length (context t).sorts)
+  unfolding param_at
+  param_found f i {w} {r} a e q =
+      let z = a.sound in
+      let b = symbols_below f a.declared in
+      let l = a.within in
+      let n = arity_is f b in
+      let p : r ≡ param_at t f i = q ∙ ap (λ (v : ℕ). digit v (i % 4)) e in
+      let h = (z.symbols f b).param i (omega arith) in
+      let s = sorts_length in
+      (p ∙ param_is f b i (omega arith), omega arith)
 
   -- ---- terms
 
@@ -140,9 +155,6 @@ module _ (t : List ℕ) where
         let up = (z.terms x h).rise in
         let top = offset_mono z (x + 1) (terms# t) (omega arith) (omega arith) in
         let fit = z.places_fit in (omega arith, omega arith)
-
-    pub args_ordered : x < terms# t → a ≤ e
-    args_ordered h = (bounds h).0
 
     pub args_fit : (n : ℕ) → x < terms# t → e - a ≡ n → a + n ≤ max_places
     args_fit n h l = let b = bounds h in omega arith

@@ -1,18 +1,29 @@
 -- What the code's enums mean in the definition.
-use Rattle.std.specs.Prelude.{ℕ, ◌<◌, Bool, true, false, cond, length, ◌≡◌, List}
+use Rattle.std.specs.Prelude.{ℕ, suc, ◌+◌, ◌<◌, Bool, true, false, cond, length, ◌≡◌, List, Option, Some, None, Result, Ok, Err}
 use Rattle.shinri_core.specs.Term as Term
 use Rattle.shinri_core.specs.Context as Context
 use Rattle.shinri_core.specs.Context.{Context, symbol, term, mk_app, terms_fit, declarations_fit}
 use Rattle.shinri_core.specs.Sort.{SortNode, Datatype, Uninterpreted}
 use Rattle.shinri_core.specs.Memory.Table.{context, ContextSound}
 use Rattle.shinri_core.specs.declared.term.Op as Op
-use Rattle.shinri_core.specs.declared.context.Made as Made
-use Rattle.shinri_core.specs.declared.context.Declared as Declared
+use Rattle.shinri_core.specs.declared.ids.TermId as TermId
+use Rattle.shinri_core.specs.declared.ids.SymbolId as SymbolId
+use Rattle.shinri_core.specs.declared.limits.NoRoom as NoRoom
 use Rattle.shinri_core.specs.declared.term.DtRole as DtRole
 
 unfoldable pub op_meaning : Op.Op → Term.Op
 op_meaning Op.TheVariants.Eq = Term.Eq
 op_meaning (Op.TheVariants.Uninterpreted s) = Term.Uninterpreted s.0
+
+-- the word that the table holds for an operation
+unfoldable pub op_code : Op.Op → ℕ
+op_code Op.TheVariants.Eq = 0
+op_code (Op.TheVariants.Uninterpreted s) = suc s.0
+
+-- and for the constructor that a symbol belongs to
+abbrev pub owner_code : Option SymbolId.SymbolId → ℕ
+owner_code None = 0
+owner_code (Some c) = c.0 + 1
 
 unfoldable pub role_meaning : DtRole.DtRole → Term.Role
 role_meaning DtRole.TheVariants.Constructor = Term.Constructor
@@ -44,15 +55,15 @@ pub record RoleAt (t : List ℕ) (s : ℕ) (r : DtRole.DtRole) : Type 0 where
 -- ---- making a term
 
 -- the answer to making a term: its number, or no room
-unfoldable pub made_answer : Context.Made → Made.Made
-made_answer m = cond (terms_fit m.context) (Made.TheVariants.At (record { 0 = m.id })) Made.TheVariants.NoRoom
+unfoldable pub made_answer : Context.Made → Result TermId.TermId NoRoom.NoRoom
+made_answer m = cond (terms_fit m.context) (Ok (record { 0 = m.id })) (Err (record {}))
 
 -- no room changes nothing
 unfoldable pub made_context : Context → Context.Made → Context
 made_context cx m = cond (terms_fit m.context) m.context cx
 
 -- t is the table before, u the table after
-pub record MkApp (t : List ℕ) (o : Term.Op) (args : List ℕ) (r : Made.Made) (u : List ℕ) : Type 0 where
+pub record MkApp (t : List ℕ) (o : Term.Op) (args : List ℕ) (r : Result TermId.TermId NoRoom.NoRoom) (u : List ℕ) : Type 0 where
   pub sound : ContextSound u
   pub answer : r ≡ made_answer (mk_app (context t) o args)
   pub view : context u ≡ made_context (context t) (mk_app (context t) o args)
@@ -65,8 +76,8 @@ declared_node true = Datatype
 declared_node false = Uninterpreted
 
 -- t is the table before, cx the context with the declaration, u the table after; no room changes nothing
-pub record Declares (t : List ℕ) (cx : Context) (r : Declared.Declared) (u : List ℕ) : Type 0 where
+pub record Declares (t : List ℕ) (cx : Context) (r : Result (Unit {0}) NoRoom.NoRoom) (u : List ℕ) : Type 0 where
   pub sound : ContextSound u
-  pub answer : r ≡ cond (declarations_fit cx) Declared.TheVariants.Done Declared.TheVariants.NoRoom
+  pub answer : r ≡ cond (declarations_fit cx) (Ok tt) (Err (record {}))
   pub view : context u ≡ cond (declarations_fit cx) cx (context t)
   pub unchanged : declarations_fit cx ≡ false → u ≡ t

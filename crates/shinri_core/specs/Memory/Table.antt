@@ -1,6 +1,8 @@
 -- The lent table of this layer: where each part stands, what a table means, and when it is sound.
-use Rattle.std.specs.Prelude.{ℕ, zero, suc, ◌+◌, ◌-◌, ◌*◌, ◌/◌, ◌%◌, ◌≤◌, ◌<◌, ◌≡◌, List, [], ◌∷◌, Bool, true, false, cond, not, ◌&&◌, T, eqb, length, get_or}
+use Rattle.std.specs.Prelude.{ℕ, zero, suc, ◌+◌, ◌-◌, ◌*◌, ◌/◌, ◌%◌, ◌≤◌, ◌<◌, ◌≡◌, List, [], ◌∷◌, Bool, true, false, cond, not, ◌&&◌, T, eqb, length, get_or, Option, MatchOption}
 use Rattle.std.proofs.Math.Option.{none, some}
+use Rattle.shinri_core.specs.declared.ids.SymbolId as SymbolId
+use Rattle.shinri_core.specs.declared.ids.TermId as TermId
 use Rattle.shinri_core.specs.Limits.{max_sorts, max_symbols, max_terms, max_places, max_params, table_words}
 use Rattle.shinri_core.specs.Lists.{keep, place_from, range}
 use Rattle.shinri_core.specs.Sort.{SortNode, BoolSort, Datatype, Uninterpreted}
@@ -244,18 +246,19 @@ pub record HasParam (t : List ℕ) (f i : ℕ) : Type 0 where
   pub declared : f < length (context t).symbols
   pub within : i < length (symbol (context t) f).params
 
--- the same, by the words of the table
-pub record HasParamWord (t : List ℕ) (s i : ℕ) : Type 0 where
-  pub sound : ContextSound t
-  pub declared : s < symbols# t
-  pub within : i < at t ARITY s
+-- term x is an application, and the first that is
+pub record AppAt (t : List ℕ) (code : ℕ) (args : List ℕ) (x : ℕ) : Type 0 where
+  pub within : x < terms# t
+  pub found : place_from 0 (same_term (op_of code) args) (context t).terms ≡ some x
 
--- r is the place of an application among the terms, or their number if there is none
-pub record FindsApp (t : List ℕ) (code : ℕ) (args : List ℕ) (r : ℕ) : Type 0 where
-  pub within : r ≤ terms# t
-  pub found : r < terms# t → place_from 0 (same_term (op_of code) args) (context t).terms ≡ some r
-  pub missing : r ≡ terms# t → place_from 0 (same_term (op_of code) args) (context t).terms ≡ none
-  pub new : r ≡ terms# t → (i : ℕ) → i < r → same_term (op_of code) args (term_at t i) ≡ false
+-- no term is it
+pub record NoApp (t : List ℕ) (code : ℕ) (args : List ℕ) : Type 0 where
+  pub missing : place_from 0 (same_term (op_of code) args) (context t).terms ≡ none
+  pub new : (i : ℕ) → i < terms# t → same_term (op_of code) args (term_at t i) ≡ false
+
+-- r is the term that is an application, or there is none
+abbrev pub FindsApp : List ℕ → ℕ → List ℕ → Option TermId.TermId → Type 0
+FindsApp t code args r = MatchOption r (NoApp t code args) (λ x. AppAt t code args x.0)
 
 -- the operation of a code is declared, and the arguments are terms
 pub record MayIntern (t : List ℕ) (code : ℕ) (args : List ℕ) : Type 0 where
@@ -330,20 +333,29 @@ pub record NoTerms (t : List ℕ) : Type 0 where
   pub long : table_words ≤ length t
   pub heads : (h : ℕ) → h < buckets → at t BUCKET h ≡ 0
 
--- r is the lowest constructor of dt from symbol `from` on, or the number of symbols if there is none
-pub record NextConstructor (t : List ℕ) (dt from r : ℕ) : Type 0 where
-  pub after : from ≤ r
-  pub within : r ≤ length (context t).symbols
-  pub between : (s : ℕ) → from ≤ s → s < r → builds (context t) dt s ≡ false
-  pub here : r < length (context t).symbols → builds (context t) dt r ≡ true
+-- none of the symbols from one on up to another builds dt
+abbrev pub NoneBuilds : List ℕ → ℕ → ℕ → ℕ → Type 0
+NoneBuilds t dt from to = (s : ℕ) → from ≤ s → s < to → builds (context t) dt s ≡ false
+
+-- c is the lowest constructor of dt from symbol `from` on
+pub record LowestConstructor (t : List ℕ) (dt from c : ℕ) : Type 0 where
+  pub after : from ≤ c
+  pub within : c < length (context t).symbols
+  pub between : NoneBuilds t dt from c
+  pub here : builds (context t) dt c ≡ true
+
+-- r is the lowest constructor of dt from symbol `from` on, or there is none
+abbrev pub NextConstructor : List ℕ → ℕ → ℕ → Option SymbolId.SymbolId → Type 0
+NextConstructor t dt from r =
+    MatchOption r (NoneBuilds t dt from (length (context t).symbols)) (λ c. LowestConstructor t dt from c.0)
 
 -- ---- question 10: marks at the datatypes that were found
 
-unfoldable pub marked : List ℕ → ℕ → Bool
-marked m s = eqb (at m 0 s) 1
+unfoldable pub marked : List Bool → ℕ → Bool
+marked m s = get_or m s false
 
 -- the sorts without a mark
-unfoldable pub unmarked : List ℕ → List ℕ
+unfoldable pub unmarked : List Bool → List ℕ
 unmarked m = keep (λ s. not (marked m s)) (range 0 (length m))
 
 -- the datatype of a constructor is found by it now
@@ -351,12 +363,12 @@ unfoldable pub adds : Context → (ℕ → Bool) → ℕ → Bool
 adds cx found c = is_constructor (symbol cx c).role && not (ready cx found (symbol cx c).result) && has_ready_fields cx found c
 
 -- there is room for a mark at each sort, and marked are inhabited datatypes
-pub record Marks (t m : List ℕ) : Type 0 where
+pub record Marks (t : List ℕ) (m : List Bool) : Type 0 where
   pub long : max_sorts ≤ length m
   pub inhabited : (s : ℕ) → T (marked m s) → T (inhabited (context t) s)
 
 -- Marks m have become u: there are more of them, or the set is as it was and has each datatype that is grounded in it.
-pub record MarkRound (t m : List ℕ) (added : Bool) (u : List ℕ) : Type 0 where
+pub record MarkRound (t : List ℕ) (m : List Bool) (added : Bool) (u : List Bool) : Type 0 where
   pub marks : Marks t u
   pub more : added ≡ true → length (unmarked u) < length (unmarked m)
   pub same : added ≡ false → u ≡ m

@@ -1,5 +1,5 @@
 -- The marked constructor applications by number: what stands first among those from a number on.
-use Rattle.shinri_core.proofs.Kit.{ℕ, zero, suc, ◌+◌, ◌-◌, ◌≤◌, ◌<◌, ◌%◌, ◌≡◌, refl, sym, ap, ◌∙◌, subst, subst⁻¹, ◌⊎◌, inl, inr, Bool, true, false, cond, true≢false, List, [], ◌∷◌, none, some, Option, dec_lt, ℕ_discrete, arith, eqb, ne_eqb, eqb-true, eqb-false, length}
+use Rattle.shinri_core.proofs.Kit.{ℕ, zero, suc, ◌+◌, ◌-◌, ◌≤◌, ◌<◌, ◌%◌, ◌≡◌, refl, sym, ap, ◌∙◌, subst, subst⁻¹, ◌⊎◌, inl, inr, Bool, true, false, cond, true≢false, List, [], ◌∷◌, none, some, Option, dec_lt, arith, eqb, ne_eqb, eqb-true, eqb-false, length}
 use Rattle.shinri_core.specs.Limits.{max_terms}
 use Rattle.shinri_core.specs.Lists.{In, first, gather, cons_option}
 use Rattle.shinri_core.specs.Context.{Context, CtorApp, ctor_app}
@@ -141,10 +141,10 @@ module _ (cx : Context) (w : List ℕ) (M : MarksAre cx w W_MARK) where
   -- word k says which application from i on is the first that passes a test
   pub record WordIs (p : CtorApp → Bool) (i k : ℕ) : Type 0 where
     pub none : k ≡ 0 → (y : ℕ) → i ≤ y → MarkedApp w y → p (app_at cx y) ≡ false
-    pub after : (k ≡ 0 → ⊥) → i ≤ k - 1
-    pub app : (k ≡ 0 → ⊥) → MarkedApp w (k - 1)
-    pub passes : (k ≡ 0 → ⊥) → p (app_at cx (k - 1)) ≡ true
-    pub before : (y : ℕ) → i ≤ y → y < k - 1 → MarkedApp w y → p (app_at cx y) ≡ false
+    pub after : (x : ℕ) → k ≡ suc x → i ≤ x
+    pub app : (x : ℕ) → k ≡ suc x → MarkedApp w x
+    pub passes : (x : ℕ) → k ≡ suc x → p (app_at cx x) ≡ true
+    pub before : (x : ℕ) → k ≡ suc x → (y : ℕ) → i ≤ y → y < x → MarkedApp w y → p (app_at cx y) ≡ false
 
   pub word_is : (p : CtorApp → Bool) (i k : ℕ) → i ≤ max_terms → k ≡ app_word (first p (apps_from cx w i)) → WordIs p i k
   unfolding app_word
@@ -153,43 +153,30 @@ module _ (cx : Context) (w : List ℕ) (M : MarksAre cx w W_MARK) where
       go : (o : Option CtorApp) → FirstFrom p i o → k ≡ app_word o → WordIs p i k
       go none f d = record {
         none = λ z. f;
-        after = λ n. absurd (n d);
-        app = λ n. absurd (n d);
-        passes = λ n. absurd (n d);
-        before = λ y h g m. f y h m;
+        after = λ x h. absurd (omega arith);
+        app = λ x h. absurd (omega arith);
+        passes = λ x h. absurd (omega arith);
+        before = λ x h y g l m. f y g m;
       }
       go (some a) (q, b, h, m, t, f) d =
-          let j : q ≡ k - 1 = let i = ap (λ (x : CtorApp). x.app) b in omega arith in
+          let b' = ap (λ (x : CtorApp). x.app) b in
+          let j : (x : ℕ) → k ≡ suc x → q ≡ x = λ x n. omega arith in
           record {
-            none = λ z. let i = ap (λ (x : CtorApp). x.app) b in absurd (omega arith);
-            after = λ n. subst (λ (x : ℕ). i ≤ x) j h;
-            app = λ n. subst (λ (x : ℕ). MarkedApp w x) j m;
-            passes = λ n. subst (λ (x : ℕ). p (app_at cx x) ≡ true) j t;
-            before = λ y g u v. f y g (omega arith) v;
+            none = λ z. absurd (omega arith);
+            after = λ x n. subst (λ (y : ℕ). i ≤ y) (j x n) h;
+            app = λ x n. subst (λ (y : ℕ). MarkedApp w y) (j x n) m;
+            passes = λ x n. subst (λ (y : ℕ). p (app_at cx y) ≡ true) (j x n) t;
+            before = λ x n y g u v. let e = j x n in f y g (omega arith) v;
           }
 
--- a walk from word k to word j of an application behind it comes to an end
-behind_less : (k j : ℕ) → (k ≡ 0 → ⊥) → k - 1 < max_terms → suc (k - 1) ≤ j - 1 → j - 1 < max_terms →
-    (max_terms + 1 - j) % 1025 < (max_terms + 1 - k) % 1025
-behind_less k j n l h g =
-    let a : 0 < k = omega arith in
-    let b : k < j = omega arith in
-    let d : j ≤ max_terms = omega arith in
-    go a b d
-  where
-    go : 0 < k → k < j → j ≤ max_terms → (max_terms + 1 - j) % 1025 < (max_terms + 1 - k) % 1025
-    go a b d = omega arith
-
-pub word_less : (cx : Context) (w : List ℕ) (M : MarksAre cx w W_MARK) (p : CtorApp → Bool) (k j : ℕ) → WordIs cx w M p (suc (k - 1)) j →
-    (k ≡ 0 → ⊥) → k - 1 < max_terms → (max_terms + 1 - j) % 1025 < (max_terms + 1 - k) % 1025
-word_less cx w M p k j W n l = go (ℕ_discrete j 0)
-  where
-    end : j ≡ 0 → 0 < k → k ≤ max_terms → (max_terms + 1 - j) % 1025 < (max_terms + 1 - k) % 1025
-    end z a b = omega arith
-
-    go : Dec (j ≡ 0) → (max_terms + 1 - j) % 1025 < (max_terms + 1 - k) % 1025
-    go (yes z) = end z (omega arith) (omega arith)
-    go (no z) = behind_less k j n l (W.after z) (W.app z).node
+-- a walk from the word of an application to the word of one behind it, or to none, comes to an end
+pub word_less : (cx : Context) (w : List ℕ) (M : MarksAre cx w W_MARK) (p : CtorApp → Bool) (x j : ℕ) → WordIs cx w M p (suc x) j →
+    x < max_terms → (max_terms + 1 - j) % 1025 < (max_terms + 1 - suc x) % 1025
+word_less cx w M p x zero W l = omega arith
+word_less cx w M p x (suc y) W l =
+    let a = W.after y refl in
+    let b = (W.app y refl).node in
+    omega arith
 
 -- ---- the symbol of a term, by the code's operation
 

@@ -1,75 +1,46 @@
 -- A check begins. The marks are copied; then one pass down the terms takes the roots and puts each marked constructor application before
 -- those of its class that stand there. At term i the words of each class are those of the applications from i on.
-use Rattle.shinri_core.proofs.Kit.{ℕ, suc, ◌+◌, ◌-◌, ◌≤◌, ◌<◌, ◌≡◌, refl, sym, ap, ap₂, ◌∙◌, subst, ◌⊎◌, inl, inr, Bool, true, false, cond, ◌&&◌, true≢false, List, [], ◌∷◌, arith, add-one, ℕ_discrete, dec_lt, eqb, length, get_or, replicate}
+use Rattle.shinri_core.proofs.Kit.{ℕ, suc, ◌+◌, ◌-◌, ◌≤◌, ◌<◌, ◌≡◌, refl, sym, ap, ap₂, ◌∙◌, subst, subst⁻¹, ◌⊎◌, inl, inr, Bool, true, false, cond, ◌&&◌, true≢false, List, [], ◌∷◌, arith, add-one, ℕ_discrete, dec_lt, eqb, length, get_or, replicate, take, drop, length-take-le, length-drop}
 use lib.ListN.{length-replicate}
-use Rattle.shinri_core.proofs.Lists.{zeros}
+use borrow.Rule.Slice.PartMut.{put_mid}
+use Rattle.shinri_core.proofs.Lists.{zeros, getD_sets_in, getD_sets_out}
 use Rattle.shinri_core.specs.Limits.{max_terms}
 use Rattle.shinri_core.specs.Context.{Context, ctor_app}
-use Rattle.shinri_core.specs.Memory.Words.{at, put, Kept}
+use Rattle.shinri_core.specs.Memory.Words.{at, put, put_all, Kept}
 use Rattle.shinri_core.specs.Memory.Table.{context}
-use Rattle.shinri_core.proofs.Memory.Stores.{other_place}
+use Rattle.shinri_core.proofs.Memory.Stores.{other_place, kept_put_all}
 use Rattle.theory.specs.EqEngine.{find}
 use Rattle.theory.specs.Memory.Table.{merges}
 use Rattle.solver.specs.Memory.Table.{MARK, is_set, term_kind, MarksAre, state_with, StateSound}
 use Rattle.solver.specs.Memory.Work.{W_MARK, ROOT, LOWEST, NEXT, work_room, work_size, Blank, Begins, Copyable, MarksCopied, linked, Linkable, Linked}
 use Rattle.solver.proofs.Memory.Flags.{has, flagged_same}
-use Rattle.solver.proofs.Memory.WorkStores.{other, same, long, kept_none, kept_put, stores}
+use Rattle.solver.proofs.Memory.Parts.{part_stored, part_word}
+use Rattle.solver.proofs.Memory.WorkStores.{other, kept_none, stores}
 use Rattle.solver.proofs.Memory.Working.{listed, matches, class_word, class_same, class_step, class_none, no_kind, kind_matches, kind_no_match, node_root}
 
 -- ---- copying the marks
 
--- those of the terms below i are copied
-pub record Copying (c s w₀ w : List ℕ) (n i : ℕ) : Type 0 where
-  pub asked : Copyable c s w₀
-  pub count : n ≡ length (context c).terms
-  pub fit : n ≤ max_terms
-  pub within : i ≤ n
-  pub wide : work_size ≤ length w
-  pub copied : (x : ℕ) → x < i → at w W_MARK x ≡ at s MARK x
-  pub behind : (x : ℕ) → i ≤ x → at w W_MARK x ≡ at w₀ W_MARK x
-  pub kept : Kept work_room (W_MARK ∷ []) w₀ w
-
-pub copying_first : {c s w : List ℕ} {n : ℕ} → Copyable c s w → (n ≡ length (context c).terms) × (n ≤ max_terms) → Copying c s w w n 0
-copying_first {w = w} z (e, l) = record {
-  asked = z;
-  count = e;
-  fit = l;
-  within = omega arith;
-  wide = z.long;
-  copied = λ x h. absurd (omega arith);
-  behind = λ x h. refl;
-  kept = kept_none (W_MARK ∷ []) w;
-}
-
-pub copying_next : {c s w₀ w u : List ℕ} {n i v : ℕ} → Copying c s w₀ w n i → i < n → v ≡ at s MARK i → u ≡ put w W_MARK i v →
-    Copying c s w₀ u n (i + 1)
-copying_next {c} {s} {w₀} {w} {u} {n} {i} {v} z l q e = record {
-  asked = z.asked;
-  count = z.count;
-  fit = z.fit;
-  within = omega arith;
-  wide = subst (λ (t : List ℕ). work_size ≤ length t) (sym e) (long w W_MARK i v z.wide);
-  copied = λ x h. go x h (ℕ_discrete x i);
-  behind = λ x h. elsewhere x (omega arith) ∙ z.behind x (omega arith);
-  kept = subst (Kept work_room (W_MARK ∷ []) w₀) (sym e) (kept_put (W_MARK ∷ []) w₀ w W_MARK i v tt room z.kept);
-}
-  where
-    room : i < max_terms
-    room = let f = z.fit in omega arith
-
-    elsewhere : (x : ℕ) → (x ≡ i → ⊥) → at u W_MARK x ≡ at w W_MARK x
-    elsewhere x d = ap (λ (t : List ℕ). at t W_MARK x) e ∙ other_place w W_MARK i x v d
-
-    go : (x : ℕ) → x < i + 1 → Dec (x ≡ i) → at u W_MARK x ≡ at s MARK x
-    go x h (yes p) =
-        ap₂ (λ (t : List ℕ) (y : ℕ). at t W_MARK y) e p ∙ same w W_MARK i v tt z.wide room ∙ q ∙ ap (at s MARK) (sym p)
-    go x h (no d) = elsewhere x d ∙ z.copied x (omega arith)
-
-pub copying_done : {c s w₀ w : List ℕ} {n i : ℕ} → Copying c s w₀ w n i → n ≤ i → MarksCopied c s w₀ w
-copying_done z l =
-    let e = z.count in
-    let g = z.within in
-    record { copied = λ x h. z.copied x (omega arith); behind = λ x h. z.behind x (omega arith); kept = z.kept }
+-- the marks written over those of the work table at once
+pub copied : {c s w u : List ℕ} {n k m : ℕ} → Copyable c s w → (n ≡ length (context c).terms) × (n ≤ max_terms) →
+    u ≡ take k (drop MARK s) → k ≡ n → m ≡ n → MarksCopied c s w (put_mid W_MARK m w u)
+unfolding put_all at
+copied {c} {s} {w} {u} {n} {k} {m} z (f, l) e p q =
+    let long = z.long in
+    let table = z.table in
+    let size : length u ≡ n = ap length e ∙ length-take-le k (drop MARK s) (let d = length-drop MARK s in omega arith) ∙ p in
+    let stored : put_mid W_MARK m w u ≡ put_all w W_MARK 0 u = part_stored w W_MARK m u (size ∙ sym q) (omega arith) in
+    record {
+      copied = λ x h.
+          ap (λ (t : List ℕ). at t W_MARK x) stored
+          ∙ getD_sets_in w W_MARK u x 0 (omega arith) (omega arith)
+          ∙ ap (λ (t : List ℕ). get_or t x 0) e
+          ∙ part_word s MARK k x (omega arith);
+      behind = λ x h.
+          ap (λ (t : List ℕ). at t W_MARK x) stored ∙ getD_sets_out w W_MARK u (W_MARK + x) 0 (inr (omega arith));
+      kept =
+          subst⁻¹ (Kept work_room (W_MARK ∷ []) w) stored
+          (kept_put_all work_room (W_MARK ∷ []) w w W_MARK 0 u tt (omega arith) (kept_none (W_MARK ∷ []) w));
+    }
 
 -- ---- the pass down
 

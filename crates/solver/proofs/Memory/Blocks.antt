@@ -1,17 +1,16 @@
 -- The first application of a class, by either work table. In a whole one it stands at the root. In a short one it is found by a pass up
 -- over the terms, block by block: what the definition makes of all marks is what it makes of those from a term on, and a block that
 -- announces none is passed over.
-use Rattle.shinri_core.proofs.Kit.{ℕ, zero, suc, ◌+◌, ◌*◌, ◌/◌, ◌≤◌, ◌<◌, ◌≡◌, refl, sym, ap, ◌∙◌, subst, ◌⊎◌, inl, inr, Bool, cond, true≢false, List, arith, add-one, add-zero, zero-add, eq-eqb, ne_eqb, length, get_or, drop, get_or-take, get_or-drop, length-drop, length-take-le}
+use Rattle.shinri_core.proofs.Kit.{ℕ, zero, suc, ◌+◌, ◌*◌, ◌/◌, ◌≤◌, ◌<◌, ◌≡◌, refl, sym, ap, ◌∙◌, subst, ◌⊎◌, inl, inr, Bool, cond, true≢false, List, arith, add-zero, zero-add, eq-eqb, ne_eqb, length, get_or, drop, get_or-take, get_or-drop, length-drop, length-take-le}
 use Rattle.shinri_core.specs.Limits.{max_terms}
 use Rattle.shinri_core.specs.Memory.Words.{at}
 use Rattle.shinri_core.specs.Memory.Table.{context}
 use Rattle.theory.specs.EqEngine.{find}
 use Rattle.theory.specs.Memory.Table.{merges}
-use Rattle.solver.specs.declared.work.CtorOf as CtorOf
 use Rattle.solver.specs.Memory.Table.{MARK, BLOCK, blocks, block_terms, is_set, term_kind, MarksAre, Announced, state, state_with, StateSound}
-use Rattle.solver.specs.Memory.Work.{W_MARK, W_BLOCK, marks_size, work_size, marks_of, state_at, word_from, WorkSound, ShortSound, ClassAsked, ClassTable, CtorAsked, CtorOfClass, CheckSound, NameAsked, NamesApp, MarksAsked, LowestInBlock, LowestMarked}
+use Rattle.solver.specs.Memory.Work.{W_MARK, W_BLOCK, marks_size, work_size, marks_of, state_at, word_from, WorkSound, ShortSound, ClassAsked, ClassTable, CtorAsked, CheckSound, MarksAsked, LowestInBlock, LowestMarked}
 use Rattle.solver.proofs.Memory.Flags.{has, flagged_same}
-use Rattle.solver.proofs.Memory.Working.{listed, class_step, class_none, lowest_within}
+use Rattle.solver.proofs.Memory.Working.{listed, class_step, class_none}
 use Rattle.solver.proofs.Memory.Beginning.{linked_here, not_here}
 
 -- ---- the table that the solver's lends
@@ -110,14 +109,13 @@ module _
             ∙ ap (word_from c e w x) next;
       }
 
-      pub block_found : other ≡ root → LowestInBlock e w b root (b * block_terms + i + 1)
+      pub block_found : other ≡ root → LowestInBlock e w b root (suc (b * block_terms + i))
       block_found d = record {
         is = λ c x m r.
             z.passed c x m r
             ∙ step_found c e w x (b * block_terms + i) m term (sym q ∙ g) (sym r ∙ sym d ∙ o)
-            ∙ sym (add-one (b * block_terms + i))
-            ∙ sym (ap (λ (t : Bool). cond t (word_from c e w x (b * block_terms + block_terms)) (b * block_terms + i + 1))
-            (ne_eqb (b * block_terms + i + 1) 0 (omega arith)));
+            ∙ sym (ap (λ (t : Bool). cond t (word_from c e w x (b * block_terms + block_terms)) (suc (b * block_terms + i)))
+            (ne_eqb (suc (b * block_terms + i)) 0 (omega arith)));
       }
 
 pub block_done : {e w : List ℕ} {b root i : ℕ} → Blockwise e w b root i → block_terms ≤ i → LowestInBlock e w b root 0
@@ -223,11 +221,3 @@ in_check z = record { core = z.core; signed = z.signed; engine = z.engine; table
 pub check_asked : {c e s w : List ℕ} {x : ℕ} → CheckSound c e s w → x < max_terms → CtorAsked c e w x
 check_asked z h =
     record { core = z.state.core; signed = z.state.signed; engine = z.state.engine; table = inl z.work; is_node = h }
-
--- the word of a class names its lowest application
-module _ {c e w : List ℕ} {x word : ℕ} (z : CtorAsked c e w x) (q : word ≡ word_from c e w x 0) where
-  pub class_named : NameAsked c word
-  class_named = record { core = z.core; within = lowest_within c e w x word q }
-
-  pub class_answer : {r : CtorOf.CtorOf} → NamesApp c word r → CtorOfClass c e w x r
-  class_answer a = a.names e w x q

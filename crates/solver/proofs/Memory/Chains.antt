@@ -15,7 +15,7 @@ use Rattle.solver.specs.Rules.{Ruled, pass, go_on, then, try_each}
 use Rattle.solver.specs.declared.answer.TCheck as TCheck
 use Rattle.solver.specs.Memory.Table.{is_set, flagged_from, term_kind, MarksAre, dt_with, state_with}
 use Rattle.solver.specs.Memory.Work.{W_MARK, NEXT, state_at, apps_from, first_in_class, app_word, WorkSound, ChainSound, CheckSound, word_from}
-use Rattle.solver.specs.Memory.Answer.{Tried}
+use Rattle.solver.specs.Memory.Answer.{Tried, RuleAnswer}
 use Rattle.solver.specs.Memory.Checks.{Underway}
 use Rattle.solver.specs.Memory.Collapse.{when, by_apps, if_marked}
 use Rattle.solver.proofs.Basics.{first_some, gather_in}
@@ -26,6 +26,7 @@ use Rattle.solver.proofs.Memory.Roles.{ctor_kind}
 use Rattle.solver.proofs.Memory.Growing.{marked_within, old_ctor_app, old_apps, chain_grows}
 use Rattle.solver.proofs.Memory.Unfitting.{Onward, try_onward, pass_onward}
 use Rattle.solver.proofs.Memory.Trying.{Trying, try_first, try_as, try_next, try_answer, try_done, then_same, tried_pass, tried_as}
+use Rattle.std.specs.Prelude.{Ok}
 
 -- ---- marked applications from a number on
 
@@ -209,16 +210,9 @@ walk_first rule {c} {e} {s} {w} {arg} others C z =
     })
 
 module _
-    {rule : CtorApp → State → Ruled} {c₀ e s₀ w : List ℕ} {arg : ℕ} {c s : List ℕ} {k : ℕ}
-    (W : Walking rule c₀ e s₀ w arg c s k) (n : k ≡ 0 → ⊥)
+    {rule : CtorApp → State → Ruled} {c₀ e s₀ w : List ℕ} {arg : ℕ} {c s : List ℕ} {k here : ℕ}
+    (W : Walking rule c₀ e s₀ w arg c s k) (word_here : k ≡ suc here)
   where
-    -- the application at hand
-    abbrev here : ℕ
-    here = k - 1
-
-    word_here : k ≡ suc here
-    word_here = omega arith
-
     pub walk_at : AppFrom (context c₀) (merges e) w arg 0 here
     walk_at = subst (OnChain (context c₀) (merges e) w arg 0) word_here W.on
 
@@ -257,9 +251,9 @@ module _
         ∙ apps_here (context c₀) w here A.app A.within (ap is_set A.mark) A.is_app)
         ∙ ap (λ (o : Option CtorApp). then (when rule o (state_at c e s w lv)) next) (sym walk_app))
 
-    module _ {r : TCheck.TCheck} {c' s' o : List ℕ} (T : Tried step c e s w r c' s' w o) where
+    module _ {r : RuleAnswer} {c' s' o : List ℕ} (T : Tried step c e s w r c' s' w o) where
       -- the rule passes there
-      pub walk_next : {k' : ℕ} → WorkSound c₀ e w → ChainSound c₀ e w → r ≡ TCheck.TheVariants.Sat → k' ≡ at w NEXT here →
+      pub walk_next : {k' : ℕ} → WorkSound c₀ e w → ChainSound c₀ e w → r ≡ Ok TCheck.TheVariants.Sat → k' ≡ at w NEXT here →
           Walking rule c₀ e s₀ w arg c' s' k'
       walk_next Z H q p =
           let l = walk_at.within in
@@ -271,7 +265,7 @@ module _
           })
 
       -- it answers
-      pub walk_answer : (r ≡ TCheck.TheVariants.Sat → ⊥) → ((a : CtorApp) (S : State) → Onward S (rule a S).state) →
+      pub walk_answer : (r ≡ Ok TCheck.TheVariants.Sat → ⊥) → ((a : CtorApp) (S : State) → Onward S (rule a S).state) →
           Tried (by_apps rule) c₀ e s₀ w r c' s' w o
       walk_answer m h = try_answer step next stepping T m (λ S. try_onward rule h (apps_from (context c₀) w (suc here)) S)
 
@@ -283,7 +277,7 @@ module _
         (shorter (context c₀) (merges e) w arg here later walk_at.within (on_later Z)))
 
 pub walk_done : {rule : CtorApp → State → Ruled} {c₀ e s₀ w : List ℕ} {arg : ℕ} {c s o : List ℕ} {k : ℕ} →
-    Walking rule c₀ e s₀ w arg c s k → k ≡ 0 → Tried (by_apps rule) c₀ e s₀ w TCheck.TheVariants.Sat c s w o
+    Walking rule c₀ e s₀ w arg c s k → k ≡ 0 → Tried (by_apps rule) c₀ e s₀ w (Ok TCheck.TheVariants.Sat) c s w o
 unfolding chain_from try_each
 walk_done {rule} {c₀} {e} {s₀} {w} {arg} {c} {s} W z =
     try_done (try_as W.trying (λ lv. ap (λ (j : ℕ). try_each rule (chain_from (context c₀) w j) (state_at c e s w lv)) z))
@@ -366,11 +360,11 @@ module _ {A : Type 0} (rule : A → CtorApp → State → Ruled) (f : Context �
           (same_turn (f (context c₀) x) lv
           ∙ ap (λ (o : Option A). when (λ a. by_apps (rule a)) o S) (sym (kept (context c₀) (context c) L.trying.extends x l))))
 
-      module _ {r : TCheck.TCheck} {c' s' o : List ℕ} (T : Tried list_step c e s w r c' s' w o) where
-        pub list_next : r ≡ TCheck.TheVariants.Sat → Listing c₀ e s₀ w c' s' (x + 1)
+      module _ {r : RuleAnswer} {c' s' o : List ℕ} (T : Tried list_step c e s w r c' s' w o) where
+        pub list_next : r ≡ Ok TCheck.TheVariants.Sat → Listing c₀ e s₀ w c' s' (x + 1)
         list_next q = subst⁻¹ (Listing c₀ e s₀ w c' s') (add-one x) (record { trying = try_next list_step list_rest list_stepping T q })
 
-        pub list_answer : (r ≡ TCheck.TheVariants.Sat → ⊥) → ((a : A) (b : CtorApp) (S : State) → Onward S (rule a b S).state) →
+        pub list_answer : (r ≡ Ok TCheck.TheVariants.Sat → ⊥) → ((a : A) (b : CtorApp) (S : State) → Onward S (rule a b S).state) →
             Tried by_terms c₀ e s₀ w r c' s' w o
         list_answer n h =
             try_answer list_step list_rest list_stepping T n
@@ -389,7 +383,7 @@ module _ {A : Type 0} (rule : A → CtorApp → State → Ruled) (f : Context �
   list_within {c₀} {c = c} L l = let h = extends_length (context c₀) (context c) L.trying.extends in omega arith
 
   pub list_done : {c₀ e s₀ w c s o : List ℕ} {x : ℕ} → Listing c₀ e s₀ w c s x → CheckSound c₀ e s₀ w → length (context c₀).terms ≤ x →
-      Tried by_terms c₀ e s₀ w TCheck.TheVariants.Sat c s w o
+      Tried by_terms c₀ e s₀ w (Ok TCheck.TheVariants.Sat) c s w o
   unfolding try_each
   list_done {c₀} {e} {s₀} {w} {c} {s} {o} {x} L C l =
       try_done (try_as L.trying (λ lv.
@@ -403,7 +397,7 @@ module _ {A : Type 0} (rule : A → CtorApp → State → Ruled) (f : Context �
 module _ {A : Type 0} (rule : A → CtorApp → State → Ruled) {c e s w : List ℕ} (x : ℕ) (a : Option A) where
   -- not marked, or of another kind
   pub term_passes : {o : List ℕ} → CheckSound c e s w → (at w W_MARK x ≡ 0) ⊎ (a ≡ none) →
-      Tried (if_marked w x (when (λ z. by_apps (rule z)) a)) c e s w TCheck.TheVariants.Sat c s w o
+      Tried (if_marked w x (when (λ z. by_apps (rule z)) a)) c e s w (Ok TCheck.TheVariants.Sat) c s w o
   unfolding if_marked when is_set
   term_passes C (inl q) =
       tried_pass C (λ lv.
@@ -420,7 +414,7 @@ module _ {A : Type 0} (rule : A → CtorApp → State → Ruled) {c e s w : List
       either false S = refl
 
   -- marked
-  pub term_tried : {k : ℕ} {r : TCheck.TCheck} {c' s' o : List ℕ} → at w W_MARK x ≡ suc k →
+  pub term_tried : {k : ℕ} {r : RuleAnswer} {c' s' o : List ℕ} → at w W_MARK x ≡ suc k →
       Tried (λ S. when (λ z. by_apps (rule z)) a S) c e s w r c' s' w o →
       Tried (if_marked w x (when (λ z. by_apps (rule z)) a)) c e s w r c' s' w o
   unfolding if_marked is_set

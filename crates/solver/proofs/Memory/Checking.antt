@@ -18,14 +18,16 @@ use Rattle.solver.specs.Rules as Rules
 use Rattle.solver.specs.Rules.{Ruled, pass, answered, go_on, then, constructor_clash}
 use Rattle.solver.specs.Check.{before_ring, or_ring, full_check, check}
 use Rattle.solver.specs.declared.answer.TCheck as TCheck
-use Rattle.solver.specs.declared.answer.TCheck.TheVariants.{Sat, Conflict, Split, Unknown, NoRoom}
+use Rattle.solver.specs.declared.answer.TCheck.TheVariants.{Sat, Conflict, Split, Unknown}
+use Rattle.std.specs.Prelude.{Ok, Err, is_ok}
+use Rattle.shinri_core.specs.declared.limits.NoRoom.{NoRoom}
 use Rattle.solver.specs.Memory.Table.{COUNTS, RECORDS, BLOCK, MARK, COLLECTED, LASTING, EMITTED, SPLIT, ENTRY, solver_room, records#, registry, is_set, flagged_from, term_kind, EntryFits, of_sign, of_unequal, MarksAre, Announced, state, state_with, dt_with, CollectedSound, StateSound}
 use Rattle.solver.specs.Memory.Recording.{with_mark}
 use Rattle.solver.specs.Memory.Work.{W_MARK, apps_from, state_at, Begins, ChainSound, CheckSound}
-use Rattle.solver.specs.Memory.Answer.{answer_meaning, Outcome, Tried}
+use Rattle.solver.specs.Memory.Answer.{answer_meaning, Outcome, Tried, RuleAnswer}
 use Rattle.solver.specs.Memory.Testing.{Lone}
-use Rattle.solver.specs.Memory.Checks.{passes, has_room, Answered, ChecksFully, Rings, MarksFit, KeepsMarks, ChecksKept, Checks}
-use Rattle.solver.proofs.Basics.{none_some, by_test}
+use Rattle.solver.specs.Memory.Checks.{Answered, ChecksFully, Rings, MarksFit, KeepsMarks, ChecksKept, Checks}
+use Rattle.solver.proofs.Basics.{by_test}
 use Rattle.solver.proofs.Clear.{one_constructor}
 use Rattle.solver.proofs.Terms.{extends_then, extends_length}
 use Rattle.solver.proofs.Memory.TableStores.{kept_none}
@@ -36,59 +38,44 @@ use Rattle.solver.proofs.Memory.Flags.{flagged_same}
 use Rattle.solver.proofs.Memory.Frames.{registry_kept, flagged_kept, record_kept, solver_kept}
 use Rattle.solver.proofs.Memory.Growing.{chain_grows}
 use Rattle.solver.proofs.Memory.Unfitting.{unfit_more}
+use Rattle.solver.proofs.Memory.Trying.{sat_split}
 
 -- ---- one rule and the next
 
--- what the code's test of an answer says
-stops : (r : TCheck.TCheck) {b : Bool} → b ≡ passes r → not b ≡ true → passes r ≡ false
-stops r {b} e n = sym e ∙ not-true b n
-
-pub goes : (r : TCheck.TCheck) {b : Bool} → b ≡ passes r → not b ≡ false → passes r ≡ true
-goes r {b} e n = sym e ∙ not-false b n
-
 -- a rule's result, by its outcome, when it passes
-pub passed : (r : TCheck.TCheck) (k : Ruled) (s : State) (o : List ℕ) → passes r ≡ true → Outcome r k s o → k ≡ pass s
-unfolding passes
-passed Sat k s o e x = x
-passed Conflict k s o e x = absurd (false≢true e)
-passed Split k s o e x = absurd (false≢true e)
-passed Unknown k s o e x = absurd (false≢true e)
-passed NoRoom k s o e x = absurd (false≢true e)
-
-no_split : (r : TCheck.TCheck) → passes r ≡ true → r ≡ Split → ⊥
-unfolding passes
-no_split r e q = false≢true (ap passes (sym q) ∙ e)
+pub passed : (r : RuleAnswer) (k : Ruled) (s : State) (o : List ℕ) → r ≡ Ok Sat → Outcome r k s o → k ≡ pass s
+passed r k s o q x = subst (λ (z : RuleAnswer). Outcome z k s o) q x
 
 -- where no clash of constructors was found, each class has one constructor
-pub lone_passed : {c e s w o : List ℕ} {r : TCheck.TCheck} {b : Bool} → b ≡ passes r → not b ≡ false →
+pub lone_passed : {c e s w o : List ℕ} {r : RuleAnswer} → r ≡ Ok Sat →
     Tried constructor_clash c e s w r c s w o → Lone c e w
 unfolding pass apps_from ctor_apps equal state_with dt_with
-lone_passed {c} {e} {s} {w} {o} {r} test taken a =
+lone_passed {c} {e} {s} {w} {o} {r} q a =
     let S = state_at c e s w (λ k. k) in
     one_constructor S
-    (ap (λ (k : Ruled). k.answer) (passed r (constructor_clash S) S o (goes r test taken) (a.outcome (λ k. k))))
+    (ap (λ (k : Ruled). k.answer) (passed r (constructor_clash S) S o q (a.outcome (λ k. k))))
 
 module _ (rule next : State → Ruled) where
   -- the first passes
-  pub then_on : {c e s w c₁ s₁ w₁ o₁ c₂ s₂ w₂ o₂ : List ℕ} {r r₂ : TCheck.TCheck} {b : Bool} → b ≡ passes r → not b ≡ false →
+  pub then_on : {c e s w c₁ s₁ w₁ o₁ c₂ s₂ w₂ o₂ : List ℕ} {r r₂ : RuleAnswer} → r ≡ Ok Sat →
       Tried rule c e s w r c₁ s₁ w₁ o₁ → Tried next c₁ e s₁ w₁ r₂ c₂ s₂ w₂ o₂ → Tried (λ S. then (rule S) next) c e s w r₂ c₂ s₂ w₂ o₂
   unfolding then go_on pass
-  then_on {c} {e} {s} {w} {c₁} {s₁} {w₁} {o₁} {c₂} {s₂} {w₂} {o₂} {r} {r₂} test taken a b = let p = goes r test taken in record {
+  then_on {c} {e} {s} {w} {c₁} {s₁} {w₁} {o₁} {c₂} {s₂} {w₂} {o₂} {r} {r₂} p a b = record {
     sound = b.sound;
     extends = extends_then (context c) (context c₁) (context c₂) a.extends b.extends;
     outcome = λ lv.
         let first = passed r (rule (state_at c e s w lv)) (state_at c₁ e s₁ w₁ lv) o₁ p (a.outcome lv) in
         subst (λ (k : Ruled). Outcome r₂ (then k next) (state_at c₂ e s₂ w₂ lv) o₂) (sym first) (b.outcome lv);
-    unchanged = λ n. b.unchanged n ∙ a.unchanged (no_split r p);
+    unchanged = λ n. b.unchanged n ∙ a.unchanged (sat_split r p);
     readable = b.readable;
   }
 
   -- the first answers, or has no room; the next would only add terms
-  pub then_stop : {c e s w c₁ s₁ w₁ o₁ : List ℕ} {r : TCheck.TCheck} {b : Bool} → b ≡ passes r → not b ≡ true →
+  pub then_stop : {c e s w c₁ s₁ w₁ o₁ : List ℕ} {r : RuleAnswer} → (r ≡ Ok Sat → ⊥) →
       ((S : State) → Extends S.terms (next S).state.terms) → Tried rule c e s w r c₁ s₁ w₁ o₁ →
       Tried (λ S. then (rule S) next) c e s w r c₁ s₁ w₁ o₁
-  unfolding passes then go_on answered
-  then_stop {c} {e} {s} {w} {c₁} {s₁} {w₁} {o₁} {r} test taken grows a = let p = stops r test taken in record {
+  unfolding then go_on answered
+  then_stop {c} {e} {s} {w} {c₁} {s₁} {w₁} {o₁} {r} p grows a = record {
     sound = a.sound;
     extends = a.extends;
     outcome = λ lv. stopped r (rule (state_at c e s w lv)) (state_at c₁ e s₁ w₁ lv) p (a.outcome lv);
@@ -100,15 +87,15 @@ module _ (rule next : State → Ruled) where
       unfit S none f = unfit_more S.terms (next S).state.terms (grows S) f
       unfit S (some x) f = f
 
-      stopped : (r : TCheck.TCheck) (k : Ruled) (S : State) → passes r ≡ false → Outcome r k S o₁ → Outcome r (then k next) S o₁
-      stopped Sat k S p x = absurd (true≢false p)
-      stopped Conflict k S p x = ap (λ (j : Ruled). then j next) x
-      stopped Split k S p x = ap (λ (j : Ruled). then j next) x
-      stopped Unknown k S p x = ap (λ (j : Ruled). then j next) x
-      stopped NoRoom k S p x = unfit k.state k.answer x
+      stopped : (r : RuleAnswer) (k : Ruled) (S : State) → (r ≡ Ok Sat → ⊥) → Outcome r k S o₁ → Outcome r (then k next) S o₁
+      stopped (Ok Sat) k S p x = absurd (p refl)
+      stopped (Ok Conflict) k S p x = ap (λ (j : Ruled). then j next) x
+      stopped (Ok Split) k S p x = ap (λ (j : Ruled). then j next) x
+      stopped (Ok Unknown) k S p x = ap (λ (j : Ruled). then j next) x
+      stopped (Err n) k S p x = unfit k.state k.answer x
 
 -- a rule that marks nothing keeps the chains
-pub chained : {rule : State → Ruled} {c e s w c₁ s₁ o : List ℕ} {r : TCheck.TCheck} → CheckSound c e s w → ChainSound c e w →
+pub chained : {rule : State → Ruled} {c e s w c₁ s₁ o : List ℕ} {r : RuleAnswer} → CheckSound c e s w → ChainSound c e w →
     Tried rule c e s w r c₁ s₁ w o → ChainSound c₁ e w
 chained {rule} {c} {e} {s} {w} {c₁} z h a =
     chain_grows c c₁ a.extends a.sound.state.core a.sound.state.formed e w h z.work
@@ -116,26 +103,26 @@ chained {rule} {c} {e} {s} {w} {c₁} z h a =
 -- ---- the ring
 
 -- what a rule answered is the check's answer
-rule_answers : (r : TCheck.TCheck) (k : Ruled) (S : State) (o : List ℕ) → passes r ≡ false → Outcome r k S o →
+rule_answers : (r : RuleAnswer) (k : Ruled) (S : State) (o : List ℕ) → (r ≡ Ok Sat → ⊥) → Outcome r k S o →
     Answered r (or_ring k.answer k.state) S o
-unfolding passes has_room answer_meaning or_ring answered
-rule_answers Sat k S o p x = absurd (true≢false p)
-rule_answers Conflict k S o p x = record {
+unfolding answer_meaning or_ring answered
+rule_answers (Ok Sat) k S o p x = absurd (p refl)
+rule_answers (Ok Conflict) k S o p x = record {
   answer = λ h. ap (λ (j : Ruled). some (or_ring j.answer j.state).answer) (sym x);
   state = λ h. ap (λ (j : Ruled). (or_ring j.answer j.state).state) x;
   refused = λ h. absurd (true≢false h);
 }
-rule_answers Split k S o p x = record {
+rule_answers (Ok Split) k S o p x = record {
   answer = λ h. ap (λ (j : Ruled). some (or_ring j.answer j.state).answer) (sym x);
   state = λ h. ap (λ (j : Ruled). (or_ring j.answer j.state).state) x;
   refused = λ h. absurd (true≢false h);
 }
-rule_answers Unknown k S o p x = record {
+rule_answers (Ok Unknown) k S o p x = record {
   answer = λ h. ap (λ (j : Ruled). some (or_ring j.answer j.state).answer) (sym x);
   state = λ h. ap (λ (j : Ruled). (or_ring j.answer j.state).state) x;
   refused = λ h. absurd (true≢false h);
 }
-rule_answers NoRoom k S o p x = record {
+rule_answers (Err n) k S o p x = record {
   answer = λ h. absurd (false≢true h);
   state = λ h. absurd (false≢true h);
   refused = λ h. left k.answer x;
@@ -146,49 +133,39 @@ rule_answers NoRoom k S o p x = record {
     left (some a) f = f
 
 -- a rule before the ring answers
-pub fully_stopped : {c e s w c₁ s₁ w₁ o : List ℕ} {r : TCheck.TCheck} {b : Bool} → Begins c e s w → b ≡ passes r → not b ≡ true →
+pub fully_stopped : {c e s w c₁ s₁ w₁ o : List ℕ} {r : RuleAnswer} → Begins c e s w → (r ≡ Ok Sat → ⊥) →
     Tried before_ring c e s w r c₁ s₁ w₁ o → ChecksFully c e s r c₁ s₁ w₁ o
-unfolding full_check has_room
-fully_stopped {c} {e} {s} {w} {c₁} {s₁} {w₁} {o} {r} b test taken a = let p = stops r test taken in record {
+unfolding full_check
+fully_stopped {c} {e} {s} {w} {c₁} {s₁} {w₁} {o} {r} b p a = record {
   sound = a.sound;
   extends = a.extends;
   outcome = λ lv.
       subst (λ (S : State). Answered r (full_check S) (state_at c₁ e s₁ w₁ lv) o) (b.marks lv)
       (rule_answers r (before_ring (state_at c e s w lv)) (state_at c₁ e s₁ w₁ lv) o p (a.outcome lv));
-  unchanged = λ h. a.unchanged (λ q. false≢true (sym h ∙ ap has_room q ∙ split_has_room));
+  unchanged = λ h. a.unchanged (λ q. false≢true (sym h ∙ ap is_ok q));
   readable = a.readable;
 }
-  where
-    split_has_room : has_room Split ≡ true
-    split_has_room = refl
 
 -- no rule before the ring answers
-pub fully_walked : {c e s w c₁ s₁ w₁ o₁ o : List ℕ} {r q : TCheck.TCheck} {b : Bool} → Begins c e s w → b ≡ passes r → not b ≡ false →
-    Tried before_ring c e s w r c₁ s₁ w₁ o₁ → Rings c₁ e w₁ q o → ChecksFully c e s q c₁ s₁ w₁ o
-unfolding full_check or_ring pass has_room answer_meaning
-fully_walked {c} {e} {s} {w} {c₁} {s₁} {w₁} {o₁} {o} {r} {q} b test taken a x = let p = goes r test taken in record {
+pub fully_walked : {c e s w c₁ s₁ w₁ o₁ o : List ℕ} {r : RuleAnswer} {t : TCheck.TCheck} → Begins c e s w → r ≡ Ok Sat →
+    Tried before_ring c e s w r c₁ s₁ w₁ o₁ → Rings c₁ e w₁ t o → ChecksFully c e s (Ok t) c₁ s₁ w₁ o
+unfolding full_check or_ring pass answer_meaning
+fully_walked {c} {e} {s} {w} {c₁} {s₁} {w₁} {o₁} {o} {r} {t} b p a x = record {
   sound = a.sound;
   extends = a.extends;
   outcome = λ lv.
       let first = passed r (before_ring (state_at c e s w lv)) (state_at c₁ e s₁ w₁ lv) o₁ p (a.outcome lv) in
-      subst (λ (S : State). Answered q (full_check S) (state_at c₁ e s₁ w₁ lv) o) (b.marks lv)
-      (subst (λ (k : Ruled). Answered q (or_ring k.answer k.state) (state_at c₁ e s₁ w₁ lv) o) (sym first) (last lv));
-  unchanged = λ h. absurd (false≢true (sym h ∙ room q (x.outcome s (λ i. 0))));
+      subst (λ (S : State). Answered (Ok t) (full_check S) (state_at c₁ e s₁ w₁ lv) o) (b.marks lv)
+      (subst (λ (k : Ruled). Answered (Ok t) (or_ring k.answer k.state) (state_at c₁ e s₁ w₁ lv) o) (sym first) (last lv));
+  unchanged = λ h. absurd (true≢false h);
   readable = x.readable;
 }
   where
-    room : (q : TCheck.TCheck) {a : Rules.TCheck} → answer_meaning q o ≡ some a → has_room q ≡ true
-    room Sat e = refl
-    room Conflict e = refl
-    room Split e = refl
-    room Unknown e = refl
-    room NoRoom {a} e = absurd (none_some a e)
-
-    last : (lv : ℕ → ℕ) → Answered q (or_ring none (state_at c₁ e s₁ w₁ lv)) (state_at c₁ e s₁ w₁ lv) o
+    last : (lv : ℕ → ℕ) → Answered (Ok t) (or_ring none (state_at c₁ e s₁ w₁ lv)) (state_at c₁ e s₁ w₁ lv) o
     last lv = record {
       answer = λ h. x.outcome s₁ lv;
       state = λ h. refl;
-      refused = λ h. absurd (false≢true (sym h ∙ room q (x.outcome s₁ lv)));
+      refused = λ h. absurd (true≢false h);
     }
 
 -- ---- the marks kept
@@ -339,20 +316,19 @@ fits_now c z =
     rw (le-leb (length (context c).terms) max_terms (omega arith), le-leb (places (context c)) max_places (omega arith))
 
 -- a check that is not full
-pub check_idle : {full : Bool} {c e s o : List ℕ} → not full ≡ true → StateSound c e s → Checks full c e s Sat c s o
+pub check_idle : {full : Bool} {c e s o : List ℕ} → not full ≡ true → StateSound c e s → Checks full c e s (Ok Sat) c s o
 unfolding check answer_meaning state_with
 check_idle {full} {c} {e} {s} {o} n z =
     let f = fits_now c z.core in
-    subst (λ (b : Bool). Checks b c e s Sat c s o) (sym (not-true full n))
+    subst (λ (b : Bool). Checks b c e s (Ok Sat) c s o) (sym (not-true full n))
     (record { sound = z; answer = λ lv. rw f; view = λ lv. rw f; readable = tt })
 
 -- a check that fits
-pub check_kept : {full : Bool} {c e s c₁ s₁ w s₂ o : List ℕ} {r : TCheck.TCheck} {b : Bool} → not full ≡ false →
-    ChecksFully c e s r c₁ s₁ w o →
-    b ≡ has_room r → b ≡ true → KeepsMarks (length (context c₁).terms) s₁ w s₂ → Checks full c e s r c₁ s₂ o
+pub check_kept : {full : Bool} {c e s c₁ s₁ w s₂ o : List ℕ} {r : RuleAnswer} → not full ≡ false →
+    ChecksFully c e s r c₁ s₁ w o → is_ok r ≡ true → KeepsMarks (length (context c₁).terms) s₁ w s₂ → Checks full c e s r c₁ s₂ o
 unfolding check state_with
-check_kept {full} {c} {e} {s} {c₁} {s₁} {w} {s₂} {o} {r} n x test taken k =
-    subst (λ (b : Bool). Checks b c e s r c₁ s₂ o) (sym (not-false full n)) (let h = sym test ∙ taken in record {
+check_kept {full} {c} {e} {s} {c₁} {s₁} {w} {s₂} {o} {r} n x h k =
+    subst (λ (b : Bool). Checks b c e s r c₁ s₂ o) (sym (not-false full n)) (record {
       sound = k.sound c₁ e x.sound refl;
       answer = λ lv. rw (fits lv) ((x.outcome lv).answer h);
       view = λ lv. rw (fits lv) (k.view c₁ e lv x.sound refl ∙ sym ((x.outcome lv).state h));
@@ -360,23 +336,16 @@ check_kept {full} {c} {e} {s} {c₁} {s₁} {w} {s₂} {o} {r} n x test taken k 
     })
   where
     fits : (lv : ℕ → ℕ) → terms_fit (full_check (state c e s lv)).state.terms ≡ true
-    fits lv =
-        let h = sym test ∙ taken in
-        ap (λ (S : State). terms_fit S.terms) ((x.outcome lv).state h) ∙ fits_now c₁ x.sound.state.core
+    fits lv = ap (λ (S : State). terms_fit S.terms) ((x.outcome lv).state h) ∙ fits_now c₁ x.sound.state.core
 
 -- one with a work table, by whether it fits
-module _ {c e s c₁ s₁ w o : List ℕ} {r : TCheck.TCheck} {b : Bool} (x : ChecksFully c e s r c₁ s₁ w o) (test : b ≡ has_room r) where
-  pub classes_kept : {s₂ : List ℕ} → b ≡ true → KeepsMarks (length (context c₁).terms) s₁ w s₂ → ChecksKept c e s r c₁ s₂ o
-  classes_kept taken k = record {
-    fits = λ h. check_kept refl x test taken k;
-    refused = λ h. absurd (true≢false (sym taken ∙ test ∙ h));
-  }
+module _ {c e s c₁ s₁ w o : List ℕ} where
+  pub classes_kept : {t : TCheck.TCheck} {s₂ : List ℕ} → ChecksFully c e s (Ok t) c₁ s₁ w o →
+      KeepsMarks (length (context c₁).terms) s₁ w s₂ → ChecksKept c e s (Ok t) c₁ s₂ o
+  classes_kept x k = record { fits = λ h. check_kept refl x refl k; refused = λ h. absurd (true≢false h) }
 
-  pub classes_refused : b ≡ false → ChecksKept c e s r c₁ s₁ o
-  classes_refused left = record {
-    fits = λ h. absurd (false≢true (sym left ∙ test ∙ h));
-    refused = λ h. (w, x);
-  }
+  pub classes_refused : {n : NoRoom} → ChecksFully c e s (Err n) c₁ s₁ w o → ChecksKept c e s (Err n) c₁ s₁ o
+  classes_refused x = record { fits = λ h. absurd (false≢true h); refused = λ h. (w, x) }
 
 -- the first terms of a table that has grown
 cut_back : (a b : Context) → Extends a b → cut_terms (length a.terms) b ≡ a
@@ -405,25 +374,22 @@ moved {c} {d} {e} {s} y q z =
     }
 
 -- a check that does not fit
-pub check_refused : {full : Bool} {c e s c₁ s₁ w c₂ o : List ℕ} {r : TCheck.TCheck} {n : ℕ} {b : Bool} → not full ≡ false →
+pub check_refused : {full : Bool} {c e s c₁ s₁ w c₂ o : List ℕ} {r : RuleAnswer} {n : ℕ} → not full ≡ false →
     StateSound c e s → n ≡ length (context c).terms →
-    ChecksFully c e s r c₁ s₁ w o → b ≡ has_room r → b ≡ false → ContextSound c₂ → context c₂ ≡ cut_terms n (context c₁) →
+    ChecksFully c e s r c₁ s₁ w o → is_ok r ≡ false → ContextSound c₂ → context c₂ ≡ cut_terms n (context c₁) →
     Checks full c e s r c₂ s₁ o
-unfolding check state_with has_room answer_meaning
-check_refused {full} {c} {e} {s} {c₁} {s₁} {w} {c₂} {o} {r} {n} is_full z m x test taken y v =
-    subst (λ (b : Bool). Checks b c e s r c₂ s₁ o) (sym (not-false full is_full)) (let h = sym test ∙ taken in record {
+unfolding check state_with answer_meaning
+check_refused {full} {c} {e} {s} {c₁} {s₁} {w} {c₂} {o} {r} {n} is_full z m x h y v =
+    subst (λ (b : Bool). Checks b c e s r c₂ s₁ o) (sym (not-false full is_full)) (record {
       sound = subst (StateSound c₂ e) (sym (x.unchanged h)) (moved y same z);
       answer = λ lv. rw ((x.outcome lv).refused h) (no_meaning r h);
       view = λ lv. rw ((x.outcome lv).refused h) (ap (λ (t : List ℕ). state c₂ e t lv) (x.unchanged h) ∙ as_before lv);
       readable = x.readable;
     })
   where
-    no_meaning : (r : TCheck.TCheck) → has_room r ≡ false → answer_meaning r o ≡ none
-    no_meaning Sat q = absurd (true≢false q)
-    no_meaning Conflict q = absurd (true≢false q)
-    no_meaning Split q = absurd (true≢false q)
-    no_meaning Unknown q = absurd (true≢false q)
-    no_meaning NoRoom q = refl
+    no_meaning : (r : RuleAnswer) → is_ok r ≡ false → answer_meaning r o ≡ none
+    no_meaning (Ok t) q = absurd (true≢false q)
+    no_meaning (Err n) q = refl
 
     same : context c₂ ≡ context c
     same = v ∙ ap (λ (k : ℕ). cut_terms k (context c₁)) m ∙ cut_back (context c) (context c₁) x.extends
@@ -439,20 +405,20 @@ check_refused {full} {c} {e} {s} {c₁} {s₁} {w} {c₂} {o} {r} {n} is_full z 
         }
 
 -- the terms that were there are still there
-pub terms_left : {c e s c₁ s₁ w o : List ℕ} {r : TCheck.TCheck} {n : ℕ} → n ≡ length (context c).terms → ChecksFully c e s r c₁ s₁ w o →
+pub terms_left : {c e s c₁ s₁ w o : List ℕ} {r : RuleAnswer} {n : ℕ} → n ≡ length (context c).terms → ChecksFully c e s r c₁ s₁ w o →
     n ≤ length (context c₁).terms
 terms_left {c} {c₁ = c₁} m x = let l = extends_length (context c) (context c₁) x.extends in omega arith
 
 -- a full check, by whether it fits
-module _ {c e s c₁ s₁ o : List ℕ} {r : TCheck.TCheck} {b : Bool} (x : ChecksKept c e s r c₁ s₁ o) (test : b ≡ has_room r) where
-  pub check_fits : {full : Bool} → not full ≡ false → b ≡ true → Checks full c e s r c₁ s₁ o
-  check_fits {full} n taken = subst (λ (t : Bool). Checks t c e s r c₁ s₁ o) (sym (not-false full n)) (x.fits (sym test ∙ taken))
+module _ {c e s c₁ s₁ o : List ℕ} {r : RuleAnswer} (x : ChecksKept c e s r c₁ s₁ o) where
+  pub check_fits : {full : Bool} → not full ≡ false → is_ok r ≡ true → Checks full c e s r c₁ s₁ o
+  check_fits {full} n h = subst (λ (t : Bool). Checks t c e s r c₁ s₁ o) (sym (not-false full n)) (x.fits h)
 
-  module _ {n : ℕ} (m : n ≡ length (context c).terms) (left : b ≡ false) where
+  module _ {n : ℕ} (m : n ≡ length (context c).terms) (h : is_ok r ≡ false) where
     -- its terms may be given back
     pub check_left : ContextSound c₁ × (n ≤ length (context c₁).terms)
-    check_left = let (w, y) = x.refused (sym test ∙ left) in (y.sound.state.core, terms_left m y)
+    check_left = let (w, y) = x.refused h in (y.sound.state.core, terms_left m y)
 
     pub check_cut : {full : Bool} {c₂ : List ℕ} → not full ≡ false → StateSound c e s → ContextSound c₂ →
         context c₂ ≡ cut_terms n (context c₁) → Checks full c e s r c₂ s₁ o
-    check_cut f z y v = let (w, k) = x.refused (sym test ∙ left) in check_refused f z m k test left y v
+    check_cut f z y v = let (w, k) = x.refused h in check_refused f z m k h y v

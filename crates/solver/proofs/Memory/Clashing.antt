@@ -28,9 +28,9 @@ use Rattle.solver.specs.State.{State, AssertedAtom, ctor_apps, ctor_of_class, eq
 use Rattle.solver.specs.Records.{literal_leaves, tester_leaves, disagrees, tester_conflict, is_own, own_app, denies, negative_conflict}
 use Rattle.solver.specs.Rules.{Ruled, try_each, conflict_of, tester_clash_at, tester_clash, negative_clash_at, negative_clash}
 use Rattle.solver.specs.declared.answer.TCheck as TCheck
-use Rattle.solver.specs.declared.work.CtorOf as CtorOf
+use Rattle.std.specs.Prelude.{Some, None, Ok}
 use Rattle.solver.specs.Memory.Table.{ENTRY, UNEQUAL, records#, is_set, term_kind, of_sign, key_atom, entry_key, asserted, entry_of, record_of, dt_with, state_with, max_lits}
-use Rattle.solver.specs.Memory.Work.{state_at, apps_from, first_in_class, ctor_meaning, CtorAsked, CtorOfClass, CheckSound}
+use Rattle.solver.specs.Memory.Work.{state_at, apps_from, first_in_class, ctor_meaning, CtorAsked, CtorOfClass, CheckSound, CtorOf}
 use Rattle.solver.specs.Memory.Answer.{Readable, Tried}
 use Rattle.solver.specs.Memory.Testing.{ConflictIs, conflict_by, clash_by, agreeing, own_in_class, with_ctor, Lone, Found, DisagreeAsked, Disagrees, TesterTerm, TesterCtor, TesterAsked, ConflictAsked, TesterConflict, tester_found, tester_finds, found_at, ClashAsked, EntryAsked, EntryConflict}
 use Rattle.solver.proofs.Basics.{first_some}
@@ -42,11 +42,12 @@ use Rattle.solver.proofs.Memory.Owning.{own_first}
 use Rattle.solver.proofs.Memory.Signs.{sign_tester}
 use Rattle.solver.proofs.Memory.Trying.{try_same}
 use Rattle.solver.proofs.Memory.Asking.{giving, Asking, asking_first, asking_next, asking_found, asking_done}
+use mathlib.Core.Bool.{beq}
 
 -- ---- a class and one constructor
 
 -- a class that has one constructor, by its lowest application
-pub found_of_class : (b : Bool) {c e w : List ℕ} {x : ℕ} (d : ℕ) {k : CtorOf.CtorOf} → (b ≡ false → Lone c e w) →
+pub found_of_class : (b : Bool) {c e w : List ℕ} {x : ℕ} (d : ℕ) {k : CtorOf} → (b ≡ false → Lone c e w) →
     CtorOfClass c e w x k → Found b c e w x d k
 found_of_class true d l z = z.is
 found_of_class false {c} {e} {w} {x} d {k} l z =
@@ -79,7 +80,7 @@ class_own : (c e s w : List ℕ) (lv : ℕ → ℕ) (x : TesterApp) →
 unfolding own_app is_own ctor_apps equal own_in_class apps_from state_with dt_with
 class_own c e s w lv x = refl
 
-by_found : (b : Bool) (c e w : List ℕ) (arg d : ℕ) (k : CtorOf.CtorOf) → Found b c e w arg d k → (s : List ℕ) (lv : ℕ → ℕ) (l : ℕ)
+by_found : (b : Bool) (c e w : List ℕ) (arg d : ℕ) (k : CtorOf) → Found b c e w arg d k → (s : List ℕ) (lv : ℕ → ℕ) (l : ℕ)
     (x : TesterApp) → x.ctor ≡ d → x.arg ≡ arg →
     conflict_by b (state_at c e s w lv) l x ≡ against b (state_at c e s w lv) l d arg (ctor_meaning (context c) k)
 unfolding tester_conflict negative_conflict against state_with
@@ -110,13 +111,13 @@ by_found false c e w arg d k z s lv l x p q =
     go none = unfold denies with_ctor in refl
     go (some a) = unfold with_ctor agreeing in by_ctor a (eqb a.ctor d)
 
-pub none_found : {e o : List ℕ} {l ctor arg : ℕ} {k : CtorOf.CtorOf} (b : Bool) → k ≡ CtorOf.TheVariants.Nothing →
+pub none_found : {e o : List ℕ} {l ctor arg : ℕ} {k : CtorOf} (b : Bool) → k ≡ None →
     Disagrees b e l ctor arg k TCheck.TheVariants.Sat o
 unfolding ctor_meaning against
 none_found {e} {l = l} {ctor = ctor} {arg = arg} {k = k} b q = record {
   conflict = λ c s w lv x p r z.
       by_found b c e w arg ctor k z s lv l x p r
-      ∙ ap (λ (v : CtorOf.CtorOf). against b (state_at c e s w lv) l ctor arg (ctor_meaning (context c) v)) q;
+      ∙ ap (λ (v : CtorOf). against b (state_at c e s w lv) l ctor arg (ctor_meaning (context c) v)) q;
   readable = tt;
 }
 
@@ -125,8 +126,8 @@ abbrev app_of : List ℕ → SymbolId.SymbolId → TermId.TermId → CtorApp
 app_of c f y = record { app = y.0; ctor = f.0; fields = children (context c) y.0 }
 
 -- the application is in the class
-pub may_explain : {e o o₁ o₂ : List ℕ} {arg : ℕ} {k : CtorOf.CtorOf} {f : SymbolId.SymbolId} {y : TermId.TermId} {leaf : EqLeaf} →
-    k ≡ CtorOf.TheVariants.At f y → DisagreeAsked e arg k o → Cleared o₁ → Pushed o₁ o₂ leaf → Explainable e arg y.0 o₂
+pub may_explain : {e o o₁ o₂ : List ℕ} {arg : ℕ} {k : CtorOf} {f : SymbolId.SymbolId} {y : TermId.TermId} {leaf : EqLeaf} →
+    k ≡ Some (f, y) → DisagreeAsked e arg k o → Cleared o₁ → Pushed o₁ o₂ leaf → Explainable e arg y.0 o₂
 may_explain {e} {f = f} {y = y} q a g p =
     let (n, t) = a.equal f y q in
     record { sound = a.engine; first = a.first; second = n; equal = t; answer = first_sound (merges e) g p }
@@ -141,27 +142,39 @@ literal_first l {e} {x = x} {y = y} g u k =
     ∙ ap (λ (ls : List EqLeaf). ls ++ firsts_after ls (explain (merges e) x y))
     (u.listed ∙ ap (with_leaf (AssertedLeaf l.0)) g.empty)
 
-module _ (b : Bool) (e : List ℕ) (arg : ℕ) {k : CtorOf.CtorOf} {f : SymbolId.SymbolId} {y : TermId.TermId}
-    (q : k ≡ CtorOf.TheVariants.At f y) where
+module _ (b : Bool) (e : List ℕ) (arg : ℕ) {k : CtorOf} {f : SymbolId.SymbolId} {y : TermId.TermId}
+    (q : k ≡ Some (f, y)) where
   by_app : (l ctor : ℕ) (c s w : List ℕ) (lv : ℕ → ℕ) (x : TesterApp) → x.ctor ≡ ctor → x.arg ≡ arg → Found b c e w arg ctor k →
       (t : Bool) → t ≡ agreeing b (eqb f.0 ctor) →
       conflict_by b (state_at c e s w lv) l x ≡ cond t none (some (firsts (AssertedLeaf l ∷ explain (merges e) arg y.0)))
   unfolding ctor_meaning against state_with
   by_app l ctor c s w lv x p r z t h =
       by_found b c e w arg ctor k z s lv l x p r
-      ∙ ap (λ (v : CtorOf.CtorOf). against b (state_at c e s w lv) l ctor arg (ctor_meaning (context c) v)) q
+      ∙ ap (λ (v : CtorOf). against b (state_at c e s w lv) l ctor arg (ctor_meaning (context c) v)) q
       ∙ ap (λ (v : Bool). cond v none (some (firsts (AssertedLeaf l ∷ explain (merges e) arg y.0)))) (sym h)
 
-  pub tester_agrees : {o : List ℕ} {l ctor : ℕ} {t : Bool} → t ≡ agreeing b (eqb f.0 ctor) → t ≡ true →
+  -- the code's test, by whether the constructor is that of the tester
+  test_is : (ctor : ℕ) {t : Bool} → t ≡ eqb f.0 ctor → beq t b ≡ agreeing b (eqb f.0 ctor)
+  unfolding agreeing
+  test_is ctor {t} h = go t b ∙ ap (agreeing b) h
+    where
+      go : (t b : Bool) → beq t b ≡ agreeing b t
+      go true true = refl
+      go true false = refl
+      go false true = refl
+      go false false = refl
+
+  pub tester_agrees : {o : List ℕ} {l ctor : ℕ} {t : Bool} → t ≡ eqb f.0 ctor → beq t b ≡ true →
       Disagrees b e l ctor arg k TCheck.TheVariants.Sat o
-  tester_agrees {l = l} {ctor = ctor} h g =
+  tester_agrees {l = l} {ctor = ctor} i g =
+      let h = test_is ctor i in
       record { conflict = λ c s w lv x p r z. by_app l ctor c s w lv x p r z true (sym g ∙ h); readable = tt }
 
   -- the literal, then what the explanation appends
-  pub tester_disagrees : {o₁ o₂ o₃ : List ℕ} {l : Lit.Lit} {ctor : ℕ} {t : Bool} → t ≡ agreeing b (eqb f.0 ctor) → t ≡ false →
+  pub tester_disagrees : {o₁ o₂ o₃ : List ℕ} {l : Lit.Lit} {ctor : ℕ} {t : Bool} → t ≡ eqb f.0 ctor → beq t b ≡ false →
       Cleared o₁ → Pushed o₁ o₂ (leaf_meaning (GivenLeaf.TheVariants.Asserted l)) → Explains e arg y.0 o₂ o₃ →
       Disagrees b e l.0 ctor arg k TCheck.TheVariants.Conflict o₃
-  tester_disagrees {l = l} {ctor = ctor} h d g u x = record {
+  tester_disagrees {l = l} {ctor = ctor} p d g u x = let h = test_is ctor p in record {
     conflict = λ c s w lv v i j z.
         by_app l.0 ctor c s w lv v i j z false (sym d ∙ h) ∙ ap some (sym (literal_first l g u x));
     readable = x.sound.words;
@@ -170,8 +183,8 @@ module _ (b : Bool) (e : List ℕ) (arg : ℕ) {k : CtorOf.CtorOf} {f : SymbolId
 -- ---- a tester application
 
 -- an application found in a class is a term, and in it
-pub found_equal : {c e w : List ℕ} {arg : ℕ} {k : CtorOf.CtorOf} → ContextSound c → CtorOfClass c e w arg k →
-    (f : SymbolId.SymbolId) (y : TermId.TermId) → k ≡ CtorOf.TheVariants.At f y →
+pub found_equal : {c e w : List ℕ} {arg : ℕ} {k : CtorOf} → ContextSound c → CtorOfClass c e w arg k →
+    (f : SymbolId.SymbolId) (y : TermId.TermId) → k ≡ Some (f, y) →
     (y.0 < max_terms) × (are_equal (merges e) arg y.0 ≡ true)
 unfolding first_in_class ctor_meaning
 found_equal {c} {e} {w} {arg} {k} core z f y q =
@@ -231,17 +244,15 @@ module _ {c : List ℕ} {x : ℕ} (z : TesterTerm c x) where
         ∙ ap (λ (g : ℕ). (symbol (context c) g).role) (op_is f.0 by_kind.0 (ap op_meaning (sym p) ∙ a.is ∙ by_kind.3))
         ∙ by_kind.4
 
-    pub tester_no_constructor : ρ ≡ DtRole.TheVariants.Constructor → ⊥
+    pub tester_no_other : ((d : SymbolId.SymbolId) → ρ ≡ DtRole.TheVariants.Tester d → ⊥) → ⊥
     unfolding role_meaning
-    tester_no_constructor d = let n = ap role_meaning (sym d) ∙ role_is in let k : ◌≡◌ {A = ℕ} 0 1 = cc in omega arith
-
-    pub tester_no_function : ρ ≡ DtRole.TheVariants.Function → ⊥
-    unfolding role_meaning
-    tester_no_function d = let n = ap role_meaning (sym d) ∙ role_is in let k : ◌≡◌ {A = ℕ} 0 1 = cc in omega arith
-
-    pub tester_no_selector : {d : SymbolId.SymbolId} {i : ℕ} → ρ ≡ DtRole.TheVariants.Selector d i → ⊥
-    unfolding role_meaning
-    tester_no_selector d = let n = ap role_meaning (sym d) ∙ role_is in let k : ◌≡◌ {A = ℕ} 0 1 = cc in omega arith
+    tester_no_other n = go ρ role_is n
+      where
+        go : (z : DtRole.DtRole) → role_meaning z ≡ Term.Tester by_kind.1 → ((d : SymbolId.SymbolId) → z ≡ DtRole.TheVariants.Tester d → ⊥) → ⊥
+        go DtRole.TheVariants.Constructor q h = let k : ◌≡◌ {A = ℕ} 0 1 = cc in omega arith
+        go (DtRole.TheVariants.Tester d) q h = h d refl
+        go (DtRole.TheVariants.Selector d i) q h = let k : ◌≡◌ {A = ℕ} 0 1 = cc in omega arith
+        go DtRole.TheVariants.Function q h = let k : ◌≡◌ {A = ℕ} 0 1 = cc in omega arith
 
     pub tester_is : {d : SymbolId.SymbolId} → ρ ≡ DtRole.TheVariants.Tester d → TesterCtor c x d.0
     unfolding role_meaning
@@ -266,12 +277,12 @@ module _ {c e w o args : List ℕ} {x : ℕ} (z : TesterAsked c e w x o) (q : ar
     is_node = arg_fits;
   }
 
-  pub disagree_asked : {k : CtorOf.CtorOf} → ((f : SymbolId.SymbolId) (y : TermId.TermId) → k ≡ CtorOf.TheVariants.At f y →
+  pub disagree_asked : {k : CtorOf} → ((f : SymbolId.SymbolId) (y : TermId.TermId) → k ≡ Some (f, y) →
       (y.0 < max_terms) × (are_equal (merges e) (get_or args 0 0) y.0 ≡ true)) → DisagreeAsked e (get_or args 0 0) k o
   disagree_asked f = record { engine = z.engine; first = arg_fits; equal = f; long = z.long }
 
   -- the conflict that was found is the tester's
-  pub conflict_found : (b : Bool) {l d : ℕ} {k : CtorOf.CtorOf} {r : TCheck.TCheck} {o' : List ℕ} → TesterCtor c x d →
+  pub conflict_found : (b : Bool) {l d : ℕ} {k : CtorOf} {r : TCheck.TCheck} {o' : List ℕ} → TesterCtor c x d →
       Found b c e w (get_or args 0 0) d k → Disagrees b e l d (get_or args 0 0) k r o' → TesterConflict b c e w l x r o'
   conflict_found b t f y = record {
     app = t.app;
@@ -281,12 +292,12 @@ module _ {c e w o args : List ℕ} {x : ℕ} (z : TesterAsked c e w x o) (q : ar
   }
 
 -- by its class, or by its own application
-pub conflict_by_class : {b : Bool} {c e w o o' args : List ℕ} {l x d : ℕ} {k : CtorOf.CtorOf} {r : TCheck.TCheck} →
+pub conflict_by_class : {b : Bool} {c e w o o' args : List ℕ} {l x d : ℕ} {k : CtorOf} {r : TCheck.TCheck} →
     ConflictAsked b c e w x o → args ≡ children (context c) x → TesterCtor c x d → CtorOfClass c e w (get_or args 0 0) k →
     Disagrees b e l d (get_or args 0 0) k r o' → TesterConflict b c e w l x r o'
 conflict_by_class {b} {d = d} z q t f y = conflict_found z.asked q b t (found_of_class b d z.lone f) y
 
-pub conflict_by_own : {c e w o o' args : List ℕ} {l x d : ℕ} {k : CtorOf.CtorOf} {r : TCheck.TCheck} → TesterAsked c e w x o →
+pub conflict_by_own : {c e w o o' args : List ℕ} {l x d : ℕ} {k : CtorOf} {r : TCheck.TCheck} → TesterAsked c e w x o →
     args ≡ children (context c) x → TesterCtor c x d → Found false c e w (get_or args 0 0) d k →
     Disagrees false e l d (get_or args 0 0) k r o' → TesterConflict false c e w l x r o'
 conflict_by_own z q t f y = conflict_found z q false t f y
@@ -399,22 +410,22 @@ clashing_first {b} {c} {e} {s} {w} z q = record {
     whole true lv = unfold tester_clash state_with dt_with in refl
     whole false lv = unfold negative_clash state_with dt_with in refl
 
--- the leaves of an answer that is no `Sat`
+-- an answer that is no `Sat` is a conflict
+pub conflict_is : (m : Option (List EqLeaf)) (o : List ℕ) (r : TCheck.TCheck) → (r ≡ TCheck.TheVariants.Sat → ⊥) →
+    ConflictIs r m o → r ≡ TCheck.TheVariants.Conflict
+conflict_is m o TCheck.TheVariants.Sat g b = absurd (g refl)
+conflict_is m o TCheck.TheVariants.Conflict g b = refl
+conflict_is m o TCheck.TheVariants.Split g b = absurd b
+conflict_is m o TCheck.TheVariants.Unknown g b = absurd b
+
+-- so its leaves are there, and can be read
 pub conflict_leaves : (m : Option (List EqLeaf)) (o : List ℕ) (r : TCheck.TCheck) → (r ≡ TCheck.TheVariants.Sat → ⊥) →
     ConflictIs r m o → m ≡ some (leaves o)
-conflict_leaves m o TCheck.TheVariants.Sat g b = absurd (g refl)
-conflict_leaves m o TCheck.TheVariants.Conflict g b = b
-conflict_leaves m o TCheck.TheVariants.Split g b = absurd b
-conflict_leaves m o TCheck.TheVariants.Unknown g b = absurd b
-conflict_leaves m o TCheck.TheVariants.NoRoom g b = absurd b
+conflict_leaves m o r g b = subst (λ (a : TCheck.TCheck). ConflictIs a m o) (conflict_is m o r g b) b
 
 pub conflict_words : (m : Option (List EqLeaf)) (o : List ℕ) (r : TCheck.TCheck) → (r ≡ TCheck.TheVariants.Sat → ⊥) →
-    ConflictIs r m o → Readable r o → LeavesSound o
-conflict_words m o TCheck.TheVariants.Sat g b k = absurd (g refl)
-conflict_words m o TCheck.TheVariants.Conflict g b k = k
-conflict_words m o TCheck.TheVariants.Split g b k = absurd b
-conflict_words m o TCheck.TheVariants.Unknown g b k = absurd b
-conflict_words m o TCheck.TheVariants.NoRoom g b k = absurd b
+    ConflictIs r m o → Readable (Ok r) o → LeavesSound o
+conflict_words m o r g b k = subst (λ (a : TCheck.TCheck). Readable (Ok a) o) (conflict_is m o r g b) k
 
 module _ {b : Bool} {c e s w o : List ℕ} {n i : ℕ} {r : TCheck.TCheck} {o' : List ℕ} (z : Clashing b c e s w o n i) (h : i < n)
     (t : EntryConflict b c e s w i r o') where
@@ -426,14 +437,15 @@ module _ {b : Bool} {c e s w o : List ℕ} {n i : ℕ} {r : TCheck.TCheck} {o' :
         ConflictIs v (found_at (tester_finds b) (entry_of (of_sign b) s lv i) (state_at c e s w lv)) o') d (t.conflict lv));
   }
 
-  pub clashing_found : (r ≡ TCheck.TheVariants.Sat → ⊥) → Tried (clash_by b) c e s w TCheck.TheVariants.Conflict c s w o'
-  clashing_found d = record {
-    sound = z.asked.check;
-    extends = extends_self (context c);
-    outcome = λ lv. asking_found z.asking h (leaves o') lv (conflict_leaves _ o' r d (t.conflict lv));
-    unchanged = λ m. refl;
-    readable = conflict_words _ o' r d (t.conflict (λ k. k)) t.readable;
-  }
+  pub clashing_found : (r ≡ TCheck.TheVariants.Sat → ⊥) → Tried (clash_by b) c e s w (Ok r) c s w o'
+  clashing_found d =
+      rw (conflict_is _ o' r d (t.conflict (λ k. k))) (record {
+        sound = z.asked.check;
+        extends = extends_self (context c);
+        outcome = λ lv. asking_found z.asking h (leaves o') lv (conflict_leaves _ o' r d (t.conflict lv));
+        unchanged = λ m. refl;
+        readable = conflict_words _ o' r d (t.conflict (λ k. k)) t.readable;
+      })
 
 -- a positive record may be asked in any check, either one where classes have one constructor
 pub positive_clash : {c e s w o : List ℕ} → CheckSound c e s w → answer_size ≤ length o → ClashAsked true c e s w o
@@ -446,7 +458,7 @@ pub clashing_asks : {b : Bool} {c e s w o : List ℕ} {n i : ℕ} → Clashing b
 clashing_asks z h = let e = z.asking.count in record { asked = z.asked; within = omega arith }
 
 pub clashing_done : {b : Bool} {c e s w o : List ℕ} {n i : ℕ} → Clashing b c e s w o n i → n ≤ i →
-    Tried (clash_by b) c e s w TCheck.TheVariants.Sat c s w o
+    Tried (clash_by b) c e s w (Ok TCheck.TheVariants.Sat) c s w o
 clashing_done {c = c} z h = record {
   sound = z.asked.check;
   extends = extends_self (context c);

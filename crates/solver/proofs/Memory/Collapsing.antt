@@ -14,7 +14,6 @@ use Rattle.shinri_core.specs.declared.ids.SymbolId.{SymbolId}
 use Rattle.shinri_core.specs.declared.term.Op as Op
 use Rattle.shinri_core.specs.declared.term.DtRole as DtRole
 use Rattle.shinri_core.specs.declared.ids.TermId.{TermId}
-use Rattle.shinri_core.specs.declared.context.Made as Made
 use Rattle.shinri_core.proofs.Lists.{and_no}
 use Rattle.shinri_core.proofs.Memory.Views.{arity_at}
 use Rattle.theory.specs.EqEngine.{Merge, classes, find, are_equal}
@@ -23,11 +22,11 @@ use Rattle.theory.specs.Memory.Answer.{answer_size}
 use Rattle.solver.specs.State.{State, MadeIn, with_terms, ctor_apps, equal, made_in, make_app, sel_apps}
 use Rattle.solver.specs.Rules.{Ruled, pass, hand_out_made, make_eq, equate_field, collapse_field, collapse_at, collapse_lemma}
 use Rattle.solver.specs.declared.answer.TCheck as TCheck
-use Rattle.solver.specs.declared.answer.Guard as Guard
+use Rattle.std.specs.Prelude.{None, Ok, Err}
 use Rattle.solver.specs.Memory.Table.{state_with, term_kind}
 use Rattle.solver.specs.Memory.Work.{state_at, CheckSound, W_MARK}
-use Rattle.solver.specs.Memory.Answer.{Outcome, Tried, listed, guard_meaning}
-use Rattle.solver.specs.Memory.Making.{Making, Makeable, Equatable, MadeOutcome, MadeWithin, MakesTerm, HandsOut}
+use Rattle.solver.specs.Memory.Answer.{Outcome, Tried, listed, guard_meaning, RuleAnswer}
+use Rattle.solver.specs.Memory.Making.{Making, Makeable, Equatable, MadeOutcome, MadeWithin, MakesTerm, HandsOut, Made}
 use Rattle.solver.specs.Memory.Checks.{Underway}
 use Rattle.solver.specs.Memory.Collapse.{when, by_apps, at_made, selection, FieldEquatable, Collapsible, SelectorOn, if_marked}
 use Rattle.solver.proofs.Terms.{app, extends_self, extends_then, extends_length, extends_symbol, extends_sort_of, mk_app_makes}
@@ -43,29 +42,29 @@ use Rattle.solver.proofs.Memory.Chains.{PassesOthers, Walking, walk_at, walk_app
 
 module _ {make : State → MadeIn} {P : Type 0} {c e s w : List ℕ} {c' : List ℕ} where
   -- it does not fit
-  pub made_none : (rest : MadeIn → Ruled) → {r : Made.Made} {o : List ℕ} → MakesTerm make P c e w r c' w → r ≡ Made.TheVariants.NoRoom →
+  pub made_none : (rest : MadeIn → Ruled) → {r : Made} {o : List ℕ} → MakesTerm make P c e w r c' w → r ≡ Err (record {}) →
       CheckSound c e s w → ((m : MadeIn) → Onward m.state (rest m).state) →
-      Tried (λ S. rest (make S)) c e s w TCheck.TheVariants.NoRoom c' s w o
+      Tried (λ S. rest (make S)) c e s w (Err (record {})) c' s w o
   made_none rest M q C h = record {
     sound = M.sound s C;
     extends = M.extends;
     outcome = λ lv.
         onward_unfit (make (state_at c e s w lv)).state (rest (make (state_at c e s w lv))).state (h (make (state_at c e s w lv)))
-        (subst (λ (z : Made.Made). MadeOutcome z (make (state_at c e s w lv)) (state_at c' e s w lv)) q (M.outcome s lv));
+        (subst (λ (z : Made). MadeOutcome z (make (state_at c e s w lv)) (state_at c' e s w lv)) q (M.outcome s lv));
     unchanged = λ n. refl;
     readable = tt;
   }
 
   -- it is x
-  pub made_some : (rest : MadeIn → Ruled) → {m : Made.Made} {x : TermId} {r : TCheck.TCheck} {c'' s' o : List ℕ} →
-      MakesTerm make P c e w m c' w → m ≡ Made.TheVariants.At x →
+  pub made_some : (rest : MadeIn → Ruled) → {m : Made} {x : TermId} {r : RuleAnswer} {c'' s' o : List ℕ} →
+      MakesTerm make P c e w m c' w → m ≡ Ok x →
       Tried (λ S. rest (at_made x.0 S)) c' e s w r c'' s' w o → Tried (λ S. rest (make S)) c e s w r c'' s' w o
   made_some rest {m} {x} {r} {c''} {s'} {o} M q T = record {
     sound = T.sound;
     extends = extends_then (context c) (context c') (context c'') M.extends T.extends;
     outcome = λ lv.
         subst⁻¹ (λ (z : MadeIn). Outcome r (rest z) (state_at c'' e s' w lv) o)
-        (subst (λ (z : Made.Made). MadeOutcome z (make (state_at c e s w lv)) (state_at c' e s w lv)) q (M.outcome s lv))
+        (subst (λ (z : Made). MadeOutcome z (make (state_at c e s w lv)) (state_at c' e s w lv)) q (M.outcome s lv))
         (T.outcome lv);
     unchanged = T.unchanged;
     readable = T.readable;
@@ -73,13 +72,13 @@ module _ {make : State → MadeIn} {P : Type 0} {c e s w : List ℕ} {c' : List 
 
 -- a lemma without a guard is handed out
 pub handed : {c e s w : List ℕ} {x : ℕ} {r : TCheck.TCheck} {s' o : List ℕ} → CheckSound c e s w →
-    HandsOut x Guard.TheVariants.Nothing s r s' o → Tried (λ S. hand_out_made (at_made x S) []) c e s w r c s' w o
+    HandsOut x None s r s' o → Tried (λ S. hand_out_made (at_made x S) []) c e s w (Ok r) c s' w o
 unfolding hand_out_made listed guard_meaning
 handed {c} {e} {s} {w} {x} {r} {s'} {o} C H = record {
   sound = H.sound c e w C;
   extends = extends_self (context c);
   outcome = λ lv. H.outcome c e w lv;
-  unchanged = H.unchanged;
+  unchanged = λ q. H.unchanged (λ d. q (ap Ok d));
   readable = H.readable;
 }
 
@@ -101,7 +100,7 @@ module _ {c e s w : List ℕ} {x y : ℕ} {o : List ℕ} (F : FieldEquatable c e
 
   -- the two are equal now
   pub field_equal : {q p : ℕ} {o' : List ℕ} → q ≡ find (merges e) x → p ≡ find (merges e) y → q ≡ p →
-      Tried (λ S. equate_field y (at_made x S)) c e s w TCheck.TheVariants.Sat c s w o'
+      Tried (λ S. equate_field y (at_made x S)) c e s w (Ok TCheck.TheVariants.Sat) c s w o'
   unfolding equate_field equal state_with are_equal find
   field_equal {q} {p} h g z = record {
     sound = F.check;
@@ -122,35 +121,35 @@ module _ {c e s w : List ℕ} {x y : ℕ} {o : List ℕ} (F : FieldEquatable c e
         ap (λ (b : Bool). cond b (pass (state_at c e s w lv)) (hand_out_made (make_eq (state_at c e s w lv) x y) []))
         (ne_eqb ((classes (merges e)).find x) ((classes (merges e)).find y) (λ z. n (h ∙ z ∙ sym g)))
 
-    pub field_none : {m : Made.Made} {c' o' : List ℕ} → MkApp c Eq (x ∷ y ∷ []) m c' → m ≡ Made.TheVariants.NoRoom →
-        Tried (λ S. equate_field y (at_made x S)) c e s w TCheck.TheVariants.NoRoom c' s w o'
+    pub field_none : {m : Made} {c' o' : List ℕ} → MkApp c Eq (x ∷ y ∷ []) m c' → m ≡ Err (record {}) →
+        Tried (λ S. equate_field y (at_made x S)) c e s w (Err (record {})) c' s w o'
     field_none K z =
         tried_as (made_none (λ m. hand_out_made m []) (made_eq equatable K) z F.check (λ m. hand_out_made_onward m [])) field_apart
 
-    pub field_some : {m : Made.Made} {z : TermId} {c' s' o' : List ℕ} {r : TCheck.TCheck} → MkApp c Eq (x ∷ y ∷ []) m c' →
-        m ≡ Made.TheVariants.At z → HandsOut z.0 Guard.TheVariants.Nothing s r s' o' →
-        Tried (λ S. equate_field y (at_made x S)) c e s w r c' s' w o'
+    pub field_some : {m : Made} {z : TermId} {c' s' o' : List ℕ} {r : TCheck.TCheck} → MkApp c Eq (x ∷ y ∷ []) m c' →
+        m ≡ Ok z → HandsOut z.0 None s r s' o' →
+        Tried (λ S. equate_field y (at_made x S)) c e s w (Ok r) c' s' w o'
     field_some K q H =
         let M = made_eq equatable K in
         tried_as (made_some (λ m. hand_out_made m []) M q (handed (M.sound s F.check) H)) field_apart
 
   -- what was made is a node
-  pub field_node : {m : Made.Made} {z : TermId} {c' : List ℕ} → MkApp c Eq (x ∷ y ∷ []) m c' → m ≡ Made.TheVariants.At z →
+  pub field_node : {m : Made} {z : TermId} {c' : List ℕ} → MkApp c Eq (x ∷ y ∷ []) m c' → m ≡ Ok z →
       z.0 < max_terms
   field_node {m} {z} {c'} K q =
-      let l = subst (λ (a : Made.Made). MadeWithin a (length (context c').terms)) q (made_eq equatable K).within in
+      let l = subst (λ (a : Made). MadeWithin a (length (context c').terms)) q (made_eq equatable K).within in
       omega (arith, K.sound.term_count, K.sound.terms_fit)
 
 -- ---- an application of the constructor
 
 -- the made term is the application
-pub made_is : {c e w : List ℕ} {f : ℕ} {args : List ℕ} {P : Type 0} {m : Made.Made} {x : TermId} {c' : List ℕ} →
-    MakesTerm (λ S. make_app S f args) P c e w m c' w → m ≡ Made.TheVariants.At x →
+pub made_is : {c e w : List ℕ} {f : ℕ} {args : List ℕ} {P : Type 0} {m : Made} {x : TermId} {c' : List ℕ} →
+    MakesTerm (λ S. make_app S f args) P c e w m c' w → m ≡ Ok x →
     term (context c') x.0 ≡ app (Term.Uninterpreted f) args
 unfolding make_app made_in with_terms state_with
 made_is {c} {e} {w} {f} {args} {c' = c'} M q =
     ap (λ (z : MadeIn). term z.state.terms z.id)
-    (sym (subst (λ (z : Made.Made). MadeOutcome z (make_app (state_at c e [] w (λ i. 0)) f args) (state_at c' e [] w (λ i. 0))) q
+    (sym (subst (λ (z : Made). MadeOutcome z (make_app (state_at c e [] w (λ i. 0)) f args) (state_at c' e [] w (λ i. 0))) q
     (M.outcome [] (λ i. 0))))
     ∙ (mk_app_makes (context c) (Term.Uninterpreted f) args).made
 
@@ -206,7 +205,7 @@ module _ {c e s w : List ℕ} {f ctor i x : ℕ} {o : List ℕ} (P : Collapsible
 
   -- another constructor
   pub collapse_other : {o' : List ℕ} → (P.a.ctor ≡ ctor → ⊥) → (arg : ℕ) → Kept-on arg →
-      Tried (rule_at arg) c e s w TCheck.TheVariants.Sat c s w o'
+      Tried (rule_at arg) c e s w (Ok TCheck.TheVariants.Sat) c s w o'
   unfolding when collapse_at
   collapse_other n arg k =
       tried_pass P.check (λ lv.
@@ -256,11 +255,11 @@ module _ {c e s w : List ℕ} {f ctor i x : ℕ} {o : List ℕ} (P : Collapsible
         ∙ ap (collapse_field (selection f ctor i arg) P.a S) (element_here (children (context c) x) i field_within)
         ∙ ap (λ (z : ℕ). equate_field (get_or (children (context c) x) i 0) (make_app S f (z ∷ []))) C.app
 
-    module _ {m : Made.Made} {c' : List ℕ} (K : MkApp c (Term.Uninterpreted f) (x ∷ []) m c') where
+    module _ {m : Made} {c' : List ℕ} (K : MkApp c (Term.Uninterpreted f) (x ∷ []) m c') where
       pub makes : MakesTerm (λ S. make_app S f (x ∷ [])) (Unit {0}) c e w m c' w
       makes = made_app makeable K
 
-      pub field_equatable : {z : TermId} {y : ℕ} {o' : List ℕ} → m ≡ Made.TheVariants.At z → y ≡ get_or (children (context c) x) i 0 →
+      pub field_equatable : {z : TermId} {y : ℕ} {o' : List ℕ} → m ≡ Ok z → y ≡ get_or (children (context c) x) i 0 →
           answer_size ≤ length o' → FieldEquatable c' e s w z.0 y o'
       field_equatable {z} {y} {o'} q h l =
           let ex = makes.extends in
@@ -271,7 +270,7 @@ module _ {c e s w : List ℕ} {f ctor i x : ℕ} {o : List ℕ} (P : Collapsible
           let longer = extends_length (context c) (context c') ex in
           record {
             check = makes.sound s P.check;
-            first = subst (λ (a : Made.Made). MadeWithin a (length (context c').terms)) q makes.within;
+            first = subst (λ (a : Made). MadeWithin a (length (context c').terms)) q makes.within;
             second = omega arith;
             agree =
                 sort_by_symbol (context c') z.0 f (ap (λ (a : Term). a.op) (made_is makes q))
@@ -284,15 +283,15 @@ module _ {c e s w : List ℕ} {f ctor i x : ℕ} {o : List ℕ} (P : Collapsible
             long = l;
           }
 
-      pub collapse_none : {o' : List ℕ} → m ≡ Made.TheVariants.NoRoom → (arg : ℕ) → Kept-on arg →
-          Tried (rule_at arg) c e s w TCheck.TheVariants.NoRoom c' s w o'
+      pub collapse_none : {o' : List ℕ} → m ≡ Err (record {}) → (arg : ℕ) → Kept-on arg →
+          Tried (rule_at arg) c e s w (Err (record {})) c' s w o'
       collapse_none q arg k =
           tried_as
           (made_none (equate_field (get_or (children (context c) x) i 0)) makes q P.check
           (λ a. equate_field_onward (get_or (children (context c) x) i 0) a))
           (own_rule arg k)
 
-      pub collapse_some : {z : TermId} {y : ℕ} {r : TCheck.TCheck} {c'' s' o' : List ℕ} → m ≡ Made.TheVariants.At z →
+      pub collapse_some : {z : TermId} {y : ℕ} {r : RuleAnswer} {c'' s' o' : List ℕ} → m ≡ Ok z →
           y ≡ get_or (children (context c) x) i 0 → Tried (λ S. equate_field y (at_made z.0 S)) c' e s w r c'' s' w o' →
           (arg : ℕ) → Kept-on arg → Tried (rule_at arg) c e s w r c'' s' w o'
       collapse_some {z} {y} q h T arg k =
@@ -308,9 +307,9 @@ collapse_others x ms a S q h =
     (ap (λ (b : Bool). eqb a.ctor x.ctor && b) (ap (λ (es : List Merge). are_equal es x.arg a.app) q ∙ h)
     ∙ and_no (eqb a.ctor x.ctor))
 
-pub walk_collapsible : {c₀ e s₀ w c s : List ℕ} {f ctor i arg : ℕ} {o₀ o : List ℕ} {k : ℕ} → SelectorOn c₀ e s₀ w f ctor i arg o₀ →
-    Walking (collapse_at (selection f ctor i arg)) c₀ e s₀ w arg c s k → (k ≡ 0 → ⊥) → length o ≡ length o₀ →
-    Collapsible c e s w f ctor i (k - 1) o
+pub walk_collapsible : {c₀ e s₀ w c s : List ℕ} {f ctor i arg : ℕ} {o₀ o : List ℕ} {k x : ℕ} → SelectorOn c₀ e s₀ w f ctor i arg o₀ →
+    Walking (collapse_at (selection f ctor i arg)) c₀ e s₀ w arg c s k → k ≡ suc x → length o ≡ length o₀ →
+    Collapsible c e s w f ctor i x o
 walk_collapsible {c₀} {c = c} {f = f} P W n l = record {
   check = W.trying.sound;
   role = ap (λ (z : Symbol). z.role) (extends_symbol (context c₀) (context c) f W.trying.extends) ∙ P.role;
@@ -344,11 +343,11 @@ module _ (c : List ℕ) (x : ℕ) {r : Op.Op} (o : OpAt c x r) where
 
 module _ {A : Type 0} (rule : A → CtorApp → State → Ruled) {c e s w : List ℕ} where
   pub tried_none : {a : Option A} {o : List ℕ} → CheckSound c e s w → a ≡ none →
-      Tried (λ S. when (λ z. by_apps (rule z)) a S) c e s w TCheck.TheVariants.Sat c s w o
+      Tried (λ S. when (λ z. by_apps (rule z)) a S) c e s w (Ok TCheck.TheVariants.Sat) c s w o
   unfolding when
   tried_none C q = tried_pass C (λ lv. ap (λ (z : Option A). when (λ y. by_apps (rule y)) z (state_at c e s w lv)) q)
 
-  pub tried_some : {a : Option A} {x : A} {r : TCheck.TCheck} {c' s' o : List ℕ} → a ≡ some x →
+  pub tried_some : {a : Option A} {x : A} {r : RuleAnswer} {c' s' o : List ℕ} → a ≡ some x →
       Tried (by_apps (rule x)) c e s w r c' s' w o → Tried (λ S. when (λ z. by_apps (rule z)) a S) c e s w r c' s' w o
   unfolding when
   tried_some q T = tried_as T (λ lv. ap (λ (z : Option A). when (λ y. by_apps (rule y)) z (state_at c e s w lv)) q)
@@ -415,7 +414,7 @@ module _ {c e s w : List ℕ} {x : ℕ} {o : List ℕ} (U : Underway c e s w o) 
               let h = its_argument in
               record { under = U; role = sel_role; within = omega arith }
 
-          pub selector_tried : {r : TCheck.TCheck} {c' s' o' : List ℕ} →
+          pub selector_tried : {r : RuleAnswer} {c' s' o' : List ℕ} →
               Tried (by_apps (collapse_at (selection f.0 g.0 i y))) c e s w r c' s' w o' →
               Tried (λ S. when (λ z. by_apps (collapse_at z)) (sel_app (context c) x) S) c e s w r c' s' w o'
           unfolding role_meaning sel_by_role by_apps
@@ -436,7 +435,7 @@ module _ {c e s w : List ℕ} {x : ℕ} {o : List ℕ} (U : Underway c e s w o) 
     node = let z = U.check.state.core in omega (arith, z.term_count, z.terms_fit)
 
     pub sel_other : {o' : List ℕ} → (k ≡ 2 → ⊥) → (k ≡ 3 → ⊥) →
-        Tried (if_marked w x (when (λ z. by_apps (collapse_at z)) (sel_app (context c) x))) c e s w TCheck.TheVariants.Sat c s w o'
+        Tried (if_marked w x (when (λ z. by_apps (collapse_at z)) (sel_app (context c) x))) c e s w (Ok TCheck.TheVariants.Sat) c s w o'
     sel_other i j = term_passes collapse_at x (sel_app (context c) x) U.check (go (U.check.work.marks x node))
       where
         go : (at w W_MARK x ≡ 0) ⊎ (at w W_MARK x ≡ term_kind (context c) x) → (at w W_MARK x ≡ 0) ⊎ (sel_app (context c) x ≡ none)
@@ -444,13 +443,13 @@ module _ {c e s w : List ℕ} {x : ℕ} {o : List ℕ} (U : Underway c e s w o) 
         go (inr z) =
             inr (kind_no_sel (context c) U.check.state.formed U.check.state.signed x (λ q. i (m ∙ z ∙ q)) (λ q. j (m ∙ z ∙ q)))
 
-    pub sel_marked : {r : TCheck.TCheck} {c' s' o' : List ℕ} → 0 < k →
+    pub sel_marked : {r : RuleAnswer} {c' s' o' : List ℕ} → 0 < k →
         Tried (λ S. when (λ z. by_apps (collapse_at z)) (sel_app (context c) x) S) c e s w r c' s' w o' →
         Tried (if_marked w x (when (λ z. by_apps (collapse_at z)) (sel_app (context c) x))) c e s w r c' s' w o'
     sel_marked h T = term_tried collapse_at x (sel_app (context c) x) {k = k - 1} (let q = m in omega arith) T
 
 -- the rule as the definition has it
-pub collapse_is : {c e s w : List ℕ} {r : TCheck.TCheck} {c' s' o : List ℕ} → Tried (by_terms collapse_at sel_app) c e s w r c' s' w o →
+pub collapse_is : {c e s w : List ℕ} {r : RuleAnswer} {c' s' o : List ℕ} → Tried (by_terms collapse_at sel_app) c e s w r c' s' w o →
     Tried collapse_lemma c e s w r c' s' w o
 unfolding collapse_lemma sel_apps by_terms
 collapse_is T = tried_as T (λ lv. refl)

@@ -19,10 +19,11 @@ use Rattle.solver.specs.declared.answer.TCheck as TCheck
 use Rattle.solver.specs.Memory.Table.{MarksAre, dt_with, state_with}
 use Rattle.solver.specs.Memory.Work.{W_MARK, NEXT, apps_from, first_in_class, state_at, WorkSound, word_from}
 use Rattle.solver.specs.Memory.Answer.{Tried}
-use Rattle.solver.specs.Memory.ConstructorClash.{symbol_of, app_at, MarkedApp, clashing, NoClash, NoneBelow, FirstClash, ClashAt, ClashTables, ClassWalked, ClashAsked, ClashReady}
+use Rattle.solver.specs.Memory.ConstructorClash.{symbol_of, app_at, MarkedApp, clashing, NoClash, NoneBelow, FirstClash, ClashTables, ClassWalked, ClashAsked, ClashReady}
 use Rattle.solver.proofs.Basics.{none_some, some_none, some_is}
 use Rattle.solver.proofs.Terms.{extends_self}
 use Rattle.solver.proofs.Memory.AppNumbers.{marked_app_within, apps_step, apps_none, first_at, first_none_at, WordIs, word_is, word_less}
+use Rattle.std.specs.Prelude.{Ok}
 
 -- ---- the first pair that passes a test
 
@@ -144,36 +145,48 @@ class_carries ms x y z h = ap (λ (r : ℕ). eqb r (find ms z)) (equal_same ms x
 pub turned : (ms : List Merge) (x y : ℕ) → are_equal ms x y ≡ true → are_equal ms y x ≡ true
 turned ms x y h = T_true (are_equal ms y x) (equal_sym ms x y (true_T (are_equal ms x y) h))
 
--- word k is one more than the lowest application of the class of p
-pub record LowestIs (e w : List ℕ) (p k : ℕ) : Type 0 where
-  pub some : k ≡ 0 → ⊥
-  pub below : k - 1 ≤ p
-  pub app : MarkedApp w (k - 1)
-  pub equal : are_equal (merges e) p (k - 1) ≡ true
+-- x is the lowest application of the class of p
+pub record LowestIs (e w : List ℕ) (p x : ℕ) : Type 0 where
+  pub below : x ≤ p
+  pub app : MarkedApp w x
+  pub equal : are_equal (merges e) p x ≡ true
 
-pub lowest_word : {c e w : List ℕ} {p k : ℕ} → WorkSound c e w → MarkedApp w p → k ≡ word_from c e w p 0 → LowestIs e w p k
+pub lowest_word : {c e w : List ℕ} {p : ℕ} (k : ℕ) → WorkSound c e w → MarkedApp w p → k ≡ word_from c e w p 0 →
+    (x : ℕ) × (k ≡ suc x) × LowestIs e w p x
 unfolding first_in_class
-lowest_word {c} {e} {w} {p} {k} S m q =
-    let W = word_is (context c) w S.marks (λ (a : CtorApp). are_equal (merges e) p a.app) 0 k (omega arith) q in
-    let own = T_true (are_equal (merges e) p p) (equal_refl (merges e) p) in
-    let n : k ≡ 0 → ⊥ = λ z. true≢false (sym own ∙ W.none z p (omega arith) m) in
-    record { some = n; below = go (dec_lt p (k - 1)) own (λ l. W.before p (omega arith) l m); app = W.app n; equal = W.passes n }
+lowest_word {c} {e} {w} {p} k S m q =
+    go k (word_is (context c) w S.marks (λ (a : CtorApp). are_equal (merges e) p a.app) 0 k (omega arith) q)
   where
-    go : Dec (p < k - 1) → are_equal (merges e) p p ≡ true → (p < k - 1 → are_equal (merges e) p p ≡ false) → k - 1 ≤ p
-    go (yes l) s h = absurd (true≢false (sym s ∙ h l))
-    go (no l) s h = omega arith
+    own : are_equal (merges e) p p ≡ true
+    own = T_true (are_equal (merges e) p p) (equal_refl (merges e) p)
+
+    under : (x : ℕ) → Dec (p < x) → (p < x → are_equal (merges e) p p ≡ false) → x ≤ p
+    under x (yes l) h = absurd (true≢false (sym own ∙ h l))
+    under x (no l) h = omega arith
+
+    go : (k : ℕ) → WordIs (context c) w S.marks (λ (a : CtorApp). are_equal (merges e) p a.app) 0 k → (x : ℕ) × (k ≡ suc x) × LowestIs e w p x
+    go zero W = absurd (true≢false (sym own ∙ W.none refl p (omega arith) m))
+    go (suc x) W = (
+      x,
+      refl,
+      record {
+        below = under x (dec_lt p x) (λ l. W.before x refl p (omega arith) l m);
+        app = W.app x refl;
+        equal = W.passes x refl;
+      },
+    )
 
 -- ---- along a class
 
--- k is one more than the application reached, or 0 behind the last; none passed has another constructor f
+-- k is the word of the application reached, or 0 behind the last; none passed has another constructor f
 pub record Walking (c e w : List ℕ) (p f k : ℕ) : Type 0 where
   pub asked : ClassWalked c e w p
   pub symbol : f ≡ symbol_of (context c) p
   pub done : k ≡ 0 → NoClash c e w p max_terms
-  pub above : (k ≡ 0 → ⊥) → p < k - 1
-  pub app : (k ≡ 0 → ⊥) → MarkedApp w (k - 1)
-  pub class : (k ≡ 0 → ⊥) → are_equal (merges e) p (k - 1) ≡ true
-  pub passed : NoClash c e w p (k - 1)
+  pub above : (x : ℕ) → k ≡ suc x → p < x
+  pub app : (x : ℕ) → k ≡ suc x → MarkedApp w x
+  pub class : (x : ℕ) → k ≡ suc x → are_equal (merges e) p x ≡ true
+  pub passed : (x : ℕ) → k ≡ suc x → NoClash c e w p x
 
 module _ {c e w : List ℕ} where
   -- the word behind application x of a class
@@ -191,10 +204,10 @@ module _ {c e w : List ℕ} where
         asked = A;
         symbol = F;
         done = λ z y u v m'. further y u m' (dec_lt y x) (dec_lt x y) (λ r. W.none z y r m');
-        above = λ z. let r = W.after z in omega arith;
+        above = λ j d. let r = W.after j d in omega arith;
         app = W.app;
-        class = λ z. class_carries (merges e) p x (k - 1) g ∙ W.passes z;
-        passed = λ y u v m'. further y u m' (dec_lt y x) (dec_lt x y) (λ r. W.before y r v m');
+        class = λ j d. class_carries (merges e) p x j g ∙ W.passes j d;
+        passed = λ j d y u v m'. further y u m' (dec_lt y x) (dec_lt x y) (λ r. W.before j d y r v m');
       }
     where
       further : (y : ℕ) → p < y → MarkedApp w y → Dec (y < x) → Dec (x < y) → (x < y → are_equal (merges e) x y ≡ false) →
@@ -210,75 +223,70 @@ module _ {c e w : List ℕ} where
       walk_on A F A.app (T_true (are_equal (merges e) p p) (equal_refl (merges e) p)) (omega arith) (λ z u v m. absurd (omega arith))
       (λ l. absurd (omega arith)) q
 
-  pub walk_next : {p f k g j : ℕ} → Walking c e w p f k → (k ≡ 0 → ⊥) → g ≡ symbol_of (context c) (k - 1) → g ≡ f → j ≡ at w NEXT (k - 1) →
-      Walking c e w p f j
-  walk_next {p} {f} {k} W n s d q =
-      let l = W.above n in
-      walk_on W.asked W.symbol (W.app n) (W.class n) (omega arith) W.passed
-      (λ z. same_clash_not c e p (k - 1) (sym W.symbol ∙ sym d ∙ s)) q
-
-  pub walk_less : {p f k j : ℕ} → Walking c e w p f k → (k ≡ 0 → ⊥) → j ≡ at w NEXT (k - 1) →
-      (max_terms + 1 - j) % 1025 < (max_terms + 1 - k) % 1025
-  walk_less {p} {f} {k} {j} W n q =
-      let m = W.app n in
-      let M = W.asked.tables.work.marks in
-      word_less (context c) w M (λ (a : CtorApp). are_equal (merges e) (k - 1) a.app) k j
-      (next_word (k - 1) j W.asked.tables m q) n m.node
-
-  pub walk_within : {p f k : ℕ} → Walking c e w p f k → (k ≡ 0 → ⊥) → k - 1 < length (context c).terms
-  walk_within {k = k} W n = marked_app_within (context c) w W.asked.tables.work.marks (k - 1) (W.app n)
-
-  pub walk_place : {p f k : ℕ} → Walking c e w p f k → (k ≡ 0 → ⊥) → NEXT + (k - 1) < length w
-  walk_place W n = let h = W.asked.tables.work.long in let l = (W.app n).node in omega arith
-
   pub walked_within : {p : ℕ} → ClassWalked c e w p → p < length (context c).terms
   walked_within {p} A = marked_app_within (context c) w A.tables.work.marks p A.app
 
-  pub walk_found : {p f k g : ℕ} → Walking c e w p f k → (k ≡ 0 → ⊥) → g ≡ symbol_of (context c) (k - 1) → (g ≡ f → ⊥) → ClashAt c e w p k
-  walk_found {p} {f} {k} W n s d = record {
-    fits = let l = (W.app n).node in omega arith;
-    none = λ z. absurd (n z);
-    found = λ z. record {
-      lower = W.asked.app;
-      higher = W.app n;
-      above = W.above n;
-      clash = other_clash c e p (k - 1) (W.class n) (λ q. d (s ∙ sym q ∙ sym W.symbol));
-      between = W.passed;
-    };
-  }
+  pub walked_place : {p : ℕ} → ClassWalked c e w p → NEXT + p < length w
+  walked_place A = let h = A.tables.work.long in let l = A.app.node in omega arith
 
-  pub walk_missing : {p f k : ℕ} → Walking c e w p f k → k ≡ 0 → ClashAt c e w p 0
-  walk_missing W z = record { fits = omega arith; none = λ q m. W.done z; found = λ n. absurd (n refl) }
+  -- at application x
+  module _ {p f k x : ℕ} (W : Walking c e w p f k) (d : k ≡ suc x) where
+    abbrev here : MarkedApp w x
+    here = W.app x d
+
+    pub walk_next : {g j : ℕ} → g ≡ symbol_of (context c) x → g ≡ f → j ≡ at w NEXT x → Walking c e w p f j
+    walk_next s n q =
+        let l = W.above x d in
+        walk_on W.asked W.symbol here (W.class x d) (omega arith) (W.passed x d)
+        (λ z. same_clash_not c e p x (sym W.symbol ∙ sym n ∙ s)) q
+
+    pub walk_less : {j : ℕ} → j ≡ at w NEXT x → (max_terms + 1 - j) % 1025 < (max_terms + 1 - k) % 1025
+    walk_less {j} q =
+        rw d (word_less (context c) w W.asked.tables.work.marks (λ (a : CtorApp). are_equal (merges e) x a.app) x j
+        (next_word x j W.asked.tables here q) here.node)
+
+    pub walk_within : x < length (context c).terms
+    walk_within = marked_app_within (context c) w W.asked.tables.work.marks x here
+
+    pub walk_place : NEXT + x < length w
+    walk_place = let h = W.asked.tables.work.long in let l = here.node in omega arith
+
+    pub walk_found : {g : ℕ} → g ≡ symbol_of (context c) x → (g ≡ f → ⊥) → FirstClash c e w p x
+    walk_found s n = record {
+      lower = W.asked.app;
+      higher = here;
+      above = W.above x d;
+      clash = other_clash c e p x (W.class x d) (λ q. n (s ∙ sym q ∙ sym W.symbol));
+      between = W.passed x d;
+    }
 
   -- ---- a term that need not be asked
 
-  pub no_app : {p k : ℕ} → k ≡ at w W_MARK p → (k ≡ 1 → ⊥) → ClashAt c e w p 0
-  no_app q d = record { fits = omega arith; none = λ z m. absurd (d (q ∙ m.mark)); found = λ n. absurd (n refl) }
-
-  pub not_lowest : {p k : ℕ} → ClashAsked c e w p → k ≡ word_from c e w p 0 → (k ≡ p + 1 → ⊥) → ClashAt c e w p 0
-  not_lowest {p} {k} A q d = record { fits = omega arith; none = λ z m. none m; found = λ n. absurd (n refl) }
+  pub not_lowest : {p k : ℕ} → ClashAsked c e w p → k ≡ word_from c e w p 0 → (k ≡ suc p → ⊥) → MarkedApp w p → NoClash c e w p max_terms
+  not_lowest {p} {k} A q d m y l u m' = go (are_equal (merges e) p y) refl
     where
-      none : MarkedApp w p → NoClash c e w p max_terms
-      none m y l u m' = go (are_equal (merges e) p y) refl
-        where
-          go : (b : Bool) → are_equal (merges e) p y ≡ b → clashing c e p y ≡ false
-          go false g = apart_clash_not c e p y g
-          go true g =
-              let L = lowest_word A.tables.work m q in
-              let x = k - 1 in
-              let below : k - 1 < p = omega (arith, L.some, L.below, d) in
-              let h = L.equal in
-              let here : are_equal (merges e) x p ≡ true = turned (merges e) p x h in
-              let there : are_equal (merges e) x y ≡ true = sym (class_carries (merges e) p x y h) ∙ g in
-              same_clash_not c e p y
-              (sym (not_clash_same c e x p here (A.earlier x below L.app p below m.node m))
-              ∙ not_clash_same c e x y there (A.earlier x below L.app y (omega arith) u m'))
+      go : (b : Bool) → are_equal (merges e) p y ≡ b → clashing c e p y ≡ false
+      go false g = apart_clash_not c e p y g
+      go true g =
+          let (x, n, L) = lowest_word k A.tables.work m q in
+          let other : x ≡ p → ⊥ = λ z. d (n ∙ ap suc z) in
+          let below : x < p = omega (arith, L.below, other) in
+          let h = L.equal in
+          let here : are_equal (merges e) x p ≡ true = turned (merges e) p x h in
+          let there : are_equal (merges e) x y ≡ true = sym (class_carries (merges e) p x y h) ∙ g in
+          same_clash_not c e p y
+          (sym (not_clash_same c e x p here (A.earlier x below L.app p below m.node m))
+          ∙ not_clash_same c e x y there (A.earlier x below L.app y (omega arith) u m'))
+
+-- a term that is no application clashes with none
+pub no_app : (c e w : List ℕ) {p k : ℕ} → k ≡ at w W_MARK p → (k ≡ 1 → ⊥) → MarkedApp w p → NoClash c e w p max_terms
+no_app c e w q d m = absurd (d (q ∙ m.mark))
 
 -- ---- the scan
 
 module _ {c e s w o : List ℕ} (R : ClashReady c e s w o) where
   clash_missing : {n : ℕ} (o' : List ℕ) → length (context c).terms ≤ n → NoneBelow c e w n →
-      Tried constructor_clash c e s w TCheck.TheVariants.Sat c s w o'
+      Tried constructor_clash c e s w (Ok TCheck.TheVariants.Sat) c s w o'
   unfolding constructor_clash clash_answer ctor_apps state_with dt_with apps_from
   clash_missing {n} o' l h = record {
     sound = R.check;
@@ -289,7 +297,7 @@ module _ {c e s w o : List ℕ} (R : ClashReady c e s w o) where
   }
 
   clash_found : {p q : ℕ} {o₁ o₂ : List ℕ} → NoneBelow c e w p → FirstClash c e w p q → Cleared o₁ → Explains e p q o₁ o₂ →
-      Tried constructor_clash c e s w TCheck.TheVariants.Conflict c s w o₂
+      Tried constructor_clash c e s w (Ok TCheck.TheVariants.Conflict) c s w o₂
   unfolding constructor_clash clash_answer ctor_apps state_with dt_with apps_from firsts
   clash_found {p} {q} {o₁} {o₂} h F C X =
       let listed : leaves o₂ ≡ firsts (explain (merges e) p q) = X.listed ∙ rw C.empty in
@@ -325,8 +333,9 @@ module _ {c e s w o₀ o : List ℕ} where
         earlier = I.none;
       }
 
-  pub scan_next : {n p k : ℕ} → Scanning c e s w o₀ o n p → p < n → ClashAt c e w p k → k ≡ 0 → Scanning c e s w o₀ o n (p + 1)
-  scan_next {n} {p} I l C z = record {
+  pub scan_next : {n p : ℕ} → Scanning c e s w o₀ o n p → p < n → (MarkedApp w p → NoClash c e w p max_terms) →
+      Scanning c e s w o₀ o n (p + 1)
+  scan_next {n} {p} I l C = record {
     long = I.long;
     ready = I.ready;
     count = I.count;
@@ -338,23 +347,21 @@ module _ {c e s w o₀ o : List ℕ} where
       go x (yes h) k m = I.none x h m
       go x (no h) k m =
           let q : p ≡ x = omega arith in
-          subst (λ (y : ℕ). NoClash c e w y max_terms) q (C.none z (subst⁻¹ (λ (y : ℕ). MarkedApp w y) q m))
+          subst (λ (y : ℕ). NoClash c e w y max_terms) q (C (subst⁻¹ (λ (y : ℕ). MarkedApp w y) q m))
 
-  pub scan_explains : {n p k : ℕ} {o₁ : List ℕ} → Scanning c e s w o₀ o n p → ClashAt c e w p k → (k ≡ 0 → ⊥) → Cleared o₁ →
-      Explainable e p (k - 1) o₁
-  scan_explains {p = p} {k = k} I C n X =
-      let F = C.found n in
+  pub scan_explains : {n p q : ℕ} {o₁ : List ℕ} → Scanning c e s w o₀ o n p → FirstClash c e w p q → Cleared o₁ → Explainable e p q o₁
+  scan_explains {p = p} {q = q} I F X =
       record {
         sound = I.ready.check.state.engine;
         first = F.lower.node;
         second = F.higher.node;
-        equal = clash_class c e p (k - 1) F.clash;
+        equal = clash_class c e p q F.clash;
         answer = X.sound (merges e);
       }
 
-  pub scan_found : {n p k : ℕ} {o₁ o₂ : List ℕ} → Scanning c e s w o₀ o n p → ClashAt c e w p k → (k ≡ 0 → ⊥) → Cleared o₁ →
-      Explains e p (k - 1) o₁ o₂ → Tried constructor_clash c e s w TCheck.TheVariants.Conflict c s w o₂
-  scan_found I C n X E = clash_found I.ready I.none (C.found n) X E
+  pub scan_found : {n p q : ℕ} {o₁ o₂ : List ℕ} → Scanning c e s w o₀ o n p → FirstClash c e w p q → Cleared o₁ →
+      Explains e p q o₁ o₂ → Tried constructor_clash c e s w (Ok TCheck.TheVariants.Conflict) c s w o₂
+  scan_found I F X E = clash_found I.ready I.none F X E
 
-  pub scan_missing : {n p : ℕ} → Scanning c e s w o₀ o n p → n ≤ p → Tried constructor_clash c e s w TCheck.TheVariants.Sat c s w o
+  pub scan_missing : {n p : ℕ} → Scanning c e s w o₀ o n p → n ≤ p → Tried constructor_clash c e s w (Ok TCheck.TheVariants.Sat) c s w o
   scan_missing I l = let h = I.count in clash_missing I.ready o (omega arith) I.none

@@ -39,7 +39,8 @@ use Rattle.solver.proofs.Memory.Levels.{marks_more}
 use Rattle.solver.proofs.Memory.Recording.{entries_fit}
 use Rattle.solver.proofs.Memory.Asserting.{atom_within}
 use Rattle.solver.proofs.Memory.Asking.{Asking, asking_first, asking_next, asking_found, asking_done}
-use Rattle.solver.proofs.Memory.Clashing.{literal_first, conflict_leaves, conflict_words}
+use Rattle.solver.proofs.Memory.Clashing.{literal_first, conflict_is, conflict_leaves, conflict_words}
+use Rattle.std.specs.Prelude.{Ok}
 
 -- ---- differ
 
@@ -278,11 +279,12 @@ module _ {c e s o : List ℕ} {n i : ℕ} {r : TCheck.TCheck} {o' : List ℕ} (z
         (t.conflict w lv));
   }
 
-  pub pairing_found : (r ≡ TCheck.TheVariants.Sat → ⊥) → UnequalClash c e s TCheck.TheVariants.Conflict o'
-  pairing_found d = record {
-    outcome = λ w lv. asking_found (z.asking w) h (leaves o') lv (conflict_leaves _ o' r d (t.conflict w lv));
-    readable = conflict_words _ o' r d (t.conflict [] (λ k. k)) t.readable;
-  }
+  pub pairing_found : (r ≡ TCheck.TheVariants.Sat → ⊥) → UnequalClash c e s r o'
+  pairing_found d =
+      rw (conflict_is _ o' r d (t.conflict [] (λ k. k))) (record {
+        outcome = λ w lv. asking_found (z.asking w) h (leaves o') lv (conflict_leaves _ o' r d (t.conflict w lv));
+        readable = conflict_words _ o' r d (t.conflict [] (λ k. k)) t.readable;
+      })
 
 pub pairing_done : {c e s o : List ℕ} {n i : ℕ} → Pairing c e s o n i → n ≤ i → UnequalClash c e s TCheck.TheVariants.Sat o
 pairing_done z h = record { outcome = λ w. asking_done (z.asking w) h; readable = tt }
@@ -292,7 +294,7 @@ pub check_unequal : {c e s w o : List ℕ} → CheckSound c e s w → answer_siz
 check_unequal z l = record { state = z.state; long = l }
 
 pub unequal_tried : {c e s w : List ℕ} {r : TCheck.TCheck} {o : List ℕ} → CheckSound c e s w → UnequalClash c e s r o →
-    Tried disequality_clash c e s w r c s w o
+    Tried disequality_clash c e s w (Ok r) c s w o
 unequal_tried {c} {w = w} C k = record {
   sound = C;
   extends = extends_self (context c);

@@ -10,12 +10,11 @@ use Rattle.shinri_core.specs.Formed.{Formed, Extends, Agrees}
 use Rattle.shinri_core.specs.Memory.Words.{at}
 use Rattle.shinri_core.specs.Memory.Table.{context, ContextSound, AllBelow, MayApply, MayEquate}
 use Rattle.shinri_core.specs.Memory.Codes.{MkApp, made_answer, made_context}
-use Rattle.shinri_core.specs.declared.context.Made as Made
 use Rattle.solver.specs.State.{with_terms, made_in, make_app}
 use Rattle.solver.specs.Rules.{make_eq}
 use Rattle.solver.specs.Memory.Table.{MARK, ENTRY, is_set, flagged_from, term_kind, key_atom, EntryFits, MarksAre, CollectedSound, StateSound, state_with, max_lits}
 use Rattle.solver.specs.Memory.Work.{W_MARK, state_at, apps_from, WorkSound, ChainSound, CheckSound}
-use Rattle.solver.specs.Memory.Making.{Making, Makeable, Equatable, MadeOutcome, MadeWithin, MakesTerm}
+use Rattle.solver.specs.Memory.Making.{Making, Makeable, Equatable, MadeOutcome, MadeWithin, MakesTerm, Made}
 use Rattle.solver.proofs.Basics.{by_test, gather_same}
 use Rattle.solver.proofs.Terms.{Below, extends_self, mk_app_makes, mk_app_formed, extends_symbol, extends_term, extends_length}
 use Rattle.solver.proofs.Signature.{extends_signed}
@@ -171,7 +170,7 @@ pub may_equate : {c e w : List ℕ} {x y : ℕ} → Equatable c e w x y → MayE
 may_equate m = record { sound = m.making.core; left = m.first; right = m.second }
 
 module _
-    (c e w : List ℕ) (o : Op) (args : List ℕ) (r : Made.Made) (c' : List ℕ)
+    (c e w : List ℕ) (o : Op) (args : List ℕ) (r : Made) (c' : List ℕ)
     (M : Making c e w) (B : Below (length (context c).terms) args) (A : Agrees (context c) o args) (K : MkApp c o args r c')
   where
     abbrev new : Context.Made
@@ -199,18 +198,18 @@ module _
       where
         fits : terms_fit new.context ≡ true → MadeWithin r (length (context c').terms)
         fits q =
-            subst⁻¹ (λ (z : Made.Made). MadeWithin z (length (context c').terms)) (rw q at K.answer)
+            subst⁻¹ (λ (z : Made). MadeWithin z (length (context c').terms)) (rw q at K.answer)
             (subst⁻¹ (λ (z : Context). new.id < length z.terms) (view_fits q) (mk_app_makes (context c) o args).within)
 
         lacks : terms_fit new.context ≡ false → MadeWithin r (length (context c').terms)
-        lacks q = subst⁻¹ (λ (z : Made.Made). MadeWithin z (length (context c').terms)) (rw q at K.answer) tt
+        lacks q = subst⁻¹ (λ (z : Made). MadeWithin z (length (context c').terms)) (rw q at K.answer) tt
 
     made_outcome : (s : List ℕ) (lv : ℕ → ℕ) →
         MadeOutcome r (made_in (state_at c e s w lv) (mk_app (state_at c e s w lv).terms o args)) (state_at c' e s w lv)
     unfolding made_answer made_in with_terms state_with
     made_outcome s lv = by_test (terms_fit new.context) fits lacks
       where
-        Outcome-is : Made.Made → Type 0
+        Outcome-is : Made → Type 0
         Outcome-is z = MadeOutcome z (made_in (state_at c e s w lv) new) (state_at c' e s w lv)
 
         fits : terms_fit new.context ≡ true → Outcome-is r
@@ -231,13 +230,13 @@ module _
       chain = λ u C. chain_grows c c' made_extends K.sound made_formed e w C M.work;
     }
 
-pub made_app : {c e w : List ℕ} {f : ℕ} {args : List ℕ} {r : Made.Made} {c' : List ℕ} → Makeable c e w f args →
+pub made_app : {c e w : List ℕ} {f : ℕ} {args : List ℕ} {r : Made} {c' : List ℕ} → Makeable c e w f args →
     MkApp c (Term.Uninterpreted f) args r c' → MakesTerm (λ S. make_app S f args) (Unit {0}) c e w r c' w
 unfolding make_app
 made_app {c} {e} {w} {f} {args} {r} {c'} m K =
     made_term c e w (Term.Uninterpreted f) args r c' m.making (all_below (length (context c).terms) args m.terms) m.agree K
 
-pub made_eq : {c e w : List ℕ} {x y : ℕ} {r : Made.Made} {c' : List ℕ} → Equatable c e w x y →
+pub made_eq : {c e w : List ℕ} {x y : ℕ} {r : Made} {c' : List ℕ} → Equatable c e w x y →
     MkApp c Eq (x ∷ y ∷ []) r c' → MakesTerm (λ S. make_eq S x y) (Unit {0}) c e w r c' w
 unfolding make_eq mk_eq
 made_eq {c} {e} {w} {x} {y} {r} {c'} m K = made_term c e w Eq (x ∷ y ∷ []) r c' m.making below (x, y, refl, m.agree) K

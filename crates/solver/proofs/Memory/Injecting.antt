@@ -9,7 +9,6 @@ use Rattle.shinri_core.specs.Context.{Context, CtorApp, children, symbol, term, 
 use Rattle.shinri_core.specs.Formed.{Signed, Extends}
 use Rattle.shinri_core.specs.Memory.Words.{at}
 use Rattle.shinri_core.specs.Memory.Table.{context}
-use Rattle.shinri_core.specs.declared.context.Made as Made
 use Rattle.shinri_core.specs.declared.ids.SymbolId as SymbolId
 use Rattle.shinri_core.specs.declared.ids.TermId as TermId
 use Rattle.shinri_core.proofs.Lists.{and_no, T_true, in_range}
@@ -18,13 +17,12 @@ use Rattle.theory.specs.Memory.Table.{merges}
 use Rattle.theory.proofs.Classes.{equal_refl}
 use Rattle.solver.specs.State.{State, MadeIn, with_terms, with_marks, with_dt, ctor_apps, equal, mark, made_in, make_app, marked_in, mint}
 use Rattle.solver.specs.Rules.{pass, mint_on_both, same_constructor, mint_selectors, instantiate_injectivity_selectors}
-use Rattle.solver.specs.declared.answer.TCheck as TCheck
-use Rattle.solver.specs.declared.work.CtorOf as CtorOf
+use Rattle.std.specs.Prelude.{Some, Ok, Err}
 use Rattle.solver.specs.Memory.Table.{is_set, flagged_from, term_kind, MarksAre, dt_with, state_with}
-use Rattle.solver.specs.Memory.Work.{W_MARK, NEXT, work_marks, apps_from, first_in_class, app_word, word_from, ctor_meaning, state_at, ChainSound, CtorAsked, CtorOfClass}
-use Rattle.solver.specs.Memory.Making.{Making, Makeable, MakesTerm}
+use Rattle.solver.specs.Memory.Work.{W_MARK, NEXT, work_marks, apps_from, first_in_class, app_word, word_from, ctor_meaning, state_at, ChainSound, CtorAsked, CtorOfClass, CtorOf}
+use Rattle.solver.specs.Memory.Making.{Making, Makeable, MakesTerm, Made}
 use Rattle.solver.specs.Memory.ConstructorClash.{op_symbol, symbol_of, app_at, MarkedApp}
-use Rattle.solver.specs.Memory.Injecting.{Moves, StepOutcome, Steps, Selects, Selectable, SelectableBoth, Applies, AppliesBoth, OneClass, TwoTerms, KnownAfter, Injectable, HasSelector, AllSelected, SelectedBelow, InjectableAt, AppAsked, Covered, select_both, select_with, select_from, Injects}
+use Rattle.solver.specs.Memory.Injecting.{Moves, StepOutcome, Steps, Selects, Selectable, SelectableBoth, Applies, AppliesBoth, OneClass, TwoTerms, KnownAfter, Injectable, HasSelector, AllSelected, SelectedBelow, InjectableAt, AppAsked, Covered, select_both, select_with, select_from, Stepped, Injects}
 use Rattle.solver.proofs.Basics.{some_is}
 use Rattle.solver.proofs.Terms.{mk_app_makes, extends_self, extends_then, extends_symbol, extends_term, extends_length, extends_sort_of}
 use Rattle.solver.proofs.Signature.{constructor_selector, constructor_function, selector_function, declared_role}
@@ -33,6 +31,7 @@ use Rattle.solver.proofs.Apps.{app_within}
 use Rattle.solver.proofs.Memory.Flags.{has, also, insert_members, mem_members, flagged_mem}
 use Rattle.solver.proofs.Memory.Roles.{kind_ctor, sel_kind, kind_kept}
 use Rattle.solver.proofs.Memory.Growing.{old_children, marked_within, only_below}
+use Rattle.solver.proofs.Memory.NoRooms.{err_not_ok}
 use Rattle.solver.proofs.Memory.Unfitting.{Onward, onward_unfit, fold_onward, mint_onward, mint_on_both_onward, mint_selectors_onward}
 use Rattle.solver.proofs.Memory.AppNumbers.{apps_step, apps_none, marked_app_within, app_in, first_at, WordIs, word_is, word_less}
 use Rattle.solver.proofs.Memory.ConstructorClash.{class_carries, turned, LowestIs, lowest_word}
@@ -86,7 +85,7 @@ selector_kind cx x f k i o r e = go (is_datatype_sort cx (symbol cx f).result) (
     go false h = omega arith
 
 module _ {c e w c' w' : List ℕ} {f a : ℕ} {y : TermId.TermId} (S : Selectable c e w f a)
-    (K : MakesTerm (λ s. mint s f (a ∷ [])) ((symbol (context c) f).role ≡ Constructor → ⊥) c e w (Made.TheVariants.At y) c' w') where
+    (K : MakesTerm (λ s. mint s f (a ∷ [])) ((symbol (context c) f).role ≡ Constructor → ⊥) c e w (Ok y) c' w') where
   abbrev made : MadeIn
   made = mint (state_at c e [] w (λ i. 0)) f (a ∷ [])
 
@@ -177,7 +176,7 @@ module _ {c e w c' w' : List ℕ} {f a : ℕ} {y : TermId.TermId} (S : Selectabl
           let l = marked_within (context c) w W_MARK z marks m.node was in
           d ∙ sym (kind_kept (context c) (context c') z K.extends l) ∙ kind (marks' z m.node)
 
-  fits : Steps (λ s. (mint s f (a ∷ [])).state) c e w true c' w'
+  fits : Steps (λ s. (mint s f (a ∷ [])).state) c e w (Ok tt) c' w'
   fits = record {
     moves = record {
       sound = K.sound;
@@ -191,15 +190,15 @@ module _ {c e w c' w' : List ℕ} {f a : ℕ} {y : TermId.TermId} (S : Selectabl
     outcome = λ s lv. ap (λ (m : MadeIn). m.state) (K.outcome s lv);
   }
 
-module _ {c e w c' w' : List ℕ} {f a : ℕ} {r : Made.Made} (S : Selectable c e w f a)
+module _ {c e w c' w' : List ℕ} {f a : ℕ} {r : Made} (S : Selectable c e w f a)
     (K : MakesTerm (λ s. mint s f (a ∷ [])) ((symbol (context c) f).role ≡ Constructor → ⊥) c e w r c' w') where
-  abbrev Makes : Made.Made → Type 0
+  abbrev Makes : Made → Type 0
   Makes q = MakesTerm (λ s. mint s f (a ∷ [])) ((symbol (context c) f).role ≡ Constructor → ⊥) c e w q c' w'
 
-  pub mint_fits : {y : TermId.TermId} → r ≡ Made.TheVariants.At y → Steps (λ s. (mint s f (a ∷ [])).state) c e w true c' w'
+  pub mint_fits : {y : TermId.TermId} → r ≡ Ok y → Steps (λ s. (mint s f (a ∷ [])).state) c e w (Ok tt) c' w'
   mint_fits q = fits S (subst Makes q K)
 
-  pub mint_full : r ≡ Made.TheVariants.NoRoom → Steps (λ s. (mint s f (a ∷ [])).state) c e w false c' w'
+  pub mint_full : r ≡ Err (record {}) → Steps (λ s. (mint s f (a ∷ [])).state) c e w (Err (record {})) c' w'
   mint_full q =
       let N = subst Makes q K in
       record {
@@ -209,9 +208,9 @@ module _ {c e w c' w' : List ℕ} {f a : ℕ} {r : Made.Made} (S : Selectable c 
           chain = N.chain (λ z. constructor_selector S.selects.ctor S.selects.index (sym z ∙ S.selects.role));
           extends = N.extends;
         };
-        marks = λ z. absurd (false≢true z);
-        back = λ z. absurd (false≢true z);
-        apps = λ z. absurd (false≢true z);
+        marks = λ z. absurd (err_not_ok z);
+        back = λ z. absurd (err_not_ok z);
+        apps = λ z. absurd (err_not_ok z);
         outcome = N.outcome;
       }
 
@@ -256,7 +255,7 @@ pub record Onway (F G : State → State) (c e w c' w' : List ℕ) : Type 0 where
 
 module _ {F G : State → State} {c e w c₁ w₁ : List ℕ} (O : Onway F G c e w c₁ w₁) where
   -- H is done, and K is left
-  onway_next : {H : State → State} {c₂ w₂ : List ℕ} (K G' : State → State) → Steps H c₁ e w₁ true c₂ w₂ →
+  onway_next : {H : State → State} {c₂ w₂ : List ℕ} (K G' : State → State) → Steps H c₁ e w₁ (Ok tt) c₂ w₂ →
       ((s : List ℕ) (lv : ℕ → ℕ) → G (state_at c₁ e s w₁ lv) ≡ K (H (state_at c₁ e s w₁ lv))) →
       ((s : List ℕ) (lv : ℕ → ℕ) → K (state_at c₂ e s w₂ lv) ≡ G' (state_at c₂ e s w₂ lv)) → Onway F G' c e w c₂ w₂
   onway_next K G' X h k = record {
@@ -268,19 +267,19 @@ module _ {F G : State → State} {c e w c₁ w₁ : List ℕ} (O : Onway F G c e
   }
 
   -- H does not fit
-  onway_stop : {H : State → State} {c₂ w₂ : List ℕ} (K : State → State) → ((S : State) → Onward S (K S)) → Steps H c₁ e w₁ false c₂ w₂ →
-      ((s : List ℕ) (lv : ℕ → ℕ) → G (state_at c₁ e s w₁ lv) ≡ K (H (state_at c₁ e s w₁ lv))) → Steps F c e w false c₂ w₂
+  onway_stop : {H : State → State} {c₂ w₂ : List ℕ} (K : State → State) → ((S : State) → Onward S (K S)) → Steps H c₁ e w₁ (Err (record {})) c₂ w₂ →
+      ((s : List ℕ) (lv : ℕ → ℕ) → G (state_at c₁ e s w₁ lv) ≡ K (H (state_at c₁ e s w₁ lv))) → Steps F c e w (Err (record {})) c₂ w₂
   onway_stop {H} K n X h = record {
     moves = moves_then O.moves X.moves;
-    marks = λ z. absurd (false≢true z);
-    back = λ z. absurd (false≢true z);
-    apps = λ z. absurd (false≢true z);
+    marks = λ z. absurd (err_not_ok z);
+    back = λ z. absurd (err_not_ok z);
+    apps = λ z. absurd (err_not_ok z);
     outcome = λ s lv.
         subst⁻¹ (λ (S : State). terms_fit S.terms ≡ false) (O.rest s lv ∙ h s lv)
         (onward_unfit (H (state_at c₁ e s w₁ lv)) (K (H (state_at c₁ e s w₁ lv))) (n (H (state_at c₁ e s w₁ lv))) (X.outcome s lv));
   }
 
-  onway_done : ((s : List ℕ) (lv : ℕ → ℕ) → G (state_at c₁ e s w₁ lv) ≡ state_at c₁ e s w₁ lv) → Steps F c e w true c₁ w₁
+  onway_done : ((s : List ℕ) (lv : ℕ → ℕ) → G (state_at c₁ e s w₁ lv) ≡ state_at c₁ e s w₁ lv) → Steps F c e w (Ok tt) c₁ w₁
   onway_done h = record {
     moves = O.moves;
     marks = λ z. O.marks;
@@ -294,7 +293,7 @@ onway_first : {F G : State → State} {c e w : List ℕ} → Making c e w →
 onway_first M h = record { moves = moves_none M; marks = λ x m. m; back = λ x m. m; apps = λ i l. refl; rest = h }
 
 -- a step by another name
-steps_as : {F G : State → State} {c e w c' w' : List ℕ} {r : Bool} → Steps F c e w r c' w' →
+steps_as : {F G : State → State} {c e w c' w' : List ℕ} {r : Stepped} → Steps F c e w r c' w' →
     ((s : List ℕ) (lv : ℕ → ℕ) → G (state_at c e s w lv) ≡ F (state_at c e s w lv)) → Steps G c e w r c' w'
 steps_as {c = c} {e} {w} {c'} {w'} {r} X h = record {
   moves = X.moves;
@@ -326,21 +325,21 @@ module _ {c e w : List ℕ} {f p q : ℕ} {known : Bool} (B : SelectableBoth c e
   both_last = record { making = B.making; selects = B.second }
 
   -- to make it on p again changes nothing
-  pub both_known : {r : Bool} {c₁ w₁ : List ℕ} → known ≡ true → Steps (λ s. (mint s f (q ∷ [])).state) c e w r c₁ w₁ →
+  pub both_known : {r : Stepped} {c₁ w₁ : List ℕ} → known ≡ true → Steps (λ s. (mint s f (q ∷ [])).state) c e w r c₁ w₁ →
       Steps (λ s. mint_on_both p q s f) c e w r c₁ w₁
   unfolding mint_on_both
   both_known t X =
       steps_as X (λ s lv. ap (λ (z : State). (mint z f (q ∷ [])).state) (mint_again c e w B.making.formed s lv f p (B.has t)))
 
 module _ {c e w c₁ w₁ : List ℕ} {f p q : ℕ} {known : Bool} (B : SelectableBoth c e w f p q known) where
-  pub both_second : {r : Bool} → Steps (λ s. (mint s f (p ∷ [])).state) c e w r c₁ w₁ → Selectable c₁ e w₁ f q
+  pub both_second : {r : Stepped} → Steps (λ s. (mint s f (p ∷ [])).state) c e w r c₁ w₁ → Selectable c₁ e w₁ f q
   both_second X = record { making = X.moves.making; selects = selects_kept X.moves.extends B.second }
 
-  pub both_done : {r r₂ : Bool} {c₂ w₂ : List ℕ} → Steps (λ s. (mint s f (p ∷ [])).state) c e w r c₁ w₁ → r ≡ true →
+  pub both_done : {r r₂ : Stepped} {c₂ w₂ : List ℕ} → Steps (λ s. (mint s f (p ∷ [])).state) c e w r c₁ w₁ → r ≡ Ok tt →
       Steps (λ s. (mint s f (q ∷ [])).state) c₁ e w₁ r₂ c₂ w₂ → Steps (λ s. mint_on_both p q s f) c e w r₂ c₂ w₂
   unfolding mint_on_both
   both_done {r₂ = r₂} {c₂} {w₂} X t Y =
-      let X' = subst (λ (z : Bool). Steps (λ s. (mint s f (p ∷ [])).state) c e w z c₁ w₁) t X in
+      let X' = subst (λ (z : Stepped). Steps (λ s. (mint s f (p ∷ [])).state) c e w z c₁ w₁) t X in
       record {
         moves = moves_then X'.moves Y.moves;
         marks = λ z x m. Y.marks z x (X'.marks refl x m);
@@ -351,16 +350,16 @@ module _ {c e w c₁ w₁ : List ℕ} {f p q : ℕ} {known : Bool} (B : Selectab
             (Y.outcome s lv);
       }
 
-  pub both_full : {r : Bool} → Steps (λ s. (mint s f (p ∷ [])).state) c e w r c₁ w₁ → r ≡ false →
-      Steps (λ s. mint_on_both p q s f) c e w false c₁ w₁
+  pub both_full : {r : Stepped} → Steps (λ s. (mint s f (p ∷ [])).state) c e w r c₁ w₁ → r ≡ Err (record {}) →
+      Steps (λ s. mint_on_both p q s f) c e w (Err (record {})) c₁ w₁
   unfolding mint_on_both
   both_full X t =
-      let X' = subst (λ (z : Bool). Steps (λ s. (mint s f (p ∷ [])).state) c e w z c₁ w₁) t X in
+      let X' = subst (λ (z : Stepped). Steps (λ s. (mint s f (p ∷ [])).state) c e w z c₁ w₁) t X in
       record {
         moves = X'.moves;
-        marks = λ z. absurd (false≢true z);
-        back = λ z. absurd (false≢true z);
-        apps = λ z. absurd (false≢true z);
+        marks = λ z. absurd (err_not_ok z);
+        back = λ z. absurd (err_not_ok z);
+        apps = λ z. absurd (err_not_ok z);
         outcome = λ s lv.
             let half = (mint (state_at c e s w lv) f (p ∷ [])).state in
             onward_unfit half (mint half f (q ∷ [])).state (mint_onward half f (q ∷ [])) (X'.outcome s lv);
@@ -372,7 +371,7 @@ dt_selectors_kept : (cx cx' : Context) → Extends cx cx' → (k : ℕ) → dt_s
 unfolding dt_selectors
 dt_selectors_kept cx cx' E k = rw (extends_symbol cx cx' k E)
 
-module _ {F : State → State} {c e w c' w' : List ℕ} (X : Steps F c e w true c' w') where
+module _ {F : State → State} {c e w c' w' : List ℕ} (X : Steps F c e w (Ok tt) c' w') where
   -- what the step gives stands in the tables
   steps_give : (f x : ℕ) → Has (F (state_at c e [] w (λ i. 0))) f x → HasSelector (context c') (work_marks w') f x
   unfolding state_with dt_with
@@ -453,10 +452,10 @@ module _ {k p q : ℕ} {known : Bool} {c e w c₁ w₁ : List ℕ} {n i : ℕ} (
       let f : k + 2 + (i + 1) ≡ suc (k + 2 + i) = omega arith in
       rw (d, f)
 
-  pub each_next : {r : Bool} {c₂ w₂ : List ℕ} → i < n → Steps (λ s. mint_on_both p q s (k + 2 + i)) c₁ e w₁ r c₂ w₂ → r ≡ true →
+  pub each_next : {r : Stepped} {c₂ w₂ : List ℕ} → i < n → Steps (λ s. mint_on_both p q s (k + 2 + i)) c₁ e w₁ r c₂ w₂ → r ≡ Ok tt →
       Each k p q known c e w c₂ w₂ n (i + 1)
   each_next {c₂ = c₂} {w₂} l X t =
-      let X' = subst (λ (z : Bool). Steps (λ s. mint_on_both p q s (k + 2 + i)) c₁ e w₁ z c₂ w₂) t X in
+      let X' = subst (λ (z : Stepped). Steps (λ s. mint_on_both p q s (k + 2 + i)) c₁ e w₁ z c₂ w₂) t X in
       let E = X'.moves.extends in
       record {
         both = record {
@@ -470,15 +469,15 @@ module _ {k p q : ℕ} {known : Bool} {c e w c₁ w₁ : List ℕ} {n i : ℕ} (
         way = onway_next I.way left left X' (λ s lv. unrolled l (state_at c₁ e s w₁ lv)) (λ s lv. refl);
       }
 
-  pub each_stop : {r : Bool} {c₂ w₂ : List ℕ} → i < n → Steps (λ s. mint_on_both p q s (k + 2 + i)) c₁ e w₁ r c₂ w₂ → r ≡ false →
-      Steps (select_both (context c) k p q) c e w false c₂ w₂
+  pub each_stop : {r : Stepped} {c₂ w₂ : List ℕ} → i < n → Steps (λ s. mint_on_both p q s (k + 2 + i)) c₁ e w₁ r c₂ w₂ → r ≡ Err (record {}) →
+      Steps (select_both (context c) k p q) c e w (Err (record {})) c₂ w₂
   each_stop {c₂ = c₂} {w₂} l X t =
-      let X' = subst (λ (z : Bool). Steps (λ s. mint_on_both p q s (k + 2 + i)) c₁ e w₁ z c₂ w₂) t X in
+      let X' = subst (λ (z : Stepped). Steps (λ s. mint_on_both p q s (k + 2 + i)) c₁ e w₁ z c₂ w₂) t X in
       onway_stop I.way left
       (fold_onward (λ (z : State). z) (mint_on_both p q) (mint_on_both_onward p q) (range (k + 2 + (i + 1)) (n - (i + 1))))
       X' (λ s lv. unrolled l (state_at c₁ e s w₁ lv))
 
-  pub each_done : n ≤ i → Steps (select_both (context c) k p q) c e w true c₁ w₁
+  pub each_done : n ≤ i → Steps (select_both (context c) k p q) c e w (Ok tt) c₁ w₁
   unfolding range
   each_done l = let d : n - i ≡ 0 = let h = I.within in omega arith in onway_done I.way (λ s lv. rw d)
 
@@ -517,7 +516,7 @@ module _ {c e w : List ℕ} {p q : ℕ} {known : Bool} (B : OneClass c e w p q k
   }
 
   pub other_skipped : {k j : ℕ} → k ≡ symbol_of cx p → j ≡ symbol_of cx q → (j ≡ k → ⊥) →
-      Steps (λ s. mint_selectors s (app_at cx p, app_at cx q)) c e w true c w
+      Steps (λ s. mint_selectors s (app_at cx p, app_at cx q)) c e w (Ok tt) c w
   unfolding mint_selectors same_constructor
   other_skipped {k} {j} h g d = record {
     moves = moves_none B.making;
@@ -527,7 +526,7 @@ module _ {c e w : List ℕ} {p q : ℕ} {known : Bool} (B : OneClass c e w p q k
     outcome = λ s lv. rw (ne_eqb (symbol_of cx p) (symbol_of cx q) (λ z. d (g ∙ sym z ∙ sym h)));
   }
 
-  pub same_selected : {k j : ℕ} {r : Bool} {c' w' : List ℕ} → k ≡ symbol_of cx p → j ≡ symbol_of cx q → j ≡ k →
+  pub same_selected : {k j : ℕ} {r : Stepped} {c' w' : List ℕ} → k ≡ symbol_of cx p → j ≡ symbol_of cx q → j ≡ k →
       Steps (select_both cx k p q) c e w r c' w' → Steps (λ s. mint_selectors s (app_at cx p, app_at cx q)) c e w r c' w'
   unfolding mint_selectors same_constructor equal select_both state_with
   same_selected {k} {j} h g d X = steps_as X (λ s lv. rw (eq-eqb (symbol_of cx p) (symbol_of cx q) (sym h ∙ sym d ∙ g), B.equal, h))
@@ -589,23 +588,17 @@ module _ {c e w : List ℕ} (R : Injectable c e w) where
           ∙ ap (λ (as' : List CtorApp). select_with (app_at (context c) p) as' (state_at c e s w lv))
           (apps_none (context c) w R.making.work.marks max_terms (omega arith))
       go (suc q) W =
-          let n : suc q ≡ 0 → ⊥ = λ z. omega arith in
-          let u = W.after n in
-          let v = (W.app n).node in
+          let u = W.after q refl in
+          let v = (W.app q refl).node in
           jump (context c) w R.making.work.marks (app_at (context c) p) (state_at c e s w lv) (q - suc x) (suc x) q
-          (omega arith) (omega arith) (λ y u v n. class_carries (merges e) p x y g ∙ W.before y u (omega arith) n)
-
-rest_some : (cx : Context) (w : List ℕ) (k : ℕ) → (k ≡ 0 → ⊥) → rest_from cx w k ≡ apps_from cx w (k - 1)
-unfolding rest_from
-rest_some cx w zero n = absurd (n refl)
-rest_some cx w (suc q) n = let d : suc q - 1 ≡ q = omega arith in rw d
+          (omega arith) (omega arith) (λ y u v n. class_carries (merges e) p x y g ∙ W.before q refl y u v n)
 
 abbrev with_onward : (a : CtorApp) (others : List CtorApp) (S : State) → Onward S (select_with a others S)
 with_onward a others S =
     unfold select_with in fold_onward (λ (z : State). z) (λ z b. mint_selectors z (a, b)) (λ z b. mint_selectors_onward z (a, b)) others S
 
 pub from_skipped : {c e w : List ℕ} {p m : ℕ} → InjectableAt c e w p → m ≡ at w W_MARK p → (m ≡ 1 → ⊥) →
-    Steps (select_from (context c) w p) c e w true c w
+    Steps (select_from (context c) w p) c e w (Ok tt) c w
 unfolding select_from
 from_skipped {w = w} {p} A h n = record {
   moves = moves_none A.ready.making;
@@ -629,8 +622,8 @@ module _ {c e w : List ℕ} {p : ℕ} (A : AppAsked c e w p) where
   pub cover_own : p < length (context c).terms
   cover_own = marked_app_within (context c) w A.ready.making.work.marks p A.app
 
-  module _ {r : CtorOf.CtorOf} {f : SymbolId.SymbolId} {x : TermId.TermId}
-      (K : CtorOfClass c e w p r) (q : r ≡ CtorOf.TheVariants.At f x) where
+  module _ {r : CtorOf} {f : SymbolId.SymbolId} {x : TermId.TermId}
+      (K : CtorOfClass c e w p r) (q : r ≡ Some (f, x)) where
     -- the application found is the first of the class
     found : some (record { app = x.0; ctor = f.0; fields = children (context c) x.0 })
         ≡ first_in_class (merges e) p (apps_from (context c) w 0)
@@ -641,26 +634,28 @@ module _ {c e w : List ℕ} {p : ℕ} (A : AppAsked c e w p) where
     unfolding app_word
     word = ap app_word found
 
-    lowest : LowestIs e w p (suc x.0)
-    lowest = lowest_word A.ready.making.work A.app word
+    lowest : LowestIs e w p x.0
+    lowest =
+        let (y, n, L) = lowest_word (suc x.0) A.ready.making.work A.app word in
+        let d : y ≡ x.0 = omega arith in
+        subst (LowestIs e w p) d L
 
     -- and its constructor is the symbol that it applies
-    symbol_is : f.0 ≡ symbol_of (context c) (suc x.0 - 1)
+    symbol_is : f.0 ≡ symbol_of (context c) x.0
     unfolding first_in_class
     symbol_is =
         let passes : CtorApp → Bool = λ a. are_equal (merges e) p a.app in
         let W = word_is (context c) w A.ready.making.work.marks passes 0 (suc x.0) (omega arith) word in
-        let n : suc x.0 ≡ 0 → ⊥ = λ z. omega arith in
-        let first = first_at (context c) w A.ready.making.work.marks passes 0 (suc x.0 - 1) (omega arith) (W.app n) (W.passes n)
-        W.before in
-        ap (λ (a : CtorApp). a.ctor) (some_is _ (app_at (context c) (suc x.0 - 1)) (found ∙ first))
+        let first = first_at (context c) w A.ready.making.work.marks passes 0 x.0 (omega arith) (W.app x.0 refl) (W.passes x.0 refl)
+        (W.before x.0 refl) in
+        ap (λ (a : CtorApp). a.ctor) (some_is _ (app_at (context c) x.0) (found ∙ first))
 
     pub cover_by : {j : ℕ} → (x.0 ≡ p → ⊥) → j ≡ symbol_of (context c) p → eqb f.0 j ≡ true → Covered c e w p
     cover_by {j} d h t = record {
-      lowest = suc x.0 - 1;
+      lowest = x.0;
       lower = omega (arith, lowest.below, d);
       app = lowest.app;
-      equal = turned (merges e) p (suc x.0 - 1) lowest.equal;
+      equal = turned (merges e) p x.0 lowest.equal;
       symbol = sym symbol_is ∙ eqb-true f.0 j t ∙ h;
     }
 
@@ -668,7 +663,7 @@ pub not_covered : {c e w : List ℕ} {p : ℕ} → false ≡ true → Covered c 
 not_covered q = absurd (false≢true q)
 
 -- every pair with it changes nothing
-pub from_covered : {c e w : List ℕ} {p : ℕ} → InjectableAt c e w p → Covered c e w p → Steps (select_from (context c) w p) c e w true c w
+pub from_covered : {c e w : List ℕ} {p : ℕ} → InjectableAt c e w p → Covered c e w p → Steps (select_from (context c) w p) c e w (Ok tt) c w
 unfolding select_from
 from_covered {c} {e} {w} {p} A C = record {
   moves = moves_none A.ready.making;
@@ -702,12 +697,12 @@ from_covered {c} {e} {w} {p} A C = record {
 
 -- ---- the walk along a class
 
--- k is one more than the application that p is paired with next, or 0 behind the last
+-- k is the word of the application that p is paired with next, or 0 behind the last
 pub record Along (p : ℕ) (c e w c' w' : List ℕ) (known : Bool) (k : ℕ) : Type 0 where
   pub ready : Injectable c' e w'
   pub lower : MarkedApp w' p
-  pub app : (k ≡ 0 → ⊥) → MarkedApp w' (k - 1)
-  pub class : (k ≡ 0 → ⊥) → are_equal (merges e) p (k - 1) ≡ true
+  pub app : (x : ℕ) → k ≡ suc x → MarkedApp w' x
+  pub class : (x : ℕ) → k ≡ suc x → are_equal (merges e) p x ≡ true
   pub has : known ≡ true → AllSelected (context c') (work_marks w') (symbol_of (context c') p) p
   pub way : Onway (select_from (context c) w p) (λ s. select_with (app_at (context c') p) (rest_from (context c') w' k) s) c e w c' w'
 
@@ -726,50 +721,53 @@ along_first {p} {c} {e} {w} {k} A g =
       way = onway_first A.ready.making (λ s lv. rw (eq-eqb (at w W_MARK p) 1 mark.mark) (skip A.ready s lv p p k mark own g));
     }
 
-module _ {p : ℕ} {c e w c₁ w₁ : List ℕ} {known : Bool} {k : ℕ} (I : Along p c e w c₁ w₁ known k) (n : k ≡ 0 → ⊥) where
-  pub along_asked : OneClass c₁ e w₁ p (k - 1) known
-  along_asked = record { making = I.ready.making; lower = I.lower; higher = I.app n; equal = I.class n; has = I.has }
+module _ {p : ℕ} {c e w c₁ w₁ : List ℕ} {known : Bool} {k x : ℕ} (I : Along p c e w c₁ w₁ known k) (n : k ≡ suc x) where
+  abbrev at_hand : MarkedApp w₁ x
+  at_hand = I.app x n
 
-  pub along_place : NEXT + (k - 1) < length w₁
-  along_place = let l = (I.app n).node in let h = I.ready.making.work.long in omega arith
+  pub along_asked : OneClass c₁ e w₁ p x known
+  along_asked = record { making = I.ready.making; lower = I.lower; higher = at_hand; equal = I.class x n; has = I.has }
+
+  pub along_place : NEXT + x < length w₁
+  along_place = let l = at_hand.node in let h = I.ready.making.work.long in omega arith
 
   abbrev pair : State → State
-  pair s = mint_selectors s (app_at (context c₁) p, app_at (context c₁) (k - 1))
+  pair s = mint_selectors s (app_at (context c₁) p, app_at (context c₁) x)
 
   abbrev others : State → State
-  others s = select_with (app_at (context c₁) p) (apps_from (context c₁) w₁ (suc (k - 1))) s
+  others s = select_with (app_at (context c₁) p) (apps_from (context c₁) w₁ (suc x)) s
 
   unpaired : (S : State) → select_with (app_at (context c₁) p) (rest_from (context c₁) w₁ k) S ≡ others (pair S)
-  unfolding select_with
+  unfolding select_with rest_from
   unpaired S =
-      let m = I.app n in
+      let m = at_hand in
       rw (
-        rest_some (context c₁) w₁ k n,
-        apps_step (context c₁) w₁ I.ready.making.work.marks (k - 1) m.node,
+        n,
+        apps_step (context c₁) w₁ I.ready.making.work.marks x m.node,
         eq-eqb
-            (at w₁ W_MARK (k - 1)) 1 m.mark,
+            (at w₁ W_MARK x) 1 m.mark,
       )
 
-  module _ {r : Bool} {c₂ w₂ : List ℕ}
-      (X : Steps (λ s. mint_selectors s (app_at (context c₁) p, app_at (context c₁) (k - 1))) c₁ e w₁ r c₂ w₂) where
-    pub along_terms : r ≡ true → TwoTerms c₂ p (k - 1)
+  module _ {r : Stepped} {c₂ w₂ : List ℕ}
+      (X : Steps (λ s. mint_selectors s (app_at (context c₁) p, app_at (context c₁) x)) c₁ e w₁ r c₂ w₂) where
+    pub along_terms : r ≡ Ok tt → TwoTerms c₂ p x
     along_terms t =
-        let X' = subst (λ (z : Bool). Steps pair c₁ e w₁ z c₂ w₂) t X in
+        let X' = subst (λ (z : Stepped). Steps pair c₁ e w₁ z c₂ w₂) t X in
         let M = X'.moves.making.work.marks in
         record {
           core = X'.moves.making.core;
           first = marked_app_within (context c₂) w₂ M p (X'.marks refl p I.lower);
-          second = marked_app_within (context c₂) w₂ M (k - 1) (X'.marks refl (k - 1) (I.app n));
+          second = marked_app_within (context c₂) w₂ M x (X'.marks refl x at_hand);
         }
 
-    -- the selectors on p that were known stay, or they were made for k - 1
-    along_has : {next : Bool} → r ≡ true → KnownAfter (context c₂) p (k - 1) known next → next ≡ true →
+    -- the selectors on p that were known stay, or they were made for x
+    along_has : {next : Bool} → r ≡ Ok tt → KnownAfter (context c₂) p x known next → next ≡ true →
         AllSelected (context c₂) (work_marks w₂) (symbol_of (context c₂) p) p
     unfolding same_constructor equal state_with
     along_has t after d = go (after d)
       where
-        X' : Steps pair c₁ e w₁ true c₂ w₂
-        X' = subst (λ (z : Bool). Steps pair c₁ e w₁ z c₂ w₂) t X
+        X' : Steps pair c₁ e w₁ (Ok tt) c₂ w₂
+        X' = subst (λ (z : Stepped). Steps pair c₁ e w₁ z c₂ w₂) t X
 
         marked : MarksAre (context c₁) w₁ W_MARK
         marked = I.ready.making.work.marks
@@ -780,28 +778,28 @@ module _ {p : ℕ} {c e w c₁ w₁ : List ℕ} {known : Bool} {k : ℕ} (I : Al
         here : symbol_of (context c₂) p ≡ symbol_of (context c₁) p
         here = symbol_kept p I.lower
 
-        go : (known ≡ true) ⊎ (symbol_of (context c₂) p ≡ symbol_of (context c₂) (k - 1)) →
+        go : (known ≡ true) ⊎ (symbol_of (context c₂) p ≡ symbol_of (context c₂) x) →
             AllSelected (context c₂) (work_marks w₂) (symbol_of (context c₂) p) p
         go (inl b) =
             subst⁻¹ (λ (z : ℕ). AllSelected (context c₂) (work_marks w₂) z p) here
-            (all_kept X' (λ S g x H. pair_keeps S (app_at (context c₁) p) (app_at (context c₁) (k - 1)) g x H)
+            (all_kept X' (λ S g y H. pair_keeps S (app_at (context c₁) p) (app_at (context c₁) x) g y H)
             (symbol_of (context c₁) p) p (I.has b))
         go (inr b) = λ f i.
-            let s = sym here ∙ b ∙ symbol_kept (k - 1) (I.app n) in
+            let s = sym here ∙ b ∙ symbol_kept x at_hand in
             let kept = dt_selectors_kept (context c₁) (context c₂) X'.moves.extends (symbol_of (context c₁) p) in
             let j = subst (λ (fs : List ℕ). In f fs) (ap (dt_selectors (context c₂)) here ∙ kept) i in
             steps_give X' f p
-            (pair_gives (state_at c₁ e [] w₁ (λ z. 0)) (app_at (context c₁) p) (app_at (context c₁) (k - 1))
-            (rw (eq-eqb (symbol_of (context c₁) p) (symbol_of (context c₁) (k - 1)) s, I.class n)) f j).0
+            (pair_gives (state_at c₁ e [] w₁ (λ z. 0)) (app_at (context c₁) p) (app_at (context c₁) x)
+            (rw (eq-eqb (symbol_of (context c₁) p) (symbol_of (context c₁) x) s, I.class x n)) f j).0
 
-    pub along_next : {next : Bool} {j : ℕ} → r ≡ true → KnownAfter (context c₂) p (k - 1) known next → j ≡ at w₂ NEXT (k - 1) →
+    pub along_next : {next : Bool} {j : ℕ} → r ≡ Ok tt → KnownAfter (context c₂) p x known next → j ≡ at w₂ NEXT x →
         Along p c e w c₂ w₂ next j
     along_next {next} {j} t after g =
-        let X' = subst (λ (z : Bool). Steps pair c₁ e w₁ z c₂ w₂) t X in
-        let m = X'.marks refl (k - 1) (I.app n) in
+        let X' = subst (λ (z : Stepped). Steps pair c₁ e w₁ z c₂ w₂) t X in
+        let m = X'.marks refl x at_hand in
         let ready : Injectable c₂ e w₂ = record { making = X'.moves.making; chain = X'.moves.chain I.ready.chain } in
-        let W = next_is ready (k - 1) j m g in
-        let l = (I.app n).node in
+        let W = next_is ready x j m g in
+        let l = at_hand.node in
         let same = app_same (context c₁) (context c₂) w₁ w₂ X'.moves.extends I.ready.making.work.marks
         X'.moves.making.work.marks p
         (marked_app_within (context c₁) w₁ I.ready.making.work.marks p I.lower) in
@@ -809,29 +807,29 @@ module _ {p : ℕ} {c e w c₁ w₁ : List ℕ} {known : Bool} {k : ℕ} (I : Al
           ready = ready;
           lower = X'.marks refl p I.lower;
           app = W.app;
-          class = λ z. class_carries (merges e) p (k - 1) (j - 1) (I.class n) ∙ W.passes z;
+          class = λ y z. class_carries (merges e) p x y (I.class x n) ∙ W.passes y z;
           has = along_has t after;
           way = onway_next I.way others (λ s. select_with (app_at (context c₂) p) (rest_from (context c₂) w₂ j) s) X'
               (λ s lv. unpaired (state_at c₁ e s w₁ lv))
-              (λ s lv. rw (sym same, sym (X'.apps refl (suc (k - 1)) (omega arith))) (skip ready s lv p (k - 1) j m (I.class n) g));
+              (λ s lv. rw (sym same, sym (X'.apps refl (suc x) (omega arith))) (skip ready s lv p x j m (I.class x n) g));
         }
 
-    pub along_less : {j : ℕ} → r ≡ true → j ≡ at w₂ NEXT (k - 1) → (max_terms + 1 - j) % 1025 < (max_terms + 1 - k) % 1025
+    pub along_less : {j : ℕ} → r ≡ Ok tt → j ≡ at w₂ NEXT x → (max_terms + 1 - j) % 1025 < (max_terms + 1 - k) % 1025
     along_less {j} t g =
-        let X' = subst (λ (z : Bool). Steps pair c₁ e w₁ z c₂ w₂) t X in
-        let m = X'.marks refl (k - 1) (I.app n) in
+        let X' = subst (λ (z : Stepped). Steps pair c₁ e w₁ z c₂ w₂) t X in
+        let m = X'.marks refl x at_hand in
         let ready : Injectable c₂ e w₂ = record { making = X'.moves.making; chain = X'.moves.chain I.ready.chain } in
-        word_less (context c₂) w₂ ready.making.work.marks (λ (b : CtorApp). are_equal (merges e) (k - 1) b.app) k j
-        (next_is ready (k - 1) j m g) n (I.app n).node
+        rw n (word_less (context c₂) w₂ ready.making.work.marks (λ (b : CtorApp). are_equal (merges e) x b.app) x j
+        (next_is ready x j m g) at_hand.node)
 
-    pub along_stop : r ≡ false → Steps (select_from (context c) w p) c e w false c₂ w₂
+    pub along_stop : r ≡ Err (record {}) → Steps (select_from (context c) w p) c e w (Err (record {})) c₂ w₂
     along_stop t =
-        let X' = subst (λ (z : Bool). Steps pair c₁ e w₁ z c₂ w₂) t X in
-        onway_stop I.way others (with_onward (app_at (context c₁) p) (apps_from (context c₁) w₁ (suc (k - 1)))) X'
+        let X' = subst (λ (z : Stepped). Steps pair c₁ e w₁ z c₂ w₂) t X in
+        onway_stop I.way others (with_onward (app_at (context c₁) p) (apps_from (context c₁) w₁ (suc x))) X'
         (λ s lv. unpaired (state_at c₁ e s w₁ lv))
 
 pub along_done : {p : ℕ} {c e w c₁ w₁ : List ℕ} {known : Bool} {k : ℕ} → Along p c e w c₁ w₁ known k → k ≡ 0 →
-    Steps (select_from (context c) w p) c e w true c₁ w₁
+    Steps (select_from (context c) w p) c e w (Ok tt) c₁ w₁
 unfolding rest_from select_with
 along_done I z = onway_done I.way (λ s lv. rw z)
 
@@ -846,7 +844,7 @@ from_keeps cx w p S g x H = go (eqb (at w W_MARK p) 1)
     go false = H
 
 module _ {c₁ e w₁ c₂ w₂ : List ℕ} {p : ℕ} (M : MarksAre (context c₁) w₁ W_MARK) (M₂ : MarksAre (context c₂) w₂ W_MARK)
-    (D : SelectedBelow c₁ e w₁ p) (X : Steps (select_from (context c₁) w₁ p) c₁ e w₁ true c₂ w₂) where
+    (D : SelectedBelow c₁ e w₁ p) (X : Steps (select_from (context c₁) w₁ p) c₁ e w₁ (Ok tt) c₂ w₂) where
   abbrev before : State
   before = state_at c₁ e [] w₁ (λ i. 0)
 
@@ -968,10 +966,10 @@ module _ {c e w c₁ w₁ : List ℕ} {n p : ℕ} (I : Scan c e w c₁ w₁ n p)
           (pairs (apps_from (context c₁) w₁ (suc p))) S
       go false = refl
 
-  module _ {r : Bool} {c₂ w₂ : List ℕ} (l : p < n) (X : Steps (select_from (context c₁) w₁ p) c₁ e w₁ r c₂ w₂) where
-    pub scan_next : r ≡ true → Scan c e w c₂ w₂ n (p + 1)
+  module _ {r : Stepped} {c₂ w₂ : List ℕ} (l : p < n) (X : Steps (select_from (context c₁) w₁ p) c₁ e w₁ r c₂ w₂) where
+    pub scan_next : r ≡ Ok tt → Scan c e w c₂ w₂ n (p + 1)
     scan_next t =
-        let X' = subst (λ (z : Bool). Steps (select_from (context c₁) w₁ p) c₁ e w₁ z c₂ w₂) t X in
+        let X' = subst (λ (z : Stepped). Steps (select_from (context c₁) w₁ p) c₁ e w₁ z c₂ w₂) t X in
         let d : p + 1 ≡ suc p = omega arith in
         let k = I.nodes in
         let g = I.terms in
@@ -989,10 +987,10 @@ module _ {c e w c₁ w₁ : List ℕ} {n p : ℕ} (I : Scan c e w c₁ w₁ n p)
               (λ s lv. rw (d, X'.apps refl (suc p) (omega arith)));
         }
 
-    pub scan_stop : r ≡ false → Injects c e w TCheck.TheVariants.NoRoom c₂ w₂
+    pub scan_stop : r ≡ Err (record {}) → Injects c e w (Err (record {})) c₂ w₂
     unfolding pass
     scan_stop t =
-        let X' = subst (λ (z : Bool). Steps (select_from (context c₁) w₁ p) c₁ e w₁ z c₂ w₂) t X in
+        let X' = subst (λ (z : Stepped). Steps (select_from (context c₁) w₁ p) c₁ e w₁ z c₂ w₂) t X in
         let Y = onway_stop I.way later
         (fold_onward (λ (z : State). z) mint_selectors mint_selectors_onward (pairs (apps_from (context c₁) w₁ (suc p))))
         X' (λ s lv. by_first l (state_at c₁ e s w₁ lv)) in
@@ -1007,7 +1005,7 @@ module _ {c e w c₁ w₁ : List ℕ} {n p : ℕ} (I : Scan c e w c₁ w₁ n p)
           chain = Y.moves.chain I.begun;
         }
 
-  pub scan_done : n ≤ p → Injects c e w TCheck.TheVariants.Sat c₁ w₁
+  pub scan_done : n ≤ p → Injects c e w (Ok tt) c₁ w₁
   unfolding pairs
   scan_done l =
       let d : p ≡ n = let h = I.within in omega arith in

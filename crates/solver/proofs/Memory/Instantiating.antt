@@ -1,6 +1,6 @@
 -- Guarded instantiation. The selectors are made one by one: what the definition makes of all of them is what it makes of the rest, from
 -- the numbers noted so far on.
-use Rattle.shinri_core.proofs.Kit.{inl, inr, ℕ, zero, suc, ◌+◌, ◌-◌, ◌≤◌, ◌<◌, ◌≡◌, refl, sym, ap, ◌∙◌, subst, subst⁻¹, Bool, true, false, cond, List, [], ◌∷◌, ◌++◌, map, foldl, none, some, Option, add-zero, add-one, arith, eqb, length, get_or, take, set, nil≢cons, cons≢nil, tail-eq_of_cons-eq, length-set, length-take-le}
+use Rattle.shinri_core.proofs.Kit.{inl, inr, ℕ, zero, suc, ◌+◌, ◌-◌, ◌≤◌, ◌<◌, ◌≡◌, refl, sym, ap, ◌∙◌, subst, subst⁻¹, Bool, true, false, cond, List, [], ◌∷◌, ◌++◌, map, foldl, none, some, Option, add-zero, add-one, arith, eqb, length, get_or, take, set, nil≢cons, cons≢nil, tail-eq_of_cons-eq, length-set, length-take-le, true≢false, false≢true}
 use lib.Seq.{take-suc-set}
 use Rattle.shinri_core.specs.Limits.{max_symbols, max_terms}
 use Rattle.shinri_core.specs.Ids.{lit, negate}
@@ -14,7 +14,6 @@ use Rattle.shinri_core.specs.declared.term.Op as GivenOp
 use Rattle.shinri_core.specs.declared.term.DtRole as GivenRole
 use Rattle.shinri_core.specs.declared.ids.SymbolId.{SymbolId}
 use Rattle.shinri_core.specs.Memory.Table.{context, AllBelow, MayEquate}
-use Rattle.shinri_core.specs.declared.context.Made as Made
 use Rattle.shinri_core.specs.declared.ids.TermId.{TermId}
 use Rattle.shinri_core.specs.declared.ids.Var.{Var}
 use Rattle.shinri_core.specs.declared.ids.Lit.{Lit}
@@ -22,17 +21,15 @@ use Rattle.shinri_core.proofs.Memory.Counted.{counted_in}
 use Rattle.theory.specs.Atom.{Registered, var_of, var_of_atom}
 use Rattle.theory.specs.Memory.Answer.{answer_size}
 use Rattle.theory.specs.Memory.Registry.{registry_size, vars#, registered_at, atoms, first_var_meaning}
-use Rattle.theory.specs.declared.atom.FirstVar as FirstVar
 use Rattle.solver.specs.State.{State, MadeIn, ctor_apps, equal, ctor_of_class, mint}
 use Rattle.solver.specs.Rules.{Ruled, pass, answered, go_on, then, try_each, instantiate_constructor, instantiate, instantiate_at, Fields, mint_field, mint_fields, make_eq, equate_with, guard, hand_out, hand_out_made}
 use Rattle.solver.specs.declared.answer.TCheck as TCheck
-use Rattle.solver.specs.declared.answer.Guard as Guard
-use Rattle.solver.specs.declared.work.CtorOf as CtorOf
+use Rattle.std.specs.Prelude.{Option as GivenOption, Some, None, Ok, Err, is_some as given_some}
 use Rattle.solver.specs.Records.{is_some}
 use Rattle.solver.specs.Memory.Table.{LASTING, registry, is_set, flagged_from, dt_with, state_with, SolverSound}
-use Rattle.solver.specs.Memory.Work.{state_at, CheckSound, apps_from, first_in_class, CtorAsked, ctor_meaning, CtorOfClass}
-use Rattle.solver.specs.Memory.Answer.{Outcome, Tried, listed, guard_meaning}
-use Rattle.solver.specs.Memory.Making.{HandsOut, Making, Makeable, Equatable, MadeOutcome, MadeWithin, MakesTerm}
+use Rattle.solver.specs.Memory.Work.{state_at, CheckSound, apps_from, first_in_class, CtorAsked, ctor_meaning, CtorOfClass, CtorOf}
+use Rattle.solver.specs.Memory.Answer.{Outcome, Tried, listed, guard_meaning, RuleAnswer}
+use Rattle.solver.specs.Memory.Making.{HandsOut, Making, Makeable, Equatable, MadeOutcome, MadeWithin, MakesTerm, Made}
 use Rattle.solver.specs.Memory.Instantiation.{mint_over, instantiation, instantiate_term, instantiate_flagged, TermAsked, Coverable, Covers, Guardable, Guards, Instantiable}
 use Rattle.solver.proofs.Basics.{none_some, some_is, first_some}
 use Rattle.solver.proofs.Terms.{Below, app, extends_self, extends_then, extends_length, extends_symbol, extends_sort_of}
@@ -46,7 +43,7 @@ use Rattle.solver.proofs.Memory.Flags.{has, flagged_step, flagged_none}
 use Rattle.shinri_core.proofs.Lists.{not_true_false}
 use Rattle.shinri_core.specs.Memory.Words.{at}
 
-not_made : (y : TermId) → Made.TheVariants.NoRoom ≡ Made.TheVariants.At y → ⊥
+not_made : (y : TermId) → ◌≡◌ {A = Made} (Err (record {})) (Ok y) → ⊥
 not_made y q = let z : ◌≡◌ {A = ℕ} 0 1 = cc in omega arith
 
 -- ---- the selectors
@@ -145,15 +142,15 @@ module _
           let j : suc (f + 2 + i) ≡ f + 2 + (i + 1) = omega arith in
           rw (k, j)
 
-      module _ {P : Type 0} {r : Made.Made} {c' w' : List ℕ} (M : MakesTerm (λ s. mint s (f + 2 + i) (a ∷ [])) P c e w r c' w') where
+      module _ {P : Type 0} {r : Made} {c' w' : List ℕ} (M : MakesTerm (λ s. mint s (f + 2 + i) (a ∷ [])) P c e w r c' w') where
         -- what was made, in the definition
-        made_as : {q : Made.Made} → r ≡ q → (s : List ℕ) (lv : ℕ → ℕ) →
+        made_as : {q : Made} → r ≡ q → (s : List ℕ) (lv : ℕ → ℕ) →
             MadeOutcome q (mint (state_at c e s w lv) (f + 2 + i) (a ∷ [])) (state_at c' e s w' lv)
         made_as k s lv =
-            subst (λ (y : Made.Made). MadeOutcome y (mint (state_at c e s w lv) (f + 2 + i) (a ∷ [])) (state_at c' e s w' lv)) k
+            subst (λ (y : Made). MadeOutcome y (mint (state_at c e s w lv) (f + 2 + i) (a ∷ [])) (state_at c' e s w' lv)) k
             (M.outcome s lv)
 
-        made_term : {y : TermId} → r ≡ Made.TheVariants.At y → term (context c') y.0 ≡ app (Term.Uninterpreted (f + 2 + i)) (a ∷ [])
+        made_term : {y : TermId} → r ≡ Ok y → term (context c') y.0 ≡ app (Term.Uninterpreted (f + 2 + i)) (a ∷ [])
         unfolding state_with
         made_term k =
             let u = state_at c e [] w (λ j. j) in
@@ -161,7 +158,7 @@ module _
             subst (λ (x : MadeIn). term x.state.terms x.id ≡ app (Term.Uninterpreted (f + 2 + i)) (a ∷ []))
             (made_as k [] (λ j. j)) made.made
 
-        pub cover_next : {y : TermId} → r ≡ Made.TheVariants.At y → length c' ≡ length c → length w' ≡ length w →
+        pub cover_next : {y : TermId} → r ≡ Ok y → length c' ≡ length c → length w' ≡ length w →
             Covering c₀ e w₀ a f n c' w' (set ids i y.0) (i + 1)
         unfolding mint_field
         cover_next {y} k l v =
@@ -180,7 +177,7 @@ module _
               sound = λ s C. M.sound s (t.sound s C);
               selects = rw q (selects_more (context c') a (f + 2) (take i ids) y.0
                   (selects_kept (context c) (context c') a (f + 2) (take i ids) M.extends t.selects)
-                  (subst (λ (x : Made.Made). MadeWithin x (length (context c').terms)) k M.within)
+                  (subst (λ (x : Made). MadeWithin x (length (context c').terms)) k M.within)
                   (made_term k ∙ ap (λ (j : ℕ). app (Term.Uninterpreted j) (a ∷ [])) (sym at)));
               rest = λ s lv.
                   t.rest s lv
@@ -192,7 +189,7 @@ module _
             }
 
         -- the field does not fit, so nothing that follows does
-        unmade : r ≡ Made.TheVariants.NoRoom → MakesTerm (mint_over a f) ⊥ c₀ e w₀ Made.TheVariants.NoRoom c' w'
+        unmade : r ≡ Err (record {}) → MakesTerm (mint_over a f) ⊥ c₀ e w₀ (Err (record {})) c' w'
         unmade k = record {
           sound = λ s C. M.sound s (t.sound s C);
           making = M.making;
@@ -217,7 +214,7 @@ module _
                 terms_fit (mint_field a (record { ids = take i ids; state = state_at c e s w lv }) (f + 2 + i)).state.terms ≡ false
             lacks s lv = unfold mint_field in made_as k s lv
 
-        pub cover_lacks : r ≡ Made.TheVariants.NoRoom → Covers c₀ e w₀ a f Made.TheVariants.NoRoom c' w'
+        pub cover_lacks : r ≡ Err (record {}) → Covers c₀ e w₀ a f (Err (record {})) c' w'
         cover_lacks k = record {
           makes = unmade k;
           result = λ y q. absurd (not_made y q);
@@ -245,7 +242,7 @@ module _
       pub over_role : (symbol (context c) f).role ≡ Function → ⊥
       over_role q = constructor_function (sym ctor ∙ q)
 
-      module _ {P : Type 0} {r : Made.Made} {c' w' : List ℕ} (M : MakesTerm (λ s. mint s f (take n ids)) P c e w r c' w') where
+      module _ {P : Type 0} {r : Made} {c' w' : List ℕ} (M : MakesTerm (λ s. mint s f (take n ids)) P c e w r c' w') where
         over_made : MakesTerm (mint_over a f) ⊥ c₀ e w₀ r c' w'
         unfolding range
         over_made = record {
@@ -264,14 +261,14 @@ module _
           chain = λ x. absurd x;
         }
 
-        over_term : (y : TermId) → r ≡ Made.TheVariants.At y → term (context c') y.0 ≡ app (Term.Uninterpreted f) (take n ids)
+        over_term : (y : TermId) → r ≡ Ok y → term (context c') y.0 ≡ app (Term.Uninterpreted f) (take n ids)
         unfolding state_with
         over_term y k =
             let u = state_at c e [] w (λ j. j) in
             let made = mint_makes u f (take n ids) t.making.formed
             (all_below (length (context c).terms) (take n ids) over_makeable.terms) over_makeable.agree in
             subst (λ (x : MadeIn). term x.state.terms x.id ≡ app (Term.Uninterpreted f) (take n ids))
-            (subst (λ (x : Made.Made). MadeOutcome x (mint u f (take n ids)) (state_at c' e [] w' (λ j. j))) k (M.outcome [] (λ j. j)))
+            (subst (λ (x : Made). MadeOutcome x (mint u f (take n ids)) (state_at c' e [] w' (λ j. j))) k (M.outcome [] (λ j. j)))
             made.made
 
         pub cover_done : Covers c₀ e w₀ a f r c' w'
@@ -295,11 +292,11 @@ var_in rs x v e = go (first (λ (r : Registered). eqb r.atom x) rs) refl e
     go (some r) p q = (r, (first_some (λ (y : Registered). eqb y.atom x) rs r p).0, some_is r.var v q)
 
 module _
-    {s : List ℕ} {x y : ℕ} {o : List ℕ} (z : Guardable s x y o) {f : FirstVar.FirstVar}
+    {s : List ℕ} {x y : ℕ} {o : List ℕ} (z : Guardable s x y o) {f : GivenOption Var}
     (F : first_var_meaning f ≡ var_of_atom (atoms (registry s)) x)
   where
     -- a registered variable is small
-    pub var_small : {v : Var} → f ≡ FirstVar.TheVariants.At v → v.0 < 2147483648
+    pub var_small : {v : Var} → f ≡ Some v → v.0 < 2147483648
     unfolding first_var_meaning atoms
     var_small {v} k =
         let (r, i, e) = var_in (atoms (registry s)) x v.0 (sym F ∙ ap first_var_meaning k) in
@@ -308,7 +305,7 @@ module _
         let d = ap (λ (a : Registered). a.var) q in
         omega arith
 
-    pub guard_none : {u : List ℕ} → f ≡ FirstVar.TheVariants.Nothing → Guards s x y TCheck.TheVariants.Sat s u
+    pub guard_none : {u : List ℕ} → f ≡ None → Guards s x y TCheck.TheVariants.Sat s u
     unfolding first_var_meaning guard
     guard_none k = record {
       sound = λ c e w C. C;
@@ -316,22 +313,20 @@ module _
           ap (λ (v : Option ℕ). guard v (record { id = y; state = state_at c e s w lv })) (sym F ∙ ap first_var_meaning k);
       readable = tt;
       unchanged = λ n. refl;
-      no_refusal = λ n. let i : ◌≡◌ {A = ℕ} 0 1 = cc in omega arith;
     }
 
-    pub guard_some : {v : Var} {l k : Lit} {r : TCheck.TCheck} {s' u : List ℕ} → f ≡ FirstVar.TheVariants.At v → k.0 ≡ lit v.0 true →
-        l.0 ≡ negate k.0 → HandsOut y (Guard.TheVariants.At l) s r s' u → Guards s x y r s' u
+    pub guard_some : {v : Var} {l k : Lit} {r : TCheck.TCheck} {s' u : List ℕ} → f ≡ Some v → k.0 ≡ lit v.0 true →
+        l.0 ≡ negate k.0 → HandsOut y (Some l) s r s' u → Guards s x y r s' u
     unfolding first_var_meaning guard hand_out_made guard_meaning listed
     guard_some {v} {l} {k} {r} {s'} {u} i p q H = record {
       sound = H.sound;
       outcome = λ c e w lv.
-          subst⁻¹ (λ (a : Option ℕ). Outcome r (guard a (record { id = y; state = state_at c e s w lv })) (state_at c e s' w lv) u)
+          subst⁻¹ (λ (a : Option ℕ). Outcome (Ok r) (guard a (record { id = y; state = state_at c e s w lv })) (state_at c e s' w lv) u)
           (sym F ∙ ap first_var_meaning i)
-          (subst (λ (a : ℕ). Outcome r (hand_out y (a ∷ []) (state_at c e s w lv)) (state_at c e s' w lv) u) (q ∙ ap negate p)
+          (subst (λ (a : ℕ). Outcome (Ok r) (hand_out y (a ∷ []) (state_at c e s w lv)) (state_at c e s' w lv) u) (q ∙ ap negate p)
           (H.outcome c e w lv));
       readable = H.readable;
       unchanged = H.unchanged;
-      no_refusal = H.no_refusal;
     }
 
 -- ---- a term instantiated
@@ -351,14 +346,14 @@ module _ {c e s w : List ℕ} {x f a : ℕ} {o : List ℕ} (z : Instantiable c e
     agree = z.agree;
   }
 
-  module _ {r : Made.Made} {c' w' : List ℕ} (K : Covers c e w a f r c' w') where
+  module _ {r : Made} {c' w' : List ℕ} (K : Covers c e w a f r c' w') where
     -- the application, in the definition
-    over_as : {q : Made.Made} → r ≡ q → (lv : ℕ → ℕ) → MadeOutcome q (mint_over a f (state_at c e s w lv)) (state_at c' e s w' lv)
+    over_as : {q : Made} → r ≡ q → (lv : ℕ → ℕ) → MadeOutcome q (mint_over a f (state_at c e s w lv)) (state_at c' e s w' lv)
     over_as k lv =
-        subst (λ (y : Made.Made). MadeOutcome y (mint_over a f (state_at c e s w lv)) (state_at c' e s w' lv)) k (K.makes.outcome s lv)
+        subst (λ (y : Made). MadeOutcome y (mint_over a f (state_at c e s w lv)) (state_at c' e s w' lv)) k (K.makes.outcome s lv)
 
     -- it does not fit
-    pub over_lacks : {u : List ℕ} → r ≡ Made.TheVariants.NoRoom → Tried (instantiation x f a) c e s w TCheck.TheVariants.NoRoom c' s w' u
+    pub over_lacks : {u : List ℕ} → r ≡ Err (record {}) → Tried (instantiation x f a) c e s w (Err (record {})) c' s w' u
     over_lacks k = record {
       sound = K.makes.sound s z.check;
       extends = K.makes.extends;
@@ -371,7 +366,7 @@ module _ {c e s w : List ℕ} {x f a : ℕ} {o : List ℕ} (z : Instantiable c e
       readable = tt;
     }
 
-    module _ {y : TermId} (k : r ≡ Made.TheVariants.At y) where
+    module _ {y : TermId} (k : r ≡ Ok y) where
       pub equatable : Equatable c' e w' a y.0
       equatable =
           let l = extends_length (context c) (context c') K.makes.extends in
@@ -379,7 +374,7 @@ module _ {c e s w : List ℕ} {x f a : ℕ} {o : List ℕ} (z : Instantiable c e
           record {
             making = K.makes.making;
             first = omega arith;
-            second = subst (λ (q : Made.Made). MadeWithin q (length (context c').terms)) k K.makes.within;
+            second = subst (λ (q : Made). MadeWithin q (length (context c').terms)) k K.makes.within;
             agree =
                 extends_sort_of (context c) (context c') a K.makes.extends z.within
                 ∙ z.agree
@@ -390,25 +385,25 @@ module _ {c e s w : List ℕ} {x f a : ℕ} {o : List ℕ} (z : Instantiable c e
       pub may_equate_over : MayEquate c' a y.0
       may_equate_over = may_equate equatable
 
-      module _ {q : Made.Made} {c'' : List ℕ} (E : MkApp c' Term.Eq (a ∷ y.0 ∷ []) q c'') where
+      module _ {q : Made} {c'' : List ℕ} (E : MkApp c' Term.Eq (a ∷ y.0 ∷ []) q c'') where
         M : MakesTerm (λ u. make_eq u a y.0) (Unit {0}) c' e w' q c'' w'
         M = made_eq equatable E
 
         -- the equation, in the definition
-        eq_as : {p : Made.Made} → q ≡ p → (lv : ℕ → ℕ) →
+        eq_as : {p : Made} → q ≡ p → (lv : ℕ → ℕ) →
             MadeOutcome p (equate_with a (mint_over a f (state_at c e s w lv))) (state_at c'' e s w' lv)
         unfolding equate_with
         eq_as {p} i lv =
             subst⁻¹ (λ (m : MadeIn). MadeOutcome p (make_eq m.state a m.id) (state_at c'' e s w' lv)) (over_as k lv)
-            (subst (λ (v : Made.Made). MadeOutcome v (make_eq (state_at c' e s w' lv) a y.0) (state_at c'' e s w' lv)) i
+            (subst (λ (v : Made). MadeOutcome v (make_eq (state_at c' e s w' lv) a y.0) (state_at c'' e s w' lv)) i
             (M.outcome s lv))
 
         both : Extends (context c) (context c'')
         both = extends_then (context c) (context c') (context c'') K.makes.extends M.extends
 
         -- it does not fit
-        pub eq_lacks : {u : List ℕ} → q ≡ Made.TheVariants.NoRoom →
-            Tried (instantiation x f a) c e s w TCheck.TheVariants.NoRoom c'' s w' u
+        pub eq_lacks : {u : List ℕ} → q ≡ Err (record {}) →
+            Tried (instantiation x f a) c e s w (Err (record {})) c'' s w' u
         eq_lacks i = record {
           sound = M.sound s (K.makes.sound s z.check);
           extends = both;
@@ -420,23 +415,23 @@ module _ {c e s w : List ℕ} {x f a : ℕ} {o : List ℕ} (z : Instantiable c e
           readable = tt;
         }
 
-        module _ {v : TermId} (i : q ≡ Made.TheVariants.At v) where
+        module _ {v : TermId} (i : q ≡ Ok v) where
           pub guardable : Guardable s x v.0 o
           guardable =
-              let l = subst (λ (p : Made.Made). MadeWithin p (length (context c'').terms)) i M.within in
+              let l = subst (λ (p : Made). MadeWithin p (length (context c'').terms)) i M.within in
               let n = M.making.core.term_count in
               let m = M.making.core.terms_fit in
               record { solver = z.check.state.solver; atom = z.atom; lemma = omega arith; long = z.long }
 
-          pub guarded : {g : TCheck.TCheck} {s' u : List ℕ} → Guards s x v.0 g s' u → Tried (instantiation x f a) c e s w g c'' s' w' u
+          pub guarded : {g : TCheck.TCheck} {s' u : List ℕ} → Guards s x v.0 g s' u → Tried (instantiation x f a) c e s w (Ok g) c'' s' w' u
           unfolding state_with
           guarded {g} {s'} {u} G = record {
             sound = G.sound c'' e w' (M.sound s (K.makes.sound s z.check));
             extends = both;
             outcome = λ lv.
-                subst⁻¹ (λ (m : MadeIn). Outcome g (guard (var_of_atom (atoms (registry s)) x) m) (state_at c'' e s' w' lv) u) (eq_as i lv)
+                subst⁻¹ (λ (m : MadeIn). Outcome (Ok g) (guard (var_of_atom (atoms (registry s)) x) m) (state_at c'' e s' w' lv) u) (eq_as i lv)
                 (G.outcome c'' e w' lv);
-            unchanged = G.unchanged;
+            unchanged = λ q. G.unchanged (λ d. q (ap Ok d));
             readable = G.readable;
           }
 
@@ -445,15 +440,15 @@ module _ {c e s w : List ℕ} {x f a : ℕ} {o : List ℕ} (z : Instantiable c e
 -- the rule at a term that is no tester application, or whose class has an application
 module _ {c e s w : List ℕ} (C : CheckSound c e s w) (x : ℕ) where
   pass_term : {u : List ℕ} → ((lv : ℕ → ℕ) → instantiate_term x (state_at c e s w lv) ≡ pass (state_at c e s w lv)) →
-      Tried (instantiate_term x) c e s w TCheck.TheVariants.Sat c s w u
+      Tried (instantiate_term x) c e s w (Ok TCheck.TheVariants.Sat) c s w u
   pass_term h = record { sound = C; extends = extends_self (context c); outcome = h; unchanged = λ n. refl; readable = tt }
 
-  no_tester : {u : List ℕ} → tester_app (context c) x ≡ none → Tried (instantiate_term x) c e s w TCheck.TheVariants.Sat c s w u
+  no_tester : {u : List ℕ} → tester_app (context c) x ≡ none → Tried (instantiate_term x) c e s w (Ok TCheck.TheVariants.Sat) c s w u
   unfolding instantiate_at state_with
   no_tester q = pass_term (λ lv. ap (λ (o : Option TesterApp). instantiate_at o (state_at c e s w lv)) q)
 
   module _ {r : GivenOp.Op} (O : OpAt c x r) where
-    pub at_equation : {u : List ℕ} → r ≡ GivenOp.TheVariants.Eq → Tried (instantiate_term x) c e s w TCheck.TheVariants.Sat c s w u
+    pub at_equation : {u : List ℕ} → r ≡ GivenOp.TheVariants.Eq → Tried (instantiate_term x) c e s w (Ok TCheck.TheVariants.Sat) c s w u
     unfolding tester_app tester_by_op op_meaning
     at_equation q = no_tester (ap (λ (o : Term.Op). tester_by_op (context c) x o (children (context c) x)) (sym O.is ∙ ap op_meaning q))
 
@@ -473,20 +468,17 @@ module _ {c e s w : List ℕ} (C : CheckSound c e s w) (x : ℕ) where
       by_role ρ p = rw (applied, p)
 
       module _ {d : GivenRole.DtRole} (R : RoleAt c g.0 d) where
-        pub at_constructor : {u : List ℕ} → d ≡ GivenRole.TheVariants.Constructor →
-            Tried (instantiate_term x) c e s w TCheck.TheVariants.Sat c s w u
+        pub at_other : {u : List ℕ} → ((f : SymbolId) → d ≡ GivenRole.TheVariants.Tester f → ⊥) →
+            Tried (instantiate_term x) c e s w (Ok TCheck.TheVariants.Sat) c s w u
         unfolding role_meaning tester_by_role
-        at_constructor p = no_tester (by_role Constructor (sym R.is ∙ ap role_meaning p))
-
-        pub at_selector : {u : List ℕ} {h : SymbolId} {i : ℕ} → d ≡ GivenRole.TheVariants.Selector h i →
-            Tried (instantiate_term x) c e s w TCheck.TheVariants.Sat c s w u
-        unfolding role_meaning tester_by_role
-        at_selector {h = h} {i} p = no_tester (by_role (Selector h.0 i) (sym R.is ∙ ap role_meaning p))
-
-        pub at_function : {u : List ℕ} → d ≡ GivenRole.TheVariants.Function →
-            Tried (instantiate_term x) c e s w TCheck.TheVariants.Sat c s w u
-        unfolding role_meaning tester_by_role
-        at_function p = no_tester (by_role Function (sym R.is ∙ ap role_meaning p))
+        at_other n = no_tester (by_role (role_meaning d) (sym R.is) ∙ go d n)
+          where
+            go : (z : GivenRole.DtRole) → ((f : SymbolId) → z ≡ GivenRole.TheVariants.Tester f → ⊥) →
+                tester_by_role x g.0 (role_meaning z) (children (context c) x) ≡ none
+            go GivenRole.TheVariants.Constructor h = refl
+            go (GivenRole.TheVariants.Tester f) h = absurd (h f refl)
+            go (GivenRole.TheVariants.Selector f i) h = refl
+            go GivenRole.TheVariants.Function h = refl
 
         module _
             {f : SymbolId} (p : d ≡ GivenRole.TheVariants.Tester f) (l : x < length (context c).terms) {ch : List ℕ}
@@ -552,34 +544,28 @@ module _ {c e s w : List ℕ} (C : CheckSound c e s w) (x : ℕ) where
                 }
 
             -- the rule at the term
-            term_rule : (lv : ℕ → ℕ) (a : CtorOf.CtorOf) → CtorOfClass c e w (get_or ch 0 0) a →
+            term_rule : (lv : ℕ → ℕ) (a : CtorOf) → CtorOfClass c e w (get_or ch 0 0) a →
                 instantiate_term x (state_at c e s w lv)
                 ≡ cond (is_some (ctor_meaning (context c) a)) (pass (state_at c e s w lv))
                 (instantiation x f.0 (get_or ch 0 0) (state_at c e s w lv))
             unfolding instantiate_at instantiate ctor_of_class ctor_apps equal state_with dt_with first_in_class apps_from
             term_rule lv a K = rw (found, ← K.is)
 
-            pub at_determined : {u : List ℕ} {a : CtorOf.CtorOf} {h : SymbolId} {y : TermId} → CtorOfClass c e w (get_or ch 0 0) a →
-                a ≡ CtorOf.TheVariants.At h y → Tried (instantiate_term x) c e s w TCheck.TheVariants.Sat c s w u
+            pub at_determined : {u : List ℕ} (a : CtorOf) → CtorOfClass c e w (get_or ch 0 0) a → given_some a ≡ true →
+                Tried (instantiate_term x) c e s w (Ok TCheck.TheVariants.Sat) c s w u
             unfolding ctor_meaning is_some
-            at_determined {a = a} K k =
-                pass_term (λ lv. term_rule lv a K
-                ∙ ap (λ (b : CtorOf.CtorOf). cond (is_some (ctor_meaning (context c) b)) (pass (state_at c e s w lv))
-                (instantiation x f.0 (get_or ch 0 0) (state_at c e s w lv))) k)
+            at_determined None K q = absurd (false≢true q)
+            at_determined (Some (h, y)) K q = pass_term (λ lv. term_rule lv (Some (h, y)) K)
 
-            pub at_open : {a : CtorOf.CtorOf} {r : TCheck.TCheck} {c' s' w' u : List ℕ} → CtorOfClass c e w (get_or ch 0 0) a →
-                a ≡ CtorOf.TheVariants.Nothing → Tried (instantiation x f.0 (get_or ch 0 0)) c e s w r c' s' w' u →
+            pub at_open : (a : CtorOf) {r : RuleAnswer} {c' s' w' u : List ℕ} → CtorOfClass c e w (get_or ch 0 0) a →
+                given_some a ≡ false → Tried (instantiation x f.0 (get_or ch 0 0)) c e s w r c' s' w' u →
                 Tried (instantiate_term x) c e s w r c' s' w' u
             unfolding ctor_meaning is_some
-            at_open {a} {r} {c'} {s'} {w'} {u} K k T = record {
+            at_open (Some a) K q T = absurd (true≢false q)
+            at_open None {r} {c'} {s'} {w'} {u} K q T = record {
               sound = T.sound;
               extends = T.extends;
-              outcome = λ lv.
-                  subst⁻¹ (λ (z : Ruled). Outcome r z (state_at c' e s' w' lv) u)
-                  (term_rule lv a K
-                  ∙ ap (λ (b : CtorOf.CtorOf). cond (is_some (ctor_meaning (context c) b)) (pass (state_at c e s w lv))
-                  (instantiation x f.0 (get_or ch 0 0) (state_at c e s w lv))) k)
-                  (T.outcome lv);
+              outcome = λ lv. subst⁻¹ (λ (z : Ruled). Outcome r z (state_at c' e s' w' lv) u) (term_rule lv None K) (T.outcome lv);
               unchanged = T.unchanged;
               readable = T.readable;
             }
@@ -588,7 +574,7 @@ module _ {c e s w : List ℕ} (C : CheckSound c e s w) (x : ℕ) where
 
 -- a term by its flag
 module _ {c e s w : List ℕ} {x : ℕ} {o : List ℕ} (z : TermAsked c e s w x o) {k : ℕ} (i : k ≡ at s LASTING x) where
-  pub not_lasting : {u : List ℕ} → k ≡ 0 → Tried (instantiate_flagged s x) c e s w TCheck.TheVariants.Sat c s w u
+  pub not_lasting : {u : List ℕ} → k ≡ 0 → Tried (instantiate_flagged s x) c e s w (Ok TCheck.TheVariants.Sat) c s w u
   unfolding is_set
   not_lasting q = record {
     sound = z.check;
@@ -598,7 +584,7 @@ module _ {c e s w : List ℕ} {x : ℕ} {o : List ℕ} (z : TermAsked c e s w x 
     readable = tt;
   }
 
-  pub lasting : {r : TCheck.TCheck} {c' s' w' u : List ℕ} → (k ≡ 0 → ⊥) → Tried (instantiate_term x) c e s w r c' s' w' u →
+  pub lasting : {r : RuleAnswer} {c' s' w' u : List ℕ} → (k ≡ 0 → ⊥) → Tried (instantiate_term x) c e s w r c' s' w' u →
       Tried (instantiate_flagged s x) c e s w r c' s' w' u
   unfolding is_set
   lasting {r} {c'} {s'} {w'} {u} n T = record {
@@ -615,14 +601,14 @@ module _ {c e s w : List ℕ} {x : ℕ} {o : List ℕ} (z : TermAsked c e s w x 
       go lv (suc j) m = T.outcome lv
 
 -- an answer stays, whatever comes behind it
-answer_then : (r : TCheck.TCheck) (a : Ruled) (next : State → Ruled) (u : State) (o : List ℕ) → (r ≡ TCheck.TheVariants.Sat → ⊥) →
+answer_then : (r : RuleAnswer) (a : Ruled) (next : State → Ruled) (u : State) (o : List ℕ) → (r ≡ Ok TCheck.TheVariants.Sat → ⊥) →
     ((v : State) → Onward v (next v).state) → Outcome r a u o → Outcome r (then a next) u o
 unfolding then answered go_on
-answer_then TCheck.TheVariants.Sat a next u o n h p = absurd (n refl)
-answer_then TCheck.TheVariants.Conflict a next u o n h p = ap (λ (z : Ruled). then z next) p
-answer_then TCheck.TheVariants.Split a next u o n h p = ap (λ (z : Ruled). then z next) p
-answer_then TCheck.TheVariants.Unknown a next u o n h p = ap (λ (z : Ruled). then z next) p
-answer_then TCheck.TheVariants.NoRoom a next u o n h p = then_unfit a next h p
+answer_then (Ok TCheck.TheVariants.Sat) a next u o n h p = absurd (n refl)
+answer_then (Ok TCheck.TheVariants.Conflict) a next u o n h p = ap (λ (z : Ruled). then z next) p
+answer_then (Ok TCheck.TheVariants.Split) a next u o n h p = ap (λ (z : Ruled). then z next) p
+answer_then (Ok TCheck.TheVariants.Unknown) a next u o n h p = ap (λ (z : Ruled). then z next) p
+answer_then (Err d) a next u o n h p = then_unfit a next h p
 
 -- the atoms of the lasting record from x on
 abbrev from_atom : List ℕ → ℕ → State → Ruled
@@ -674,7 +660,7 @@ module _
           let j = t.out_long in
           record { check = t.sound; within = omega arith; long = omega arith }
 
-      module _ {r : TCheck.TCheck} {c' s' w' o' : List ℕ} (K : Tried (instantiate_flagged s x) c e s w r c' s' w' o') where
+      module _ {r : RuleAnswer} {c' s' w' o' : List ℕ} (K : Tried (instantiate_flagged s x) c e s w r c' s' w' o') where
         onward : Extends (context c₀) (context c')
         onward = extends_then (context c₀) (context c) (context c') t.extends K.extends
 
@@ -686,7 +672,7 @@ module _
             ∙ from_step s₀ x (state_at c e s w lv) (omega arith)
             ∙ ap (λ (y : List ℕ). then (instantiate_flagged y x (state_at c e s w lv)) (from_atom s₀ (suc x))) (sym t.same)
 
-        pub go_next : r ≡ TCheck.TheVariants.Sat → length c' ≡ length c → length w' ≡ length w → length o' ≡ length o →
+        pub go_next : r ≡ Ok TCheck.TheVariants.Sat → length c' ≡ length c → length w' ≡ length w → length o' ≡ length o →
             Instantiating c₀ e s₀ w₀ o₀ n c' s' w' o' (x + 1)
         go_next q a b d = rw add-one (record {
           long = a ∙ t.long;
@@ -699,17 +685,17 @@ module _
           rest = λ lv.
               whole lv
               ∙ pass_on (instantiate_flagged s x (state_at c e s w lv)) (state_at c' e s' w' lv)
-              (subst (λ (y : TCheck.TCheck). Outcome y (instantiate_flagged s x (state_at c e s w lv)) (state_at c' e s' w' lv) o') q
+              (subst (λ (y : RuleAnswer). Outcome y (instantiate_flagged s x (state_at c e s w lv)) (state_at c' e s' w' lv) o') q
               (K.outcome lv));
         })
           where
-            sat_split : TCheck.TheVariants.Sat ≡ TCheck.TheVariants.Split → ⊥
+            sat_split : ◌≡◌ {A = RuleAnswer} (Ok TCheck.TheVariants.Sat) (Ok TCheck.TheVariants.Split) → ⊥
             sat_split k = let j : ◌≡◌ {A = ℕ} 0 1 = cc in omega arith
 
             pass_on : (a : Ruled) (u : State) → a ≡ pass u → then a (from_atom s₀ (suc x)) ≡ from_atom s₀ (suc x) u
             pass_on a u p = unfold then pass go_on in ap (λ (y : Ruled). then y (from_atom s₀ (suc x))) p
 
-        pub go_answer : (r ≡ TCheck.TheVariants.Sat → ⊥) → Tried instantiate_constructor c₀ e s₀ w₀ r c' s' w' o'
+        pub go_answer : (r ≡ Ok TCheck.TheVariants.Sat → ⊥) → Tried instantiate_constructor c₀ e s₀ w₀ r c' s' w' o'
         go_answer q = record {
           sound = K.sound;
           extends = onward;
@@ -722,7 +708,7 @@ module _
           readable = K.readable;
         }
 
-    pub go_done : CheckSound c₀ e s₀ w₀ → n ≤ x → Tried instantiate_constructor c₀ e s₀ w₀ TCheck.TheVariants.Sat c s w o
+    pub go_done : CheckSound c₀ e s₀ w₀ → n ≤ x → Tried instantiate_constructor c₀ e s₀ w₀ (Ok TCheck.TheVariants.Sat) c s w o
     unfolding try_each
     go_done C h = record {
       sound = t.sound;

@@ -9,8 +9,8 @@ use Rattle.shinri_core.specs.Context.{CtorApp, symbol, term, ctor_app, is_dataty
 use Rattle.shinri_core.specs.Memory.Words.{at, put, Kept}
 use Rattle.shinri_core.specs.Memory.Table.{context}
 use Rattle.shinri_core.specs.Memory.Codes.{MkApp, made_answer, made_context}
-use Rattle.shinri_core.specs.declared.context.Made as Made
 use Rattle.shinri_core.specs.declared.ids.TermId as TermId
+use Rattle.shinri_core.specs.declared.limits.NoRoom.{NoRoom}
 use Rattle.shinri_core.proofs.Lists.{range_in}
 use Rattle.solver.specs.State.{with_emitted, with_dt, with_marks, mark, make_app, marked_in, mint}
 use Rattle.theory.specs.Memory.Table.{merges}
@@ -18,9 +18,8 @@ use Rattle.solver.specs.Memory.Table.{COUNTS, RECORDS, MARK, LASTING, EMITTED, S
 use Rattle.solver.specs.Memory.Work.{W_MARK, NEXT, state_at, apps_from, first_in_class, app_word, ChainSound, CheckSound, Markable, Marked}
 use Rattle.solver.specs.Rules.{hand_out}
 use Rattle.solver.specs.declared.answer.TCheck as TCheck
-use Rattle.solver.specs.declared.answer.Guard as Guard
-use Rattle.solver.specs.Memory.Answer.{LemmaWritten}
-use Rattle.solver.specs.Memory.Making.{HandsOut, Makeable, MadeOutcome, MadeWithin, MakesTerm}
+use Rattle.solver.specs.Memory.Answer.{LemmaWritten, Guard}
+use Rattle.solver.specs.Memory.Making.{HandsOut, Makeable, MadeOutcome, MadeWithin, MakesTerm, Made}
 use Rattle.solver.proofs.Basics.{by_test}
 use Rattle.solver.proofs.Terms.{app, extends_symbol, mk_app_makes}
 use Rattle.solver.proofs.Apps.{op_is}
@@ -29,12 +28,13 @@ use Rattle.solver.proofs.Memory.Frames.{registry_kept, flagged_kept, record_kept
 use Rattle.solver.proofs.Memory.TableStores.{region, kept_none, kept_put}
 use Rattle.solver.proofs.Memory.Roles.{kind_ctor, kind_no_ctor, kind_by_role}
 use Rattle.solver.proofs.Memory.Growing.{made_app}
+use Rattle.std.specs.Prelude.{Ok, Err}
 
 -- ---- what was made
 
 -- the term made is the application that was asked for
-pub made_is : {c : List ℕ} {o : Op} {args : List ℕ} {r : Made.Made} {c' : List ℕ} {x : TermId.TermId} → MkApp c o args r c' →
-    r ≡ Made.TheVariants.At x → term (context c') x.0 ≡ app o args
+pub made_is : {c : List ℕ} {o : Op} {args : List ℕ} {r : Made} {c' : List ℕ} {x : TermId.TermId} → MkApp c o args r c' →
+    r ≡ Ok x → term (context c') x.0 ≡ app o args
 unfolding made_answer made_context
 made_is {c} {o} {args} {r} {c'} {x} K e = by_test (terms_fit (mk_app (context c) o args).context) fits lacks
   where
@@ -87,9 +87,9 @@ gather_kept f p q (x ∷ xs) h = go (h x (inl refl)) (gather_kept f p q xs (λ y
 -- ---- the new mark
 
 module _
-    {c e w : List ℕ} {f : ℕ} {args : List ℕ} {r : Made.Made} {c' : List ℕ} {x : TermId.TermId}
+    {c e w : List ℕ} {f : ℕ} {args : List ℕ} {r : Made} {c' : List ℕ} {x : TermId.TermId}
     (m : Makeable c e w f args) (roled : (symbol (context c) f).role ≡ Function → ⊥) (K : MkApp c (Term.Uninterpreted f) args r c')
-    (there : r ≡ Made.TheVariants.At x)
+    (there : r ≡ Ok x)
   where
     made : MakesTerm (λ S. make_app S f args) (Unit {0}) c e w r c' w
     made = made_app m K
@@ -106,7 +106,7 @@ module _
     new_kind = kind_by_role (context c') x.0 f op_there (symbol (context c) f).role (ap (λ (s : Term.Symbol). s.role) symbol_is)
 
     new_within : x.0 < length (context c').terms
-    new_within = subst (λ (z : Made.Made). MadeWithin z (length (context c').terms)) there made.within
+    new_within = subst (λ (z : Made). MadeWithin z (length (context c').terms)) there made.within
 
     pub markable : Markable c' e w x.0
     markable =
@@ -157,11 +157,11 @@ module _
                   ∙ sym z
 
       minted_outcome : (s : List ℕ) (lv : ℕ → ℕ) →
-          MadeOutcome (Made.TheVariants.At x) (mint (state_at c e s w lv) f args) (state_at c' e s u lv)
+          MadeOutcome (Ok x) (mint (state_at c e s w lv) f args) (state_at c' e s u lv)
       unfolding mint marked_in mark with_marks with_dt state_with dt_with
       minted_outcome s lv =
           let before = state_at c e s w lv in
-          let is = subst (λ (z : Made.Made). MadeOutcome z (make_app before f args) (state_at c' e s w lv)) there (made.outcome s lv) in
+          let is = subst (λ (z : Made). MadeOutcome z (make_app before f args) (state_at c' e s w lv)) there (made.outcome s lv) in
           ap marked_in is ∙ ap (λ (ms : List ℕ). record { id = x.0; state = state_with c' e s lv ms }) (sym marked.marks)
 
       -- ---- the chains
@@ -190,7 +190,7 @@ module _
               ∙ (made.chain tt C).next y l (sym (old_mark y l d) ∙ q)
               ∙ ap (λ (as' : List CtorApp). app_word (first_in_class (merges e) y as')) (sym (same_apps n (suc y) (omega arith)))
 
-      pub minted : MakesTerm (λ S. mint S f args) ((symbol (context c) f).role ≡ Constructor → ⊥) c e w (Made.TheVariants.At x) c' u
+      pub minted : MakesTerm (λ S. mint S f args) ((symbol (context c) f).role ≡ Constructor → ⊥) c e w (Ok x) c' u
       minted = record {
         sound = minted_sound;
         making =
@@ -204,11 +204,11 @@ module _
 
 -- ---- no room
 
-pub not_minted : {Plain : Type 0} {c e w : List ℕ} {f : ℕ} {args : List ℕ} {r : Made.Made} {c' : List ℕ} → Makeable c e w f args →
-    MkApp c (Term.Uninterpreted f) args r c' → r ≡ Made.TheVariants.NoRoom →
-    MakesTerm (λ S. mint S f args) Plain c e w Made.TheVariants.NoRoom c' w
+pub not_minted : {Plain : Type 0} {c e w : List ℕ} {f : ℕ} {args : List ℕ} {r : Made} {c' : List ℕ} → Makeable c e w f args →
+    MkApp c (Term.Uninterpreted f) args r c' → {n : NoRoom} → r ≡ Err n →
+    MakesTerm (λ S. mint S f args) Plain c e w (Err n) c' w
 unfolding mint marked_in mark with_marks with_dt
-not_minted {Plain} {c} {e} {w} {f} {args} {r} {c'} m K no_room =
+not_minted {Plain} {c} {e} {w} {f} {args} {r} {c'} m K {n} no_room =
     let made = made_app m K in
     record {
       sound = made.sound;
@@ -216,7 +216,7 @@ not_minted {Plain} {c} {e} {w} {f} {args} {r} {c'} m K no_room =
       extends = made.extends;
       within = tt;
       outcome = λ s lv.
-          subst (λ (z : Made.Made). MadeOutcome z (make_app (state_at c e s w lv) f args) (state_at c' e s w lv)) no_room
+          subst (λ (z : Made). MadeOutcome z (make_app (state_at c e s w lv) f args) (state_at c' e s w lv)) no_room
           (made.outcome s lv);
       chain = λ p C. made.chain tt C;
     }
@@ -224,14 +224,13 @@ not_minted {Plain} {c} {e} {w} {f} {args} {r} {c'} m K no_room =
 -- ---- lemmas handed out
 
 -- a lemma that was handed out before is passed over
-pub passed_over : (s : List ℕ) {word x : ℕ} (g : Guard.Guard) (o : List ℕ) → x < max_terms → word ≡ at s EMITTED x → (word ≡ 0 → ⊥) →
+pub passed_over : (s : List ℕ) {word x : ℕ} (g : Guard) (o : List ℕ) → x < max_terms → word ≡ at s EMITTED x → (word ≡ 0 → ⊥) →
     HandsOut x g s TCheck.TheVariants.Sat s o
 unfolding hand_out state_with dt_with
 passed_over s {word} {x} g o l known d = record {
   sound = λ c e w C. C;
   outcome = λ c e w lv. rw (flagged_mem s EMITTED x l, set_is (at s EMITTED x) (λ q. d (known ∙ q)));
   readable = tt;
-  no_refusal = λ q. let z : ◌≡◌ {A = ℕ} 0 1 = cc in omega arith;
   unchanged = λ n. refl;
 }
   where
@@ -275,14 +274,13 @@ module _ (s : List ℕ) {x : ℕ} {s' : List ℕ} (z : SolverSound s) (l : x < m
     more = λ y h q. C.more y h (sym (ap is_set (others_kept.rest MARK y tt h)) ∙ q) ∙ sym (others_kept.rest MARK y tt h);
   }
 
-  pub handed_out : {word : ℕ} {g : Guard.Guard} {o : List ℕ} → word ≡ at s EMITTED x → word ≡ 0 → LemmaWritten x g o →
+  pub handed_out : {word : ℕ} {g : Guard} {o : List ℕ} → word ≡ at s EMITTED x → word ≡ 0 → LemmaWritten x g o →
       HandsOut x g s TCheck.TheVariants.Split s' o
   unfolding hand_out
   handed_out {word} {g} {o} known none_yet W = record {
     sound = check_noted;
     outcome = λ c e w lv. rw (new c e w lv, noted c e w lv, W.is);
     readable = W.sound;
-    no_refusal = λ q. let z : ◌≡◌ {A = ℕ} 0 1 = cc in omega arith;
     unchanged = λ n. absurd (n refl);
   }
     where

@@ -12,7 +12,6 @@ use Rattle.shinri_core.specs.Memory.Words.{at, put}
 use Rattle.shinri_core.proofs.Memory.Stores.{other_place, length_put}
 use Rattle.shinri_core.specs.Memory.Table.{context, MayApply}
 use Rattle.shinri_core.specs.Memory.Codes.{MkApp}
-use Rattle.shinri_core.specs.declared.context.Made as Made
 use Rattle.shinri_core.specs.declared.ids.TermId.{TermId}
 use Rattle.shinri_core.proofs.Lists.{T_true, true_T, zeros}
 use Rattle.theory.specs.EqEngine.{are_equal}
@@ -22,19 +21,19 @@ use Rattle.solver.specs.State.{State, MadeIn, with_terms, equal, made_in, make_a
 use Rattle.solver.specs.Rules.{Ruled, pass, then, equate_field, collapse_at, try_each}
 use Rattle.solver.specs.declared.answer.TCheck as TCheck
 use Rattle.solver.specs.Memory.Table.{EMITTED, is_set, flagged, flagged_from, dt_with, state_with}
-use Rattle.solver.specs.Memory.Work.{W_MARK, state_at, apps_from, first_in_class, app_word, CheckSound, ctor_meaning, CtorOfClass}
-use Rattle.solver.specs.declared.work.CtorOf as CtorOf
+use Rattle.solver.specs.Memory.Work.{W_MARK, state_at, apps_from, first_in_class, app_word, CheckSound, ctor_meaning, CtorOfClass, CtorOf}
+use Rattle.std.specs.Prelude.{Some, Ok, Err}
 use Rattle.shinri_core.specs.declared.ids.SymbolId.{SymbolId}
-use Rattle.solver.specs.Memory.Answer.{Outcome, Tried}
+use Rattle.solver.specs.Memory.Answer.{Outcome, Tried, RuleAnswer}
 use Rattle.solver.specs.Memory.Collapse.{when, by_apps, at_made, selection, SelectorOn, FLAGS, Collapsible, Collapsed, DoneSound, CollapsesOnce, SelectedBy, CollapsibleOnce}
-use Rattle.solver.specs.Memory.Making.{MadeOutcome, MadeWithin, MakesTerm}
+use Rattle.solver.specs.Memory.Making.{MadeOutcome, MadeWithin, MakesTerm, Made}
 use Rattle.solver.proofs.Basics.{first_some, gather_in}
 use Rattle.solver.proofs.Terms.{extends_then, app, extends_symbol, extends_term, extends_length}
 use Rattle.solver.proofs.Signature.{selector_ctor, selector_index}
 use Rattle.solver.proofs.Apps.{op_is, ctor_app_is}
 use Rattle.solver.proofs.Repeats.{mk_app_again, GoesOn, try_each_does, try_each_idle, SelectedOn, selected_keeps, collapse_goes_on, collapse_does, collapse_again}
 use Rattle.solver.proofs.Memory.Growing.{may_apply, old_children, old_ctor_app, old_apps}
-use Rattle.solver.proofs.Memory.Trying.{sat_split, tried_pass, tried_as}
+use Rattle.solver.proofs.Memory.Trying.{sat_split, tried_pass, tried_as, err_not_sat}
 use Rattle.solver.proofs.Memory.Unfitting.{onward_through, try_onward, equate_field_onward, collapse_at_onward}
 use Rattle.solver.proofs.Memory.Flags.{has, flagged_in}
 use Rattle.solver.proofs.Memory.Chains.{chain_from, apps_here, all_apps, to_first, still_under}
@@ -73,8 +72,8 @@ all_pass x as' S h =
     try_each_idle (collapse_at x) (SelectedOn x.selector x.ctor x.index x.arg) (collapse_goes_on x) (collapse_does x)
     (selected_keeps x.selector x.ctor x.index x.arg) S as' h
 
-module _ {c e s w : List ℕ} {rule : State → Ruled} {r : TCheck.TCheck} {c' s' o : List ℕ} (C : CheckSound c e s w)
-    (K : Tried rule c e s w r c' s' w o) (q : r ≡ TCheck.TheVariants.Sat)
+module _ {c e s w : List ℕ} {rule : State → Ruled} {r : RuleAnswer} {c' s' o : List ℕ} (C : CheckSound c e s w)
+    (K : Tried rule c e s w r c' s' w o) (q : r ≡ Ok TCheck.TheVariants.Sat)
   where
     pub goes_on : (lv : ℕ → ℕ) → GoesOn (state_at c e s w lv) (state_at c' e s' w lv)
     unfolding state_with dt_with
@@ -123,7 +122,7 @@ module _ {c e s w d : List ℕ} {f ctor i arg z : ℕ} {o : List ℕ} (P : Selec
   node = let l = P.within in omega (arith, C.state.core.term_count, C.state.core.terms_fit)
 
   -- it was done: the rule passes, for every argument of the class
-  pub done_passes : {o' : List ℕ} → is_set (at d FLAGS z) ≡ true → CollapsesOnce rule c e s w TCheck.TheVariants.Sat c s d o'
+  pub done_passes : {o' : List ℕ} → is_set (at d FLAGS z) ≡ true → CollapsesOnce rule c e s w (Ok TCheck.TheVariants.Sat) c s d o'
   unfolding equal state_with
   done_passes h = record {
     tried = tried_pass C (λ lv.
@@ -137,15 +136,15 @@ module _ {c e s w d : List ℕ} {f ctor i arg z : ℕ} {o : List ℕ} (P : Selec
     flags = λ q. P.flags;
   }
 
-  module _ {r : TCheck.TCheck} {c' s' o' : List ℕ} (K : Tried rule c e s w r c' s' w o') where
-    module _ (q : r ≡ TCheck.TheVariants.Sat) where
+  module _ {r : RuleAnswer} {c' s' o' : List ℕ} (K : Tried rule c e s w r c' s' w o') where
+    module _ (q : r ≡ Ok TCheck.TheVariants.Sat) where
       now_passes : (lv : ℕ → ℕ) (a : CtorApp) → In a (apps_from (context c') w 0) →
           collapse_at (selection f ctor i P.y) a (state_at c' e s' w lv) ≡ pass (state_at c' e s' w lv)
       unfolding equal state_with
       now_passes lv a j =
           let S = state_at c e s w lv in
           let S' = state_at c' e s' w lv in
-          let outcome = subst (λ (m : TCheck.TCheck). Outcome m (rule S) S' o') q (K.outcome lv) in
+          let outcome = subst (λ (m : RuleAnswer). Outcome m (rule S) S' o') q (K.outcome lv) in
           selected_passes f ctor i arg P.y a S' K.sound.state.formed (true_T (are_equal (merges e) arg P.y) P.near)
           (all_selected (selection f ctor i arg) (apps_from (context c) w 0) S S'
           (sym (all_apps (collapse_at (selection f ctor i arg)) c s e w lv) ∙ outcome) a (apps_back C K q a j))
@@ -178,20 +177,17 @@ module _ {c e s w d : List ℕ} {f ctor i arg z : ℕ} {o : List ℕ} (P : Selec
           go x k b (no m) = collapsed_keeps C K q x (P.flags.done x k (ap is_set (sym (other_place d FLAGS z x 1 m)) ∙ b))
 
     -- it is done now, and the flag is set
-    pub done_now : {d' : List ℕ} → r ≡ TCheck.TheVariants.Sat → d' ≡ put d FLAGS z 1 →
-        CollapsesOnce rule c e s w TCheck.TheVariants.Sat c' s' d' o'
-    done_now {d'} q g =
-        subst (λ (m : TCheck.TCheck). CollapsesOnce rule c e s w m c' s' d' o') q
-        (record { tried = K; flags = λ m. subst⁻¹ (DoneSound c' e s' w) g (done_more m) })
+    pub done_now : {d' : List ℕ} → d' ≡ put d FLAGS z 1 → CollapsesOnce rule c e s w r c' s' d' o'
+    done_now g = record { tried = K; flags = λ m. subst⁻¹ (DoneSound c' e s' w) g (done_more m) }
 
     -- it answers
-    pub done_answer : {d' : List ℕ} → (r ≡ TCheck.TheVariants.Sat → ⊥) → CollapsesOnce rule c e s w r c' s' d' o'
+    pub done_answer : {d' : List ℕ} → (r ≡ Ok TCheck.TheVariants.Sat → ⊥) → CollapsesOnce rule c e s w r c' s' d' o'
     done_answer n = record { tried = K; flags = λ m. absurd (n m) }
 
 -- ---- the selector on the lowest application is made first
 
 -- terms made before a rule that come to the same
-pub tried_from : {rule : State → Ruled} {c c₁ e s w : List ℕ} {r : TCheck.TCheck} {c' s' o : List ℕ} → Extends (context c) (context c₁) →
+pub tried_from : {rule : State → Ruled} {c c₁ e s w : List ℕ} {r : RuleAnswer} {c' s' o : List ℕ} → Extends (context c) (context c₁) →
     ((lv : ℕ → ℕ) → rule (state_at c e s w lv) ≡ rule (state_at c₁ e s w lv)) → Tried rule c₁ e s w r c' s' w o →
     Tried rule c e s w r c' s' w o
 tried_from {rule} {c} {c₁} {e} {s} {w} {r} {c'} {s'} {o} ex h T = record {
@@ -259,7 +255,7 @@ module _ {c e s w d : List ℕ} {f ctor i arg y : ℕ} {o : List ℕ} (P : Colla
       ∙ ap (λ (as' : List CtorApp). try_each low_rule as' (state_at c₁ e s w lv))
       (apps_here (context c) w y low low_node low_marked low_is)
 
-  module _ {m : Made.Made} {c₁ : List ℕ} (K : MkApp c (Term.Uninterpreted f) (y ∷ []) m c₁) where
+  module _ {m : Made} {c₁ : List ℕ} (K : MkApp c (Term.Uninterpreted f) (y ∷ []) m c₁) where
     low_makes : MakesTerm (λ S. make_app S f (y ∷ [])) (Unit {0}) c e w m c₁ w
     unfolding low_collapsible
     low_makes = makes low_collapsible refl K
@@ -274,8 +270,8 @@ module _ {c e s w d : List ℕ} {f ctor i arg y : ℕ} {o : List ℕ} (P : Colla
         ∙ own_rule low_collapsible refl arg low_near lv
 
     -- it does not fit
-    pub once_none : {o' : List ℕ} {d' : List ℕ} → m ≡ Made.TheVariants.NoRoom →
-        CollapsesOnce (by_apps low_rule) c e s w TCheck.TheVariants.NoRoom c₁ s d' o'
+    pub once_none : {o' : List ℕ} {d' : List ℕ} → m ≡ Err (record {}) →
+        CollapsesOnce (by_apps low_rule) c e s w (Err (record {})) c₁ s d' o'
     once_none q = record {
       tried =
           tried_as
@@ -286,20 +282,17 @@ module _ {c e s w d : List ℕ} {f ctor i arg y : ℕ} {o : List ℕ} (P : Colla
           all_apps low_rule c s e w lv
           ∙ begins c lv
           ∙ ap (λ (z : Ruled). then z low_next) (low_own lv));
-      flags = λ n. absurd (no_room n);
+      flags = λ n. absurd (err_not_sat refl n);
     }
-      where
-        no_room : TCheck.TheVariants.NoRoom ≡ TCheck.TheVariants.Sat → ⊥
-        no_room n = let z : ◌≡◌ {A = ℕ} 0 1 = cc in omega arith
 
-    module _ {z : TermId} (q : m ≡ Made.TheVariants.At z) where
+    module _ {z : TermId} (q : m ≡ Ok z) where
       made_here : (lv : ℕ → ℕ) → make_app (state_at c e s w lv) f (y ∷ []) ≡ at_made z.0 (state_at c₁ e s w lv)
       made_here lv =
-          subst (λ (a : Made.Made). MadeOutcome a (make_app (state_at c e s w lv) f (y ∷ [])) (state_at c₁ e s w lv)) q
+          subst (λ (a : Made). MadeOutcome a (make_app (state_at c e s w lv) f (y ∷ [])) (state_at c₁ e s w lv)) q
           (low_makes.outcome s lv)
 
       z_within : z.0 < length (context c₁).terms
-      z_within = subst (λ (a : Made.Made). MadeWithin a (length (context c₁).terms)) q low_makes.within
+      z_within = subst (λ (a : Made). MadeWithin a (length (context c₁).terms)) q low_makes.within
 
       sound₁ : CheckSound c₁ e s w
       sound₁ = low_makes.sound s low_sound
@@ -344,7 +337,7 @@ module _ {c e s w d : List ℕ} {f ctor i arg y : ℕ} {o : List ℕ} (P : Colla
           ∙ sym (all_apps low_rule c₁ s e w lv)
 
       -- making the term is a rule that passes
-      making_passes : Tried (λ S. pass (make_app S f (y ∷ [])).state) c e s w TCheck.TheVariants.Sat c₁ s w o
+      making_passes : Tried (λ S. pass (make_app S f (y ∷ [])).state) c e s w (Ok TCheck.TheVariants.Sat) c₁ s w o
       making_passes = record {
         sound = sound₁;
         extends = low_makes.extends;
@@ -363,18 +356,18 @@ module _ {c e s w d : List ℕ} {f ctor i arg y : ℕ} {o : List ℕ} (P : Colla
         near = low_near;
       }
 
-      pub once_some : {r : TCheck.TCheck} {c' s' d' o' : List ℕ} → CollapsesOnce (by_apps low_rule) c₁ e s w r c' s' d' o' →
+      pub once_some : {r : RuleAnswer} {c' s' d' o' : List ℕ} → CollapsesOnce (by_apps low_rule) c₁ e s w r c' s' d' o' →
           CollapsesOnce (by_apps low_rule) c e s w r c' s' d' o'
       once_some T = record { tried = tried_from low_makes.extends early T.tried; flags = T.flags }
 
 -- ---- a class whose lowest application is of another constructor, or that has none
 
-pub not_once : {rule : State → Ruled} {c e s w d : List ℕ} {r : TCheck.TCheck} {c' s' o : List ℕ} → CheckSound c e s w →
+pub not_once : {rule : State → Ruled} {c e s w d : List ℕ} {r : RuleAnswer} {c' s' o : List ℕ} → CheckSound c e s w →
     DoneSound c e s w d → Tried rule c e s w r c' s' w o → CollapsesOnce rule c e s w r c' s' d o
 not_once C D T = record { tried = T; flags = λ q. done_keeps C T q D }
 
-pub lowest_is : {c e s w d : List ℕ} {f ctor i arg : ℕ} {o : List ℕ} {a : CtorOf.CtorOf} {g : SymbolId} {x : TermId} →
-    SelectorOn c e s w f ctor i arg o → DoneSound c e s w d → CtorOfClass c e w arg a → a ≡ CtorOf.TheVariants.At g x → g.0 ≡ ctor →
+pub lowest_is : {c e s w d : List ℕ} {f ctor i arg : ℕ} {o : List ℕ} {a : CtorOf} {g : SymbolId} {x : TermId} →
+    SelectorOn c e s w f ctor i arg o → DoneSound c e s w d → CtorOfClass c e w arg a → a ≡ Some (g, x) → g.0 ≡ ctor →
     CollapsibleOnce c e s w d f ctor i arg x.0 o
 unfolding ctor_meaning
 lowest_is {c} {x = x} P D K q h = record {

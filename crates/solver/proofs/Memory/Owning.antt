@@ -13,9 +13,9 @@ use Rattle.shinri_core.proofs.Lists.{T_true, true_T, T_and}
 use Rattle.shinri_core.proofs.Memory.Searching.{Searched, search_next}
 use Rattle.theory.specs.EqEngine.{find, are_equal}
 use Rattle.theory.specs.Memory.Table.{merges}
-use Rattle.solver.specs.declared.work.CtorOf as CtorOf
+use Rattle.std.specs.Prelude.{Some, None}
 use Rattle.solver.specs.Memory.Table.{MarksAre}
-use Rattle.solver.specs.Memory.Work.{W_MARK, apps_from, first_in_class, ctor_meaning, ClassTable, CtorAsked, CtorOfClass}
+use Rattle.solver.specs.Memory.Work.{W_MARK, apps_from, first_in_class, ctor_meaning, ClassTable, CtorAsked, CtorOfClass, CtorOf}
 use Rattle.solver.specs.Memory.ConstructorClash.{symbol_of, app_at, MarkedApp}
 use Rattle.solver.specs.Memory.Testing.{own_in_class, with_ctor, own_at, OwnAsked, OwnApp, Found}
 use Rattle.solver.proofs.Basics.{eqb_same, first_some, first_none, some_is, none_some}
@@ -127,7 +127,7 @@ module _ {c e w : List ℕ} {x root : ℕ} (d : ℕ) (z : CtorAsked c e w x) (r 
 
   pub own_found : {i n : ℕ} {f : SymbolId.SymbolId} {y : TermId.TermId} → f.0 ≡ d → y.0 ≡ i → n ≡ length (context c).terms →
       Searched (own_at c e w d root) 0 i n → i < n → {b : Bool} → b ≡ own_at c e w d root i → b ≡ true →
-      OwnApp c e w x d (CtorOf.TheVariants.At f y)
+      OwnApp c e w x d (Some (f, y))
   unfolding ctor_meaning own_in_class
   own_found {i} {n} {f} {y} q g k s h o a =
       let t = sym o ∙ a in
@@ -149,7 +149,7 @@ module _ {c e w : List ℕ} {x root : ℕ} (d : ℕ) (z : CtorAsked c e w x) (r 
   own_passed s h o a = search_next s h (sym o ∙ a)
 
   pub own_missing : {i n : ℕ} → n ≡ length (context c).terms → Searched (own_at c e w d root) 0 i n → n ≤ i →
-      OwnApp c e w x d CtorOf.TheVariants.Nothing
+      OwnApp c e w x d None
   unfolding ctor_meaning own_in_class
   own_missing {i} {n} k s h = record {
     is =
@@ -163,8 +163,8 @@ pub own_asked : {c e w : List ℕ} {x i n : ℕ} → CtorAsked c e w x → n ≡
 own_asked z k h = record { core = z.core; engine = z.engine; marks = (class_marks z).1; within = omega arith }
 
 -- an application that was found is a term of the class, and of that constructor
-module _ {c e w : List ℕ} {x d : ℕ} {k : CtorOf.CtorOf} (z : CtorAsked c e w x) (o : OwnApp c e w x d k) where
-  pub own_equal : (f : SymbolId.SymbolId) (y : TermId.TermId) → k ≡ CtorOf.TheVariants.At f y →
+module _ {c e w : List ℕ} {x d : ℕ} {k : CtorOf} (z : CtorAsked c e w x) (o : OwnApp c e w x d k) where
+  pub own_equal : (f : SymbolId.SymbolId) (y : TermId.TermId) → k ≡ Some (f, y) →
       (y.0 < max_terms) × (are_equal (merges e) x y.0 ≡ true)
   unfolding ctor_meaning own_in_class
   own_equal f y q =
@@ -189,8 +189,8 @@ module _ {c e w : List ℕ} {x d : ℕ} {k : CtorOf.CtorOf} (z : CtorAsked c e w
 
 -- ---- by the lowest application of the class
 
-pub none_of_class : {c e w : List ℕ} {x : ℕ} {k : CtorOf.CtorOf} (d : ℕ) → CtorOfClass c e w x k → k ≡ CtorOf.TheVariants.Nothing →
-    OwnApp c e w x d CtorOf.TheVariants.Nothing
+pub none_of_class : {c e w : List ℕ} {x : ℕ} {k : CtorOf} (d : ℕ) → CtorOfClass c e w x k → k ≡ None →
+    OwnApp c e w x d None
 unfolding ctor_meaning own_in_class first_in_class
 none_of_class {c} {e} {w} {x} d z q =
     let apps = apps_from (context c) w 0 in
@@ -200,8 +200,8 @@ none_of_class {c} {e} {w} {x} d z q =
       within = λ a p. absurd (none_some a p);
     }
 
-pub own_of_class : {c e w : List ℕ} {x : ℕ} {k : CtorOf.CtorOf} {f : SymbolId.SymbolId} {y : TermId.TermId} (d : ℕ) →
-    CtorOfClass c e w x k → k ≡ CtorOf.TheVariants.At f y → f.0 ≡ d → OwnApp c e w x d (CtorOf.TheVariants.At f y)
+pub own_of_class : {c e w : List ℕ} {x : ℕ} {k : CtorOf} {f : SymbolId.SymbolId} {y : TermId.TermId} (d : ℕ) →
+    CtorOfClass c e w x k → k ≡ Some (f, y) → f.0 ≡ d → OwnApp c e w x d (Some (f, y))
 unfolding ctor_meaning own_in_class first_in_class
 own_of_class {c} {e} {w} {x} {k} {f} {y} d z q h =
     let a : CtorApp = record { app = y.0; ctor = f.0; fields = children (context c) y.0 } in

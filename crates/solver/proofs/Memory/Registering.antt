@@ -1,15 +1,17 @@
 -- The solver's table made empty, and a variable registered: the registry is the first part of the table, and what stands behind it is
 -- as it was.
-use Rattle.shinri_core.proofs.Kit.{ℕ, zero, suc, ◌+◌, ◌-◌, ◌≤◌, ◌<◌, ◌≡◌, refl, sym, ap, ◌∙◌, subst, subst⁻¹, ◌⊎◌, inl, inr, Bool, true, false, ◌||◌, true≢false, List, [], ◌∷◌, ◌++◌, arith, below_more, T, eqb, leb, leb→le, length, get_or, take, drop, length-append, length-drop, get_or-drop, length-take-le, get_or-set_same}
+use Rattle.shinri_core.proofs.Kit.{ℕ, zero, suc, ◌+◌, ◌-◌, ◌≤◌, ◌<◌, ◌≡◌, refl, sym, ap, ◌∙◌, subst, subst⁻¹, ◌⊎◌, inl, inr, Bool, true, false, ◌||◌, true≢false, List, [], ◌∷◌, ◌++◌, arith, T, eqb, leb, leb→le, length, get_or, take, drop, length-append, length-drop, get_or-drop, length-take-le, replicate}
 use lib.Seq.{get_or-append-add, take_at}
+use lib.ListN.{length-replicate}
+use borrow.Rule.Slice.PartMut.{put_mid}
 use Rattle.shinri_core.specs.Limits.{max_terms, table_words}
 use Rattle.shinri_core.specs.Lists.{In, Apart, any, range, gather}
 use Rattle.shinri_core.specs.Context.{empty_context}
 use Rattle.shinri_core.specs.Formed.{Formed, Signed}
-use Rattle.shinri_core.specs.Memory.Words.{at, put, counted, apart, Kept}
+use Rattle.shinri_core.specs.Memory.Words.{at, put_all, counted, apart, Kept}
 use Rattle.shinri_core.specs.Memory.Table.{context, ContextSound}
-use Rattle.shinri_core.proofs.Lists.{T_and, not_true_false}
-use Rattle.shinri_core.proofs.Memory.Stores.{length_put, other_place}
+use Rattle.shinri_core.proofs.Lists.{T_and, not_true_false, zeros, getD_sets_in}
+use Rattle.shinri_core.proofs.Memory.Stores.{length_put_all}
 use Rattle.theory.specs.Atom.{Registered, register}
 use Rattle.theory.specs.Memory.Registry.{registry_size, atoms, RegistrySound}
 use Rattle.theory.specs.Memory.Table.{Engine}
@@ -19,6 +21,7 @@ use Rattle.solver.specs.Memory.Table.{REGISTRY, COUNTS, RECORDS, MARK, BLOCK, CO
 use Rattle.solver.specs.Memory.Recording.{flag_words, Wiped, SolverCleared, MayRegister, Registers}
 use Rattle.solver.proofs.Signature.{empty_signed}
 use Rattle.solver.proofs.Memory.Flags.{has, in_flagged, flagged_none}
+use Rattle.solver.proofs.Memory.Parts.{part_stored}
 use Rattle.solver.proofs.Memory.Frames.{flagged_kept, record_kept, announced_kept, keys_kept}
 
 -- ---- the registry's part put back
@@ -154,32 +157,21 @@ registers {s} {r} {v} {x} m n g a =
 
 -- ---- an empty table
 
--- the first i words from COUNTS on are 0
-pub record Wiping (s u : List ℕ) (i : ℕ) : Type 0 where
-  pub long : length u ≡ length s
-  pub zero : (j : ℕ) → j < i → at u COUNTS j ≡ 0
-
-pub wipe_first : (s : List ℕ) → Wiping s s 0
-wipe_first s = record { long = refl; zero = λ j h. absurd (omega arith) }
-
-word_put : (t : List ℕ) (i : ℕ) → COUNTS + i < length t → at (put t COUNTS i 0) COUNTS i ≡ 0
-unfolding at put
-word_put t i h = get_or-set_same t (COUNTS + i) 0 0 h
-
-pub wipe_next : {s t u : List ℕ} {i : ℕ} → table_words ≤ length s → i < flag_words → Wiping s t i → u ≡ put t COUNTS i 0 →
-    Wiping s u (i + 1)
-wipe_next {s} {t} {u} {i} l h w e =
-    let n = w.long in
+-- zeros written over the words from COUNTS on
+pub wiped : {s u : List ℕ} (k : ℕ) → table_words ≤ length s → u ≡ replicate k 0 → k ≡ flag_words →
+    Wiped s (put_mid COUNTS flag_words s u)
+unfolding at put_all
+wiped {s} {u} k l e f =
+    let n : length u ≡ flag_words = ap length e ∙ length-replicate {A = ℕ} k 0 ∙ f in
+    let stored : put_mid COUNTS flag_words s u ≡ put_all s COUNTS 0 u = part_stored s COUNTS flag_words u n (omega arith) in
     record {
-      long = ap length e ∙ length_put t COUNTS i 0 ∙ n;
-      zero =
-          below_more (λ (j : ℕ). at u COUNTS j ≡ 0) i
-          (λ j g. ap (λ (t' : List ℕ). at t' COUNTS j) e ∙ other_place t COUNTS i j 0 (omega arith) ∙ w.zero j g)
-          (ap (λ (t' : List ℕ). at t' COUNTS i) e ∙ word_put t i (omega arith));
+      long = ap length stored ∙ length_put_all s COUNTS 0 u;
+      zero = λ i h.
+          ap (λ (t : List ℕ). at t COUNTS i) stored
+          ∙ getD_sets_in s COUNTS u i 0 (omega arith) (omega arith)
+          ∙ ap (λ (t : List ℕ). get_or t i 0) e
+          ∙ zeros k i;
     }
-
-pub wipe_done : {s u : List ℕ} {i : ℕ} → Wiping s u i → flag_words ≤ i → Wiped s u
-wipe_done w h = record { long = w.long; zero = λ j g. w.zero j (omega arith) }
 
 wiped_long : {s t : List ℕ} → table_words ≤ length s → Wiped s t → table_words ≤ length t
 wiped_long l w = let m = w.long in omega arith

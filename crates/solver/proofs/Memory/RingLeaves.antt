@@ -1,9 +1,9 @@
 -- The conflict of a ring: where on the path the ring begins, and the leaves of its edges, one after the other.
-use Rattle.shinri_core.proofs.Kit.{ℕ, suc, ◌+◌, ◌-◌, ◌≤◌, ◌<◌, ◌≡◌, refl, sym, subst, ap, ◌∙◌, Bool, true, false, cond, List, [], ◌∷◌, ◌++◌, append_assoc, append-nil, arith, eq-eqb, ne_eqb, eqb, length, replicate}
+use Rattle.shinri_core.proofs.Kit.{ℕ, suc, ◌+◌, ◌-◌, ◌≤◌, ◌<◌, ◌≡◌, refl, sym, ap, ◌∙◌, Bool, true, false, cond, List, [], ◌∷◌, ◌++◌, append_assoc, append-nil, arith, eq-eqb, ne_eqb, eqb, length, replicate}
+use Rattle.std.specs.Prelude.{Ok, Err}
 use lib.ListN.{length-replicate}
 use Rattle.shinri_core.proofs.Lists.{zeros}
 use Rattle.shinri_core.specs.Lists.{any, range}
-use Rattle.shinri_core.specs.declared.ids.TermId.{TermId}
 use Rattle.shinri_core.specs.Memory.Words.{at}
 use Rattle.theory.specs.Types.{EqLeaf, same_leaf}
 use Rattle.theory.specs.EqEngine.{Merge, explain, firsts_after, firsts}
@@ -13,10 +13,9 @@ use Rattle.theory.specs.Memory.Explaining.{Explainable, Explains}
 use Rattle.solver.specs.Ring.{Edge, below_entry, ring_edges, edge_leaves, acyclicity_conflict}
 use Rattle.solver.specs.Check.{ring_answer}
 use Rattle.solver.specs.declared.answer.TCheck as TCheck
-use Rattle.solver.specs.declared.ring.Cycle as Cycle
+use Rattle.solver.specs.declared.ring.Cycle.{Cycle}
 use Rattle.solver.specs.Memory.Table.{state_with}
 use Rattle.solver.specs.Memory.Answer.{answer_meaning}
-use Rattle.solver.specs.Memory.Making.{Making}
 use Rattle.solver.specs.Memory.Checks.{Rings}
 use Rattle.solver.specs.Memory.Walking.{PATH_APP, PATH_VIA, ring_size, path, Unmet, RingAt, CycleOutcome, edge_at, edges, RingBegins, RingLeaves}
 
@@ -158,11 +157,20 @@ cite_next {e} {r} {n} {o₀} {start} {o} {i} {u} x y c h p q z l =
         (at r PATH_APP i) listed)
 
 -- the leaves of the whole ring
-pub cite_ring : {e r : List ℕ} {n field app start i : ℕ} {o₁ o₀ o : List ℕ} → RingBegins r n app start → Cleared o₁ →
-    Explains e field app o₁ o₀ → Citing e r n o₀ start o i → (i < n → ⊥) → RingLeaves e r n field app o
-cite_ring {e} {r} {n} {field} {app} {start} {i} {o₁} {o₀} {o} b k x c d =
+pub cite_ring : {e r : List ℕ} {p : Cycle} {start i : ℕ} {o₁ o₀ o : List ℕ} → RingBegins r p.len p.app.0 start → Cleared o₁ →
+    Explains e p.field.0 p.app.0 o₁ o₀ → Citing e r p.len o₀ start o i → (i < p.len → ⊥) → RingLeaves e r p o
+cite_ring {e} {r} {p} {start} {i} {o₁} {o₀} {o} b k x c d =
     record { sound = c.sound.words; are = sym (whole ∙ c.all ∙ last) }
   where
+    field : ℕ
+    field = p.field.0
+
+    app : ℕ
+    app = p.app.0
+
+    n : ℕ
+    n = p.len
+
     first : leaves o₀ ≡ [] ++ firsts_after [] (explain (merges e) field app)
     first = rw k.empty at x.listed
 
@@ -175,9 +183,9 @@ cite_ring {e} {r} {n} {field} {app} {start} {i} {o₁} {o₀} {o} b k x c d =
     last = unfold all_leaves edge_leaves firsts_after in rw (edges_none r i n (omega arith)) (append-nil (leaves o))
 
 -- what explaining an edge of the path asks
-pub edge_asks : {e r : List ℕ} {n field app : ℕ} {o₀ : List ℕ} {start : ℕ} {o : List ℕ} {i : ℕ} (x y : ℕ) → RingAt e r n field app →
-    Citing e r n o₀ start o i → i < n → x ≡ at r PATH_VIA i → y ≡ at r PATH_APP i → Explainable e x y o
-edge_asks {e} {r} {n} {field} {app} {o₀} {start} {o} {i} x y a c h p q =
+pub edge_asks : {e r : List ℕ} {ring : Cycle} {o₀ : List ℕ} {start : ℕ} {o : List ℕ} {i : ℕ} (x y : ℕ) → RingAt e r ring →
+    Citing e r ring.len o₀ start o i → i < ring.len → x ≡ at r PATH_VIA i → y ≡ at r PATH_APP i → Explainable e x y o
+edge_asks {e} {r} {ring} {o₀} {start} {o} {i} x y a c h p q =
     let k = a.path i h in
     rw (p, q) (record { sound = a.engine; first = k.first; second = k.second; equal = k.equal; answer = c.sound })
 
@@ -187,20 +195,11 @@ edge_asks {e} {r} {n} {field} {app} {o₀} {start} {o} {i} x y a c h p q =
 pub unmet_new : {r : List ℕ} (n : ℕ) → r ≡ replicate n 0 → ring_size ≤ n → Unmet r
 unmet_new n e l = rw e (record { long = let h = length-replicate {A = ℕ} n 0 in omega arith; zero = zeros n })
 
-pub rings_none : {c e w : List ℕ} (r : List ℕ) {a : Cycle.Cycle} {o : List ℕ} → CycleOutcome c e w a r → a ≡ Cycle.TheVariants.Nothing →
-    Rings c e w TCheck.TheVariants.Sat o
+pub rings_none : (c e w r o : List ℕ) → CycleOutcome c e w (Ok tt) r → Rings c e w TCheck.TheVariants.Sat o
 unfolding answer_meaning ring_answer
-rings_none {c} {e} {w} r k q =
-    let none_there = subst (λ (b : Cycle.Cycle). CycleOutcome c e w b r) q k in
-    record { outcome = λ s lv. rw (none_there s lv); readable = tt }
+rings_none c e w r o k = record { outcome = λ s lv. rw (k s lv); readable = tt }
 
-pub ring_there : {c e w r : List ℕ} {a : Cycle.Cycle} {f x : TermId} {n : ℕ} → Making c e w → CycleOutcome c e w a r →
-    a ≡ Cycle.TheVariants.At f x n → RingAt e r n f.0 x.0
-ring_there {c} {e} {w} {r} m k q = (subst (λ (b : Cycle.Cycle). CycleOutcome c e w b r) q k).0
-
-pub rings_conflict : {c e w r : List ℕ} {a : Cycle.Cycle} {f x : TermId} {n : ℕ} {o : List ℕ} → CycleOutcome c e w a r →
-    a ≡ Cycle.TheVariants.At f x n → RingLeaves e r n f.0 x.0 o → Rings c e w TCheck.TheVariants.Conflict o
+pub rings_conflict : (c e w r : List ℕ) (p : Cycle) {o : List ℕ} → CycleOutcome c e w (Err p) r → RingLeaves e r p o →
+    Rings c e w TCheck.TheVariants.Conflict o
 unfolding answer_meaning ring_answer acyclicity_conflict state_with
-rings_conflict {c} {e} {w} {r} k q l =
-    let found = (subst (λ (b : Cycle.Cycle). CycleOutcome c e w b r) q k).1 in
-    record { outcome = λ s lv. rw (found s lv, l.are); readable = l.sound }
+rings_conflict c e w r p k l = record { outcome = λ s lv. rw (k.1 s lv, l.are); readable = l.sound }

@@ -1,5 +1,5 @@
 -- The steps of the walk for a ring: what became of a field, and the next field of the newest application, or its end.
-use Rattle.shinri_core.proofs.Kit.{ℕ, zero, suc, ◌+◌, ◌-◌, ◌≤◌, ◌<◌, ◌≡◌, refl, sym, subst, subst⁻¹, ap, ◌∙◌, inl, inr, Bool, true, false, cond, List, [], ◌∷◌, none, some, arith, length, get_or}
+use Rattle.shinri_core.proofs.Kit.{ℕ, zero, suc, ◌-◌, ◌≤◌, ◌<◌, ◌≡◌, refl, sym, subst, subst⁻¹, ap, ◌∙◌, inl, inr, Bool, true, false, cond, List, [], ◌∷◌, none, some, arith, length, get_or}
 use Rattle.shinri_core.specs.Limits.{max_terms}
 use Rattle.shinri_core.specs.Lists.{In}
 use Rattle.shinri_core.specs.Context.{Context, CtorApp, children, is_datatype_sort, sort_of}
@@ -13,12 +13,11 @@ use Rattle.theory.specs.EqEngine.{Merge, are_equal}
 use Rattle.theory.specs.Memory.Table.{merges}
 use Rattle.solver.specs.State.{State, ctor_of_class, ctor_apps, equal}
 use Rattle.solver.specs.Ring.{Frame, Found, on_path, ring_edges, after, kids}
-use Rattle.solver.specs.declared.work.CtorOf as CtorOf
-use Rattle.solver.specs.declared.ring.Entered as Entered
-use Rattle.solver.specs.declared.ring.Step as Step
+use Rattle.std.specs.Prelude.{Some, None, Result, Ok, Err}
+use Rattle.solver.specs.declared.ring.Cycle.{Cycle}
 use Rattle.solver.specs.Memory.Table.{state_with, dt_with}
-use Rattle.solver.specs.Memory.Work.{state_at, apps_from, first_in_class, ctor_meaning, CtorOfClass}
-use Rattle.solver.specs.Memory.Walking.{COLOUR, PATH_APP, PATH_VIA, PATH_LEFT, Open, frames, resume, entering, untried, opened, path, colour, outlook, Leads, Walking, Goes, load, pushed, entered, Meets, Enters, EnterOutcome, tried, Tries, TriesTo, FieldOutcome, StepOutcome}
+use Rattle.solver.specs.Memory.Work.{state_at, apps_from, first_in_class, ctor_meaning, CtorOfClass, CtorOf}
+use Rattle.solver.specs.Memory.Walking.{COLOUR, PATH_APP, PATH_VIA, PATH_LEFT, Open, frames, resume, entering, untried, opened, path, colour, outlook, Leads, Walking, Goes, load, pushed, entered, Meets, Enters, EnterOutcome, tried, TriesTo, FieldOutcome, StepOutcome}
 use Rattle.solver.proofs.Basics.{first_some}
 use Rattle.solver.proofs.Memory.Resuming.{enter_none, enter_path, enter_finished, enter_new, resume_field, resume_finish, untried_all}
 use Rattle.solver.proofs.Memory.Rings.{path_fits, path_room, frames_opened, length_opened, opened_same, colour_path, colour_not_path, colour_finished, colour_not_finished, colour_new, PushedWords, pushed_words, push_walking, push_opened, push_load, SamePath, TriedWords, tried_words, tried_walking, tried_load, FinishedWords, finished_words, finish_before, finish_walking, finish_load}
@@ -37,9 +36,9 @@ unfolding first_in_class
 in_class ms x apps a e =
     T_true (are_equal ms x a.app) (first_some (λ (b : CtorApp). are_equal ms x b.app) apps a e).1
 
-module _ {c e w : List ℕ} {field : ℕ} {o : CtorOf.CtorOf} (is : CtorOfClass c e w field o) where
+module _ {c e w : List ℕ} {field : ℕ} {o : CtorOf} (is : CtorOfClass c e w field o) where
   -- no application
-  pub enters_nothing : (r : List ℕ) (n : ℕ) → o ≡ CtorOf.TheVariants.Nothing → (done : List ℕ) → Walking c e r n done →
+  pub enters_nothing : (r : List ℕ) (n : ℕ) → o ≡ None → (done : List ℕ) → Walking c e r n done →
       Enters c e w r n done field r n
   enters_nothing r n q done v = record {
     walking = v;
@@ -49,7 +48,7 @@ module _ {c e w : List ℕ} {field : ℕ} {o : CtorOf.CtorOf} (is : CtorOfClass 
       none_there : first_in_class (merges e) field (apps_from (context c) w 0) ≡ none
       none_there = sym is.is ∙ ap (ctor_meaning (context c)) q ∙ unfold ctor_meaning in refl
 
-  module _ {f : SymbolId} {x : TermId} (q : o ≡ CtorOf.TheVariants.At f x) where
+  module _ {f : SymbolId} {x : TermId} (q : o ≡ Some (f, x)) where
     app_of : CtorApp
     app_of = record { app = x.0; ctor = f.0; fields = children (context c) x.0 }
 
@@ -176,42 +175,27 @@ tried_passed : (c e s w : List ℕ) (lv : ℕ → ℕ) (r : List ℕ) (n : ℕ) 
     false ≡ is_datatype_sort (context c) k → tried c e s w lv r n done field ≡ outlook c e s w lv r n done
 tried_passed c e s w lv r n done field k K is = rw (sym K, sym is)
 
+module _ (c e w r : List ℕ) (n field : ℕ) {b : Bool} {k : ℕ} (K : k ≡ sort_of (context c) field)
+    (is : b ≡ is_datatype_sort (context c) k) where
+  pub tries_entered : b ≡ true → (u : List ℕ) (a : Result ℕ Cycle) → EnterOutcome c e w r n field a u →
+      FieldOutcome c e w r n field a u
+  tries_entered t u (Ok m) (less, met) = (
+    less,
+    λ done v.
+        let g = met done v in
+        record { walking = g.walking; same = λ s lv. tried_entered c e s w lv r n done field k K (sym t ∙ is) ∙ g.same s lv },
+  )
+  tries_entered t u (Err p) (f, l, same, met) = (
+    f,
+    l,
+    same,
+    λ done v.
+        let g = met done v in
+        record { leads = g.leads; found = λ s lv. tried_entered c e s w lv r n done field k K (sym t ∙ is) ∙ g.found s lv },
+  )
+
 module _ {c e w r : List ℕ} {n field : ℕ} {b : Bool} {k : ℕ} (K : k ≡ sort_of (context c) field)
     (is : b ≡ is_datatype_sort (context c) k) where
-  pub tries_ring : {a : Entered.Entered} {x : TermId} {u : List ℕ} → b ≡ true → EnterOutcome c e w r n field a u →
-      a ≡ Entered.TheVariants.Ring x → (u ≡ r) × ((done : List ℕ) → Walking c e r n done → Tries c e w r n done field x.0)
-  tries_ring {a} {x} {u} t o q =
-      let (same, met) = subst (λ (b : Entered.Entered). EnterOutcome c e w r n field b u) q o in (
-        same,
-        λ done v.
-            let m = met done v in
-            record { leads = m.leads; found = λ s lv. tried_entered c e s w lv r n done field k K (sym t ∙ is) ∙ m.found s lv },
-      )
-
-  pub tries_new : {a : Entered.Entered} {u : List ℕ} {m : ℕ} → b ≡ true → EnterOutcome c e w r n field a u →
-      a ≡ Entered.TheVariants.New → m ≡ n + 1 →
-      (load (context c) u m ≤ load (context c) r n) × ((done : List ℕ) → Walking c e r n done → TriesTo c e w r n done field u m)
-  tries_new {a} {u} {m} t o q g =
-      let (less, met) = subst (λ (b : Entered.Entered). EnterOutcome c e w r n field b u) q o in
-      let f : m ≡ suc n = omega arith in
-      rw f (
-        omega arith,
-        λ done v.
-            let m = met done v in
-            record { walking = m.walking; same = λ s lv. tried_entered c e s w lv r n done field k K (sym t ∙ is) ∙ m.same s lv },
-      )
-
-  pub tries_passed : {a : Entered.Entered} {u : List ℕ} → b ≡ true → EnterOutcome c e w r n field a u → a ≡ Entered.TheVariants.Passed →
-      (load (context c) u n ≤ load (context c) r n) × ((done : List ℕ) → Walking c e r n done → TriesTo c e w r n done field u n)
-  tries_passed {a} {u} t o q =
-      let (same, met) = subst (λ (b : Entered.Entered). EnterOutcome c e w r n field b u) q o in
-      rw same (
-        omega arith,
-        λ done v.
-            let m = met done v in
-            record { walking = m.walking; same = λ s lv. tried_entered c e s w lv r n done field k K (sym t ∙ is) ∙ m.same s lv },
-      )
-
   pub tries_other : b ≡ false →
       (load (context c) r n ≤ load (context c) r n) × ((done : List ℕ) → Walking c e r n done → TriesTo c e w r n done field r n)
   tries_other t =
@@ -355,19 +339,19 @@ module _ {c e r : List ℕ} {n app left : ℕ} {u : List ℕ} (C : ContextSound 
         (next_is c e s w lv r (n - 1) (left - 1) u done (word_more (at r PATH_LEFT (n - 1)) L z) (next_words v)
         ∙ ap (λ (xs : List ℕ). tried c e s w lv u (suc (n - 1)) done (get_or xs (left - 1) 0)) (ap (children (context c)) (sym A) ∙ sym F))
 
-    pub next_outcome : (a : Step.Step) (u' : List ℕ) → FieldOutcome c e w u n (get_or fs (left - 1) 0) a u' →
+    pub next_outcome : (a : Result ℕ Cycle) (u' : List ℕ) → FieldOutcome c e w u n (get_or fs (left - 1) 0) a u' →
         (done : List ℕ) → Walking c e r n done → StepOutcome c e w r n a u'
-    next_outcome (Step.TheVariants.Ring f x) u' (g, q, o) done₀ v₀ = λ done v.
-        let t = o done (next_walking done v) in
-        record {
-          done' = done;
-          walking = rw q (next_walking done v);
-          leads = rw g t.leads;
-          found = λ s lv. next_same s lv done v ∙ rw (q, g) (t.found s lv);
-        }
-    next_outcome (Step.TheVariants.To m) u' (l, o) done₀ v₀ = (
+    next_outcome (Ok m) u' (l, o) done₀ v₀ = (
       let h = next_lighter done₀ v₀ in omega arith,
       λ done v.
           let t = o done (next_walking done v) in
           record { done' = done; walking = t.walking; same = λ s lv. next_same s lv done v ∙ t.same s lv },
     )
+    next_outcome (Err p) u' (f, l, q, o) done₀ v₀ = λ done v.
+        let t = o done (next_walking done v) in
+        record {
+          done' = done;
+          walking = rw (q, l) (next_walking done v);
+          leads = rw f t.leads;
+          found = λ s lv. next_same s lv done v ∙ rw (q, f, l) (t.found s lv);
+        }

@@ -1,21 +1,19 @@
 -- The loops of the walk for a ring: the steps from a path of one application, and the watched terms.
-use Rattle.shinri_core.proofs.Kit.{ℕ, zero, suc, ◌+◌, ◌≤◌, ◌<◌, ◌≡◌, refl, sym, subst, ap, ◌∙◌, ◌⊎◌, inl, inr, Bool, true, false, false≢true, List, [], ◌∷◌, none, some, arith, length}
+use Rattle.shinri_core.proofs.Kit.{ℕ, zero, suc, ◌+◌, ◌≤◌, ◌<◌, ◌≡◌, refl, sym, subst, ap, ◌∙◌, ◌⊎◌, inl, inr, Bool, true, false, false≢true, List, [], ◌∷◌, none, arith, length}
+use Rattle.std.specs.Prelude.{Result, Ok, Err}
 use Rattle.shinri_core.specs.Limits.{max_terms}
 use Rattle.shinri_core.specs.Lists.{any, keep, mem}
 use Rattle.shinri_core.specs.Context.{Context, is_datatype_sort, sort_of}
-use Rattle.shinri_core.specs.declared.ids.TermId.{TermId}
 use Rattle.shinri_core.specs.Memory.Words.{at}
 use Rattle.shinri_core.specs.Memory.Table.{context, ContextSound}
 use Rattle.theory.specs.Memory.Explaining.{EqualNodes}
 use Rattle.solver.specs.State.{State, watched_dt_terms}
 use Rattle.solver.specs.Ring.{Edge, Walk, Found, Finished, on_path, after, walk_watched, ring_of, constructor_graph_find_cycle, ring_edges}
-use Rattle.solver.specs.declared.ring.Entered as Entered
-use Rattle.solver.specs.declared.ring.Step as Step
-use Rattle.solver.specs.declared.ring.Cycle as Cycle
+use Rattle.solver.specs.declared.ring.Cycle.{Cycle}
 use Rattle.solver.specs.Memory.Table.{is_set, term_kind, state_with, dt_with}
 use Rattle.solver.specs.Memory.Work.{W_MARK, state_at}
 use Rattle.solver.specs.Memory.Making.{Making}
-use Rattle.solver.specs.Memory.Walking.{COLOUR, PATH_APP, PATH_VIA, entering, resume, opened, path, path_apps, colour, outlook, Leads, Walking, WalkSound, Goes, Closes, load, entered, Enters, EnterOutcome, StepOutcome, WalkOutcome, WatchedDone, WatchedOutcome, watched_from, seeking, SeekOn, SeekOutcome, Unmet, RingAt}
+use Rattle.solver.specs.Memory.Walking.{COLOUR, PATH_APP, PATH_VIA, entering, resume, opened, path, path_apps, colour, outlook, Leads, Walking, WalkSound, Goes, entered, EnterOutcome, StepOutcome, WalkOutcome, WatchedOutcome, watched_from, seeking, SeekOn, SeekOutcome, Unmet, CycleOutcome}
 use Rattle.solver.proofs.Memory.Rings.{path_fits}
 use Rattle.solver.proofs.Memory.Flags.{flagged_step, flagged_none}
 use Rattle.solver.proofs.Memory.Roles.{kind_within}
@@ -33,17 +31,15 @@ pub walks_first : {c e w r : List ℕ} {n : ℕ} → WalkSound c e w r n → Wal
 walks_first s = record { long = refl; sound = s; goes = λ done v. record { done' = done; walking = v; same = λ s lv. refl } }
 
 module _ {c e w r₀ : List ℕ} {n₀ : ℕ} {r : List ℕ} {n : ℕ} (W : Walks c e w r₀ n₀ r n) where
-  pub walks_ring : {a : Step.Step} {f x : TermId} {u : List ℕ} → StepOutcome c e w r n a u → a ≡ Step.TheVariants.Ring f x →
-      (done : List ℕ) → Walking c e r₀ n₀ done → Closes c e w r₀ n₀ done u n f.0 x.0
-  walks_ring {a} {f} {x} {u} o q done v =
+  pub walks_ring : (p : Cycle) (u : List ℕ) → StepOutcome c e w r n (Err p) u → WalkOutcome c e w r₀ n₀ (Err p) u
+  walks_ring p u o = λ done v.
       let g = W.goes done v in
-      let k = subst (λ (b : Step.Step). StepOutcome c e w r n b u) q o g.done' g.walking in
+      let k = o g.done' g.walking in
       record { done' = k.done'; walking = k.walking; leads = k.leads; found = λ s lv. g.same s lv ∙ k.found s lv }
 
-  pub walks_next : {a : Step.Step} {m : ℕ} {u : List ℕ} → StepOutcome c e w r n a u → a ≡ Step.TheVariants.To m → length u ≡ length r →
-      Walks c e w r₀ n₀ u m
-  walks_next {a} {m} {u} o q l =
-      let next = (subst (λ (b : Step.Step). StepOutcome c e w r n b u) q o).1 in
+  pub walks_next : (m : ℕ) (u : List ℕ) → StepOutcome c e w r n (Ok m) u → length u ≡ length r → Walks c e w r₀ n₀ u m
+  walks_next m u o l =
+      let next = o.1 in
       let now = next W.sound.done W.sound.walking in
       record {
         long = l ∙ W.long;
@@ -56,10 +52,6 @@ module _ {c e w r₀ : List ℕ} {n₀ : ℕ} {r : List ℕ} {n : ℕ} (W : Walk
 
   pub walks_done : n ≡ 0 → (done : List ℕ) → Walking c e r₀ n₀ done → Goes c e w r₀ n₀ done r 0
   walks_done z done v = subst (λ (k : ℕ). Goes c e w r₀ n₀ done r k) z (W.goes done v)
-
-  pub walks_less : {a : Step.Step} {m : ℕ} (u : List ℕ) → StepOutcome c e w r n a u → a ≡ Step.TheVariants.To m →
-      load (context c) u m < load (context c) r n
-  walks_less u o q = (subst (λ (b : Step.Step). StepOutcome c e w r n b u) q o).0
 
 -- ---- a watched term
 
@@ -76,53 +68,43 @@ outlook_none : (c e s w : List ℕ) (lv : ℕ → ℕ) (r done : List ℕ) → o
 unfolding opened resume
 outlook_none c e s w lv r done = refl
 
-module _ {c e w r : List ℕ} {x : ℕ} where
-  pub watched_ring : {a : Entered.Entered} {y : TermId} {u : List ℕ} → WalkSound c e w r 0 → EnterOutcome c e w r 0 x a u →
-      a ≡ Entered.TheVariants.Ring y → (done : List ℕ) → Walking c e r 0 done → WatchedDone c e w done x u
-  watched_ring {a} {y} {u} s o q done v =
-      let m = (subst (λ (b : Entered.Entered). EnterOutcome c e w r 0 x b u) q o).1 done v in
-      absurd (false≢true (never y.0 ∙ m.on))
-    where
-      never : (z : ℕ) → false ≡ on_path z (path r 0)
-      never z = unfold path on_path any in refl
+-- so it leads back to nothing
+pub watched_never : (c e w r : List ℕ) (x : ℕ) (p : Cycle) (u : List ℕ) → EnterOutcome c e w r 0 x (Err p) u →
+    (a : Result (Unit {0}) Cycle) → WatchedOutcome c e w r x a u
+watched_never c e w r x p u o = go
+  where
+    never : (z : ℕ) → false ≡ on_path z (path r 0)
+    never z = unfold path on_path any in refl
 
-  pub watched_passed : {a : Entered.Entered} {u : List ℕ} → EnterOutcome c e w r 0 x a u → a ≡ Entered.TheVariants.Passed →
-      (done : List ℕ) → Walking c e r 0 done → WatchedDone c e w done x u
-  watched_passed {a} {u} o q done v =
-      let (same, met) = subst (λ (b : Entered.Entered). EnterOutcome c e w r 0 x b u) q o in
-      let m = met done v in
-      rw same (record {
-        done' = done;
-        walking = m.walking;
-        finished = λ s lv. watched_is c e s w lv r x done ∙ m.same s lv ∙ outlook_none c e s w lv r done;
-      })
+    no : (done : List ℕ) → Walking c e r 0 done → ⊥
+    no done v = let m = o.3 done v in false≢true (never p.app.0 ∙ m.on)
 
--- it was not met before: the walk goes on from it
-module _ {c e w r : List ℕ} (s : WalkSound c e w r 0) (x : ℕ) {a : Entered.Entered} (u : List ℕ) (o : EnterOutcome c e w r 0 x a u)
-    (q : a ≡ Entered.TheVariants.New) where
-  new_there : (done : List ℕ) → Walking c e r 0 done → Enters c e w r 0 done x u 1
-  new_there = (subst (λ (b : Entered.Entered). EnterOutcome c e w r 0 x b u) q o).1
+    go : (a : Result (Unit {0}) Cycle) → WatchedOutcome c e w r x a u
+    go (Ok _) = λ done v. absurd (no done v)
+    go (Err q) = λ done v. absurd (no done v)
 
-  pub watched_sound : WalkSound c e w u 1
-  watched_sound = record { making = s.making; done = s.done; walking = (new_there s.done s.walking).walking }
+-- the walk goes on from it, or there is nothing to walk
+module _ {c e w r : List ℕ} (s : WalkSound c e w r 0) (x n : ℕ) (u : List ℕ) (o : EnterOutcome c e w r 0 x (Ok n) u) where
+  pub watched_sound : WalkSound c e w u n
+  watched_sound = record { making = s.making; done = s.done; walking = (o.1 s.done s.walking).walking }
 
-  pub watched_new : (b : Cycle.Cycle) (u' : List ℕ) → WalkOutcome c e w u 1 b u' → WatchedOutcome c e w r x b u'
-  watched_new (Cycle.TheVariants.At f y m) u' k = λ done v.
-      let n = new_there done v in
-      let t = k done n.walking in
+  pub watched_walk : (b : Result (Unit {0}) Cycle) (u' : List ℕ) → WalkOutcome c e w u n b u' → WatchedOutcome c e w r x b u'
+  watched_walk (Ok _) u' k = λ done v.
+      let m = o.1 done v in
+      let t = k done m.walking in
+      record {
+        done' = t.done';
+        walking = t.walking;
+        finished = λ z lv. watched_is c e z w lv r x done ∙ m.same z lv ∙ t.same z lv ∙ outlook_none c e z w lv u' t.done';
+      }
+  watched_walk (Err p) u' k = λ done v.
+      let m = o.1 done v in
+      let t = k done m.walking in
       record {
         done' = t.done';
         walking = t.walking;
         leads = t.leads;
-        found = λ z lv. watched_is c e z w lv r x done ∙ n.same z lv ∙ t.found z lv;
-      }
-  watched_new Cycle.TheVariants.Nothing u' k = λ done v.
-      let n = new_there done v in
-      let t = k done n.walking in
-      record {
-        done' = t.done';
-        walking = t.walking;
-        finished = λ z lv. watched_is c e z w lv r x done ∙ n.same z lv ∙ t.same z lv ∙ outlook_none c e z w lv u' t.done';
+        found = λ z lv. watched_is c e z w lv r x done ∙ m.same z lv ∙ t.found z lv;
       }
 
 -- ---- a term
@@ -187,7 +169,7 @@ module _ {c e w r : List ℕ} (s : WalkSound c e w r 0) {i : ℕ} (h : i < lengt
         seek_on (watched_other (context c) w i within (λ z. d (g ∙ z)) (sym (is ∙ ap (is_datatype_sort (context c)) K) ∙ f))
 
     -- it is watched
-    pub seek_watched : b ≡ true → (a : Cycle.Cycle) (u : List ℕ) → WatchedOutcome c e w r i a u → SeekOutcome c e w r i a u
+    pub seek_watched : b ≡ true → (a : Result (Unit {0}) Cycle) (u : List ℕ) → WatchedOutcome c e w r i a u → SeekOutcome c e w r i a u
     seek_watched f a u o = go a o
       where
         here : watched_from (context c) w i ≡ i ∷ watched_from (context c) w (suc i)
@@ -198,20 +180,20 @@ module _ {c e w r : List ℕ} (s : WalkSound c e w r 0) {i : ℕ} (h : i < lengt
             ≡ seeking (state_at c e z w lv) v (watched_from (context c) w (suc i))
         step z lv done v q = rw here (seeking_step (state_at c e z w lv) i (watched_from (context c) w (suc i)) done v q)
 
-        go : (a : Cycle.Cycle) → WatchedOutcome c e w r i a u → SeekOutcome c e w r i a u
-        go (Cycle.TheVariants.At p y m) o = λ done v.
+        go : (a : Result (Unit {0}) Cycle) → WatchedOutcome c e w r i a u → SeekOutcome c e w r i a u
+        go (Ok _) o = λ done v.
+            let t = o done v in
+            record { done' = t.done'; walking = t.walking; same = λ z lv. step z lv done (Finished t.done') (t.finished z lv) }
+        go (Err p) o = λ done v.
             let t = o done v in
             record {
               done' = t.done';
               walking = t.walking;
               leads = t.leads;
               found = λ z lv.
-                  step z lv done (Found (ring_edges p.0 y.0 (path u m))) (t.found z lv)
-                  ∙ seeking_found (state_at c e z w lv) (ring_edges p.0 y.0 (path u m)) (watched_from (context c) w (suc i));
+                  step z lv done (Found (ring_edges p.field.0 p.app.0 (path u p.len))) (t.found z lv)
+                  ∙ seeking_found (state_at c e z w lv) (ring_edges p.field.0 p.app.0 (path u p.len)) (watched_from (context c) w (suc i));
             }
-        go Cycle.TheVariants.Nothing o = λ done v.
-            let t = o done v in
-            record { done' = t.done'; walking = t.walking; same = λ z lv. step z lv done (Finished t.done') (t.finished z lv) }
 
 -- ---- the watched terms
 
@@ -247,26 +229,24 @@ equal_nodes c e C f x l = record {
 }
 
 module _ {c e w r₀ r : List ℕ} {i : ℕ} (W : Watching c e w r₀ r i) where
-  pub watch_ring : {a : Cycle.Cycle} {f x : TermId} {m : ℕ} {u : List ℕ} → SeekOutcome c e w r i a u → a ≡ Cycle.TheVariants.At f x m →
-      RingAt e u m f.0 x.0
-      × ((s : List ℕ) (lv : ℕ → ℕ) → constructor_graph_find_cycle (state_at c e s w lv) ≡ some (ring_edges f.0 x.0 (path u m)))
-  watch_ring {a} {f} {x} {m} {u} o q =
-      let t = subst (λ (b : Cycle.Cycle). SeekOutcome c e w r i b u) q o W.sound.done W.sound.walking in
+  pub watch_ring : (p : Cycle) (u : List ℕ) → SeekOutcome c e w r i (Err p) u → CycleOutcome c e w (Err p) u
+  watch_ring p u o =
+      let t = o W.sound.done W.sound.walking in
       let C = W.sound.making.core in (
         record {
           engine = W.sound.making.engine;
           long = t.walking.long;
           fits = let n = path_fits t.walking in omega (arith, C.term_count, C.terms_fit);
-          closing = equal_nodes c e C f.0 x.0 t.leads;
+          closing = equal_nodes c e C p.field.0 p.app.0 t.leads;
           path = λ j h. equal_nodes c e C (at u PATH_VIA j) (at u PATH_APP j) (t.walking.leads j h);
         },
         λ s lv. W.rest s lv ∙ ap ring_of (t.found s lv) ∙ unfold ring_of in refl,
       )
 
-  pub watch_next : {a : Cycle.Cycle} {u : List ℕ} → SeekOutcome c e w r i a u → a ≡ Cycle.TheVariants.Nothing → length u ≡ length r →
+  pub watch_next : (u : List ℕ) → ((done : List ℕ) → Walking c e r 0 done → SeekOn c e w done i u) → length u ≡ length r →
       Watching c e w r₀ u (i + 1)
-  watch_next {a} {u} o q l =
-      let t = subst (λ (b : Cycle.Cycle). SeekOutcome c e w r i b u) q o W.sound.done W.sound.walking in
+  watch_next u o l =
+      let t = o W.sound.done W.sound.walking in
       let k : i + 1 ≡ suc i = omega arith in
       rw k (record {
         long = l ∙ W.long;

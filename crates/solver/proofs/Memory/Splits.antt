@@ -9,8 +9,8 @@ use Rattle.shinri_core.proofs.Memory.Counted.{counted_length, counted_at, counte
 use Rattle.theory.specs.Memory.Answer.{answer_size}
 use Rattle.solver.specs.Rules.{Phase, Positive, NoPhase}
 use Rattle.solver.specs.declared.answer.Phase as GivenPhase
-use Rattle.solver.specs.declared.answer.Guard as Guard
-use Rattle.solver.specs.Memory.Answer.{COUNTS, ATOMS, GUARDED, PHASES, GUARD, ATOM, PHASE, phase_of, guard_of, split_atoms, split_guard, split_phases, split_of, SplitSound, phase_meaning, guard_meaning, guarded, LemmaWritten, SplitCleared, TesterRoom, TesterPushed}
+use Rattle.std.specs.Prelude.{Some, None}
+use Rattle.solver.specs.Memory.Answer.{COUNTS, ATOMS, GUARDED, PHASES, GUARD, ATOM, PHASE, phase_of, guard_of, split_atoms, split_guard, split_phases, split_of, SplitSound, phase_meaning, guard_meaning, guarded, LemmaWritten, SplitCleared, TesterRoom, TesterPushed, Guard}
 use Rattle.solver.proofs.Memory.SplitStores.{stores}
 
 -- ---- reading
@@ -61,7 +61,7 @@ pub positive_phase : {o : List ℕ} → SplitSound o → (i r : ℕ) → i < len
 unfolding phase_meaning
 positive_phase {o} z i r l e q = phase_is z i Positive l (phase_other (at o PHASE i) (λ k. q (e ∙ k)))
 
-pub no_guard : (o : List ℕ) (r : ℕ) → r ≡ at o COUNTS GUARDED → r ≡ 0 → guard_meaning Guard.TheVariants.Nothing ≡ split_guard o
+pub no_guard : (o : List ℕ) (r : ℕ) → r ≡ at o COUNTS GUARDED → r ≡ 0 → guard_meaning None ≡ split_guard o
 unfolding guard_meaning split_guard guard_of
 no_guard o r e q = rw (sym e ∙ q)
 
@@ -71,14 +71,14 @@ some_guard zero l d = absurd (d refl)
 some_guard (suc n) l d = refl
 
 pub a_guard : (o : List ℕ) (r : ℕ) (l : Lit.Lit) → r ≡ at o COUNTS GUARDED → (r ≡ 0 → ⊥) → l.0 ≡ at o COUNTS GUARD →
-    guard_meaning (Guard.TheVariants.At l) ≡ split_guard o
+    guard_meaning (Some l) ≡ split_guard o
 unfolding guard_meaning split_guard
 a_guard o r l e d k = ap {B = Option ℕ} some k ∙ sym (some_guard (at o COUNTS GUARDED) (at o COUNTS GUARD) (λ q. d (e ∙ q)))
 
 -- ---- writing
 
 -- the words of a lemma
-written_words : {o : List ℕ} (x : ℕ) (g : Guard.Guard) → answer_size ≤ length o → at o COUNTS ATOMS ≡ 1 → at o ATOM 0 ≡ x →
+written_words : {o : List ℕ} (x : ℕ) (g : Guard) → answer_size ≤ length o → at o COUNTS ATOMS ≡ 1 → at o ATOM 0 ≡ x →
     at o COUNTS PHASES ≡ 0 → split_guard o ≡ guard_meaning g → LemmaWritten x g o
 unfolding split_of split_atoms split_phases counted range
 written_words {o} x g l a b p q = record {
@@ -87,26 +87,26 @@ written_words {o} x g l a b p q = record {
 }
 
 -- what stands under a guard, whatever it is
-guarded_words : (o u : List ℕ) (x : ℕ) (g : Guard.Guard) → answer_size ≤ length o → at o COUNTS ATOMS ≡ 1 → at o ATOM 0 ≡ x →
+guarded_words : (o u : List ℕ) (x : ℕ) (g : Guard) → answer_size ≤ length o → at o COUNTS ATOMS ≡ 1 → at o ATOM 0 ≡ x →
     at o COUNTS PHASES ≡ 0 → u ≡ guarded o g → LemmaWritten x g u
 unfolding guarded split_guard guard_of guard_meaning
-guarded_words o u x (Guard.TheVariants.At k) l a b p e =
+guarded_words o u x (Some k) l a b p e =
     let long : answer_size ≤ length u = search (e, stores) in
     let atoms : at u COUNTS ATOMS ≡ 1 = search (e, l, a, stores) in
     let atom : at u ATOM 0 ≡ x = search (e, b, stores) in
     let phases : at u COUNTS PHASES ≡ 0 = search (e, l, p, stores) in
     let is_guarded : at u COUNTS GUARDED ≡ 1 = search (e, l, stores) in
     let literal : at u COUNTS GUARD ≡ k.0 = search (e, l, stores) in
-    written_words x (Guard.TheVariants.At k) long atoms atom phases (rw (is_guarded, literal))
-guarded_words o u x Guard.TheVariants.Nothing l a b p e =
+    written_words x (Some k) long atoms atom phases (rw (is_guarded, literal))
+guarded_words o u x None l a b p e =
     let long : answer_size ≤ length u = search (e, stores) in
     let atoms : at u COUNTS ATOMS ≡ 1 = search (e, l, a, stores) in
     let atom : at u ATOM 0 ≡ x = search (e, b, stores) in
     let phases : at u COUNTS PHASES ≡ 0 = search (e, l, p, stores) in
     let is_guarded : at u COUNTS GUARDED ≡ 0 = search (e, l, stores) in
-    written_words x Guard.TheVariants.Nothing long atoms atom phases (rw is_guarded)
+    written_words x None long atoms atom phases (rw is_guarded)
 
-pub written : (o : List ℕ) {o₁ o₂ o₃ u : List ℕ} {x : ℕ} {g : Guard.Guard} → answer_size ≤ length o → o₁ ≡ put o COUNTS ATOMS 1 →
+pub written : (o : List ℕ) {o₁ o₂ o₃ u : List ℕ} {x : ℕ} {g : Guard} → answer_size ≤ length o → o₁ ≡ put o COUNTS ATOMS 1 →
     o₂ ≡ put o₁ ATOM 0 x → o₃ ≡ put o₂ COUNTS PHASES 0 → u ≡ guarded o₃ g → LemmaWritten x g u
 written o {o₁} {o₂} {o₃} {u} {x} {g} l e₁ e₂ e₃ e =
     let long : answer_size ≤ length o₃ = search (e₃, e₂, e₁, stores) in

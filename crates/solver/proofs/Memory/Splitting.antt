@@ -1,7 +1,7 @@
 -- Exhaustiveness and unknown. One pass goes up over the terms: for the first watched term that is to be split on, and for whether any
 -- class is undetermined, what the definition makes of all terms is what it makes of those from x on.
-use Rattle.shinri_core.proofs.Kit.{ℕ_discrete, ℕ, zero, suc, ◌+◌, ◌-◌, ◌≤◌, ◌<◌, ◌≡◌, refl, sym, ap, ap₂, ◌∙◌, subst, subst⁻¹, ◌⊎◌, inl, inr, Bool, true, false, cond, not, ◌&&◌, true≢false, false≢true, List, [], ◌∷◌, ◌++◌, foldl, map, append_assoc, append-nil, length-append, add-zero, none, some, Option, add-one, arith, eqb, length, eq-eqb, ne_eqb}
-use Rattle.shinri_core.specs.Limits.{max_terms, max_symbols}
+use Rattle.shinri_core.proofs.Kit.{ℕ_discrete, ℕ, zero, suc, ◌+◌, ◌-◌, ◌≤◌, ◌<◌, ◌≡◌, refl, sym, ap, ap₂, ◌∙◌, subst, subst⁻¹, ◌⊎◌, inl, inr, Bool, true, false, cond, not, ◌&&◌, true≢false, false≢true, List, [], ◌∷◌, ◌++◌, foldl, map, append_assoc, append-nil, length-append, add-zero, none, some, Option, add-one, arith, eqb, length, eq-eqb, ne_eqb, eqb-true, eqb-false, ◌||◌}
+use Rattle.shinri_core.specs.Limits.{max_terms}
 use Rattle.shinri_core.specs.Lists.{In, insert, range, any, first, keep, gather, mem}
 use Rattle.shinri_core.specs.Term as Term
 use Rattle.shinri_core.specs.Term.{Symbol, Constructor, Tester, Op}
@@ -9,11 +9,10 @@ use Rattle.shinri_core.specs.Context as Context
 use Rattle.shinri_core.specs.Context.{Context, mk_app, terms_fit, builds, dt_tester, dt_constructors, CtorApp, symbol, sort_of, is_datatype_sort, ctor_app, children}
 use Rattle.shinri_core.specs.Formed.{Formed, Signed, Extends}
 use Rattle.shinri_core.specs.Memory.Codes.{made_answer, made_context, MkApp}
-use Rattle.shinri_core.specs.declared.context.Made as Made
 use Rattle.shinri_core.specs.declared.ids.SymbolId.{SymbolId}
 use Rattle.shinri_core.specs.declared.ids.TermId.{TermId}
 use Rattle.shinri_core.specs.Memory.Words.{at, put, Kept}
-use Rattle.shinri_core.specs.Memory.Table.{context, ContextSound, MayApply, NextConstructor}
+use Rattle.shinri_core.specs.Memory.Table.{context, ContextSound, MayApply, NoneBuilds, LowestConstructor}
 use Rattle.shinri_core.proofs.Memory.Searching.{NoneFrom}
 use Rattle.shinri_core.proofs.Lists.{keep_in, T_true, true_T, and_no, cond_both, not_true_false}
 use Rattle.theory.specs.EqEngine.{are_equal}
@@ -25,12 +24,15 @@ use Rattle.solver.specs.Records.{is_some}
 use Rattle.solver.specs.Rules as Rules
 use Rattle.solver.specs.Rules.{Phase, Positive, NoPhase, Testers, make_tester, phase, to_split, Ruled, pass, answered, go_on, then, split_on, split_answer, exhaustiveness_split, has_undetermined_class, unknown_fence}
 use Rattle.solver.specs.declared.answer.TCheck as TCheck
-use Rattle.solver.specs.declared.work.CtorOf as CtorOf
+use Rattle.std.specs.Prelude.{Some, None, is_some as given_some, Ok, Err}
 use Rattle.solver.specs.declared.exhaustiveness.Undetermined as Undetermined
 use Rattle.solver.specs.Memory.Table.{watched_kind, COUNTS, RECORDS, MARK, LASTING, EMITTED, SPLIT, solver_room, records#, SolverSound, is_set, flagged_from, term_kind, of_sign, of_unequal, state_with, dt_with}
-use Rattle.solver.specs.Memory.Work.{W_MARK, state_at, apps_from, first_in_class, ctor_meaning, CtorOfClass, WorkSound, CheckSound}
-use Rattle.solver.specs.Memory.Splitting.{is_watched, is_open, is_undetermined, Found, Passed, Testable, testers_at, MakesTester, Splittable, ctors_of, TestersOutcome, MakesTesters, SplitsOn, FoundAsked, FoundAnswered}
-use Rattle.solver.specs.Memory.Answer.{split_of, listed, split_atoms, split_guard, split_phases, SplitSound, SplitCleared, TesterPushed, Tried}
+use Rattle.solver.specs.Memory.Work.{W_MARK, state_at, apps_from, first_in_class, ctor_meaning, CtorOfClass, WorkSound, CheckSound, CtorOf}
+use Rattle.shinri_core.specs.declared.limits.NoRoom.{NoRoom}
+use Rattle.solver.specs.Memory.Injecting.{Stepped}
+use Rattle.solver.proofs.Memory.NoRooms.{err_not_ok}
+use Rattle.solver.specs.Memory.Splitting.{is_watched, is_open, is_undetermined, Found, Passed, Testable, testers_at, MakesTester, Splittable, ctors_of, TestersOutcome, MakesTesters, SplitsOn, FoundAsked, FoundAnswered, Asking}
+use Rattle.solver.specs.Memory.Answer.{split_of, listed, split_atoms, split_guard, split_phases, SplitSound, SplitCleared, TesterPushed, Tried, RuleAnswer}
 use Rattle.solver.proofs.Basics.{first_none, first_some, in_gather, by_test}
 use Rattle.solver.proofs.Terms.{extends_self, extends_then, extends_length, extends_sort_of, extends_symbols, extends_symbol, mk_app_makes, mk_app_formed}
 use Rattle.solver.proofs.Signature.{extends_signed, declared_role, constructor_function, tester_function}
@@ -43,6 +45,7 @@ use Rattle.solver.proofs.Memory.Roles.{kind_ctor, kind_watched}
 use Rattle.solver.proofs.Memory.Frames.{registry_kept, flagged_kept, record_kept, state_kept}
 use Rattle.solver.proofs.Memory.TableStores.{region, kept_none, kept_put}
 use Rattle.solver.proofs.Memory.Flags.{has, flagged_insert, in_flagged, flagged_step, flagged_none, flagged_mem, unset_by}
+use Rattle.solver.specs.Memory.Making.{Made}
 
 -- ---- the marks of watched terms
 
@@ -57,6 +60,15 @@ set_watched (suc k) = refl
 -- the marks of terms whose classes are asked about
 abbrev pub Asked : ℕ → Type 0
 Asked k = (k ≡ 3) ⊎ (k ≡ 5)
+
+-- by the code's tests
+pub kind_asked : (k : ℕ) {b : Bool} → b ≡ (eqb k 3 || eqb k 5) → b ≡ true → Asked k
+kind_asked k q e = go (eqb k 3) refl (eqb k 5) refl (sym q ∙ e)
+  where
+    go : (p : Bool) → eqb k 3 ≡ p → (t : Bool) → eqb k 5 ≡ t → (p || t) ≡ true → Asked k
+    go true i t j r = inl (eqb-true k 3 i)
+    go false i true j r = inr (eqb-true k 5 j)
+    go false i false j r = absurd (false≢true r)
 
 asked_watched : (k : ℕ) → Asked k → watched_kind k ≡ true
 unfolding watched_kind
@@ -117,19 +129,35 @@ module _ (c e w : List ℕ) (F : Formed (context c)) (S : Signed (context c)) (W
       go (yes o) = rw (own_class (sym i ∙ o)) (and_no (is_watched c w x))
       go (no o) = rw (watched_by_mark ∙ ap watched_kind (sym i) ∙ other_kind k o p q)
 
+  pub kind_passed : {b : Bool} → b ≡ (eqb (at w W_MARK x) 3 || eqb (at w W_MARK x) 5) → b ≡ false → b ≡ is_undetermined c e w x
+  kind_passed q n = n ∙ go (eqb (at w W_MARK x) 3) refl (eqb (at w W_MARK x) 5) refl (sym q ∙ n)
+    where
+      go : (p : Bool) → eqb (at w W_MARK x) 3 ≡ p → (t : Bool) → eqb (at w W_MARK x) 5 ≡ t → (p || t) ≡ false →
+          false ≡ is_undetermined c e w x
+      go true i t j r = absurd (true≢false r)
+      go false i true j r = absurd (true≢false r)
+      go false i false j r = passed_over (at w W_MARK x) refl (eqb-false (at w W_MARK x) 3 i) (eqb-false (at w W_MARK x) 5 j)
+
   -- a term that is asked about is undetermined unless its class has an application
   watched_asked : Asked (at w W_MARK x) → is_watched c w x ≡ true
   watched_asked h = watched_by_mark ∙ asked_watched (at w W_MARK x) h
 
-  pub asked_none : {r : CtorOf.CtorOf} → Asked (at w W_MARK x) → CtorOfClass c e w x r → r ≡ CtorOf.TheVariants.Nothing →
+  pub asked_none : {r : CtorOf} → Asked (at w W_MARK x) → CtorOfClass c e w x r → r ≡ None →
       true ≡ is_undetermined c e w x
   unfolding is_undetermined is_open is_some ctor_meaning
   asked_none h C z = rw (watched_asked h, sym C.is ∙ ap (ctor_meaning (context c)) z)
 
-  pub asked_some : {r : CtorOf.CtorOf} {f : SymbolId} {a : TermId} → Asked (at w W_MARK x) → CtorOfClass c e w x r →
-      r ≡ CtorOf.TheVariants.At f a → false ≡ is_undetermined c e w x
+  asked_some : {r : CtorOf} {f : SymbolId} {a : TermId} → Asked (at w W_MARK x) → CtorOfClass c e w x r →
+      r ≡ Some (f, a) → false ≡ is_undetermined c e w x
   unfolding is_undetermined is_open is_some ctor_meaning
   asked_some h C z = rw (watched_asked h, sym C.is ∙ ap (ctor_meaning (context c)) z)
+
+  pub asked_open : (r : CtorOf) (b : Bool) → Asked (at w W_MARK x) → CtorOfClass c e w x r → given_some r ≡ not b →
+      b ≡ is_undetermined c e w x
+  asked_open None true h C q = asked_none h C refl
+  asked_open None false h C q = absurd (false≢true q)
+  asked_open (Some (f, a)) true h C q = absurd (true≢false q)
+  asked_open (Some (f, a)) false h C q = asked_some h C refl
 
 -- ---- the pass
 
@@ -191,12 +219,12 @@ module _ (c e s w : List ℕ) where
   any_is lv = refl
 
 -- the terms below x were passed; a watched class without an application was met, or not
-pub record Passing (c e s w : List ℕ) (n x : ℕ) (unknown : Bool) : Type 0 where
+record Passing (c e s w : List ℕ) (n x : ℕ) (unknown : Bool) : Type 0 where
   pub within : x ≤ n
   pub split : first (unsplit c e s w) (watched_from c w 0) ≡ first (unsplit c e s w) (watched_from c w x)
   pub undetermined : any (is_open c e w) (watched_from c w 0) ≡ cond unknown true (any (is_open c e w) (watched_from c w x))
 
-pub pass_first : (c e s w : List ℕ) (n : ℕ) → Passing c e s w n 0 false
+pass_first : (c e s w : List ℕ) (n : ℕ) → Passing c e s w n 0 false
 pass_first c e s w n = record { within = omega arith; split = refl; undetermined = refl }
 
 module _
@@ -204,7 +232,7 @@ module _
     (P : Passing c e s w n x unknown) (r : Bool) (R : r ≡ is_undetermined c e w x) (h : x < n) (f : n ≤ max_terms)
   where
     -- x is not watched, or its class has an application
-    pub pass_by : {b : Bool} → r ≡ false → b ≡ unknown → Passing c e s w n (x + 1) b
+    pass_by : {b : Bool} → r ≡ false → b ≡ unknown → Passing c e s w n (x + 1) b
     pass_by q k =
         let u = sym R ∙ q in
         rw (k, add-one)
@@ -215,7 +243,7 @@ module _
         })
 
     -- it has none, and x was split on
-    pub pass_done : {b : Bool} (k : ℕ) → r ≡ true → k ≡ at s SPLIT x → (k ≡ 0 → ⊥) → b ≡ true → Passing c e s w n (x + 1) b
+    pass_done : {b : Bool} (k : ℕ) → r ≡ true → k ≡ at s SPLIT x → (k ≡ 0 → ⊥) → b ≡ true → Passing c e s w n (x + 1) b
     pass_done k q i z j =
         let u = sym R ∙ q in
         let m : mem x (flagged_from s SPLIT 0) ≡ true = flagged_mem s SPLIT x (omega arith) ∙ set_by (at s SPLIT x) (λ y. z (i ∙ y)) in
@@ -227,7 +255,7 @@ module _
         })
 
     -- it has none, and x was not split on
-    pub pass_split : (k : ℕ) → r ≡ true → k ≡ at s SPLIT x → k ≡ 0 → Passed c e s w (Undetermined.TheVariants.Split (record { 0 = x }))
+    pass_split : (k : ℕ) → r ≡ true → k ≡ at s SPLIT x → k ≡ 0 → Passed c e s w (Undetermined.TheVariants.Split (record { 0 = x }))
     pass_split k q i z =
         let u = sym R ∙ q in
         let m : mem x (flagged_from s SPLIT 0) ≡ false = flagged_mem s SPLIT x (omega arith) ∙ unset_by (at s SPLIT x) (sym i ∙ z) in
@@ -253,17 +281,63 @@ module _
     unfolding any
     met lv = any_is c e s w lv ∙ P.undetermined ∙ ap (λ (xs : List ℕ). cond unknown true (any (is_open c e w) xs)) none_left
 
-    pub pass_unknown : unknown ≡ true → Passed c e s w Undetermined.TheVariants.Unknown
+    pass_unknown : unknown ≡ true → Passed c e s w Undetermined.TheVariants.Unknown
     pass_unknown q = record { is = λ lv. (none_split lv, met lv ∙ ap (λ (b : Bool). cond b true false) q) }
 
-    pub pass_nothing : unknown ≡ false → Passed c e s w Undetermined.TheVariants.Nothing
+    pass_nothing : unknown ≡ false → Passed c e s w Undetermined.TheVariants.Nothing
     pass_nothing q = record { is = λ lv. (none_split lv, met lv ∙ ap (λ (b : Bool). cond b true false) q) }
+
+-- a pass by a test
+module _ {c e s w : List ℕ} (C : CheckSound c e s w) where
+  abbrev asks : ℕ → Bool
+  asks = is_undetermined c e w
+
+  -- whether one of the first x asks
+  abbrev met_below : ℕ → Bool
+  met_below zero = false
+  met_below (suc x) = cond (asks x) true (met_below x)
+
+  few : length (context c).terms ≤ max_terms
+  few = omega (arith, C.state.core.term_count, C.state.core.terms_fit)
+
+  come_to : (x : ℕ) → x ≤ length (context c).terms → ((y : ℕ) → y < x → asks y ≡ true → at s SPLIT y ≡ 0 → ⊥) →
+      Passing c e s w (length (context c).terms) x (met_below x)
+  come_to zero l d = pass_first c e s w (length (context c).terms)
+  come_to (suc x) l d = go (come_to x (omega arith) (λ y h. d y (omega arith))) (asks x) refl
+    where
+      go : Passing c e s w (length (context c).terms) x (met_below x) → (b : Bool) → asks x ≡ b →
+          Passing c e s w (length (context c).terms) (suc x) (cond b true (met_below x))
+      go before true q = rw (← add-one) (pass_done before (asks x) refl (omega arith) few (at s SPLIT x) q refl (d x (omega arith) q) refl)
+      go before false q = rw (← add-one) (pass_by before (asks x) refl (omega arith) few q refl)
+
+  met_one : (x y : ℕ) → y < x → asks y ≡ true → met_below x ≡ true
+  met_one zero y l q = absurd (omega arith)
+  met_one (suc x) y l q = go (asks x) refl (ℕ_discrete y x) (λ h. met_one x y h q)
+    where
+      go : (b : Bool) → asks x ≡ b → Dec (y ≡ x) → (y < x → met_below x ≡ true) → cond b true (met_below x) ≡ true
+      go true e d r = refl
+      go false e (yes i) r = absurd (true≢false (sym q ∙ ap asks i ∙ e))
+      go false e (no i) r = r (omega arith)
+
+  met_none : (x : ℕ) → ((y : ℕ) → y < x → asks y ≡ false) → met_below x ≡ false
+  met_none zero h = refl
+  met_none (suc x) h = rw (h x (omega arith)) (met_none x (λ y l. h y (omega arith)))
+
+  pub passed_by : (r : Undetermined.Undetermined) → Asking (is_undetermined c e w) (length (context c).terms) s r → Passed c e s w r
+  passed_by (Undetermined.TheVariants.Split x) (l, q, z, d) =
+      pass_split (come_to x.0 (omega arith) d) (asks x.0) refl l few (at s SPLIT x.0) q refl z
+  passed_by Undetermined.TheVariants.Unknown ((y, l, q), d) =
+      pass_unknown (come_to (length (context c).terms) (omega arith) d) C refl (omega arith)
+      (met_one (length (context c).terms) y l q)
+  passed_by Undetermined.TheVariants.Nothing f =
+      pass_nothing (come_to (length (context c).terms) (omega arith) (λ y h q. absurd (true≢false (sym q ∙ f y h)))) C refl
+      (omega arith) (met_none (length (context c).terms) f)
 
 -- ---- a tester made
 
 -- what was made, where it fits
-mk_fits : {c : List ℕ} {o : Op} {args : List ℕ} {r : Made.Made} {c' : List ℕ} {y : TermId} → MkApp c o args r c' →
-    r ≡ Made.TheVariants.At y → mk_app (context c) o args ≡ record { id = y.0; context = context c' }
+mk_fits : {c : List ℕ} {o : Op} {args : List ℕ} {r : Made} {c' : List ℕ} {y : TermId} → MkApp c o args r c' →
+    r ≡ Ok y → mk_app (context c) o args ≡ record { id = y.0; context = context c' }
 unfolding made_answer made_context
 mk_fits {c} {o} {args} {r} {c'} {y} K e = by_test (terms_fit (mk_app (context c) o args).context) fits lacks
   where
@@ -281,7 +355,7 @@ mk_fits {c} {o} {args} {r} {c'} {y} K e = by_test (terms_fit (mk_app (context c)
         absurd (omega arith)
 
 -- where it does not fit nothing changes
-mk_lacks : {c : List ℕ} {o : Op} {args : List ℕ} {r : Made.Made} {c' : List ℕ} → MkApp c o args r c' → r ≡ Made.TheVariants.NoRoom →
+mk_lacks : {c : List ℕ} {o : Op} {args : List ℕ} {r : Made} {c' : List ℕ} → MkApp c o args r c' → r ≡ Err (record {}) →
     terms_fit (mk_app (context c) o args).context ≡ false
 unfolding made_answer
 mk_lacks {c} {o} {args} {r} {c'} K e = by_test (terms_fit (mk_app (context c) o args).context) fits (λ q. q)
@@ -318,9 +392,9 @@ module _ {c : List ℕ} {x f : ℕ} {o : List ℕ} (t : Testable c x f o) where
       terms = only_below (length (context c).terms) x t.within;
     }
 
-    module _ {r : Made.Made} {c' : List ℕ} (K : MkApp c (Term.Uninterpreted g) (x ∷ []) r c') where
-      pub tester_made : {y : TermId} {p : Phase} {o' : List ℕ} → r ≡ Made.TheVariants.At y → p ≡ phase (context c) f →
-          TesterPushed o y.0 p o' → MakesTester c x f o true c' o'
+    module _ {r : Made} {c' : List ℕ} (K : MkApp c (Term.Uninterpreted g) (x ∷ []) r c') where
+      pub tester_made : {y : TermId} {p : Phase} {o' : List ℕ} → r ≡ Ok y → p ≡ phase (context c) f →
+          TesterPushed o y.0 p o' → MakesTester c x f o (Ok tt) c' o'
       unfolding make_tester make_app made_in with_terms
       tester_made {y} {p} {o'} q h P =
           let m = mk_fits K q in
@@ -335,7 +409,7 @@ module _ {c : List ℕ} {x f : ℕ} {o : List ℕ} (t : Testable c x f o) where
             pushed = λ z. (y.0, subst (λ (ph : Phase). TesterPushed o y.0 ph o') h P);
           }
 
-      pub tester_lacks : r ≡ Made.TheVariants.NoRoom → MakesTester c x f o false c' o
+      pub tester_lacks : r ≡ Err (record {}) → MakesTester c x f o (Err (record {})) c' o
       unfolding make_tester make_app made_in with_terms
       tester_lacks q =
           let l = mk_lacks K q in
@@ -345,7 +419,7 @@ module _ {c : List ℕ} {x f : ℕ} {o : List ℕ} (t : Testable c x f o) where
             formed = subst⁻¹ (λ (z : List ℕ). Formed (context z)) k t.formed;
             extends = subst⁻¹ (λ (z : List ℕ). Extends (context c) (context z)) k (extends_self (context c));
             outcome = λ s. subst (λ (k : ℕ). terms_fit (mk_app (context c) (Term.Uninterpreted k) (x ∷ [])).context ≡ false) e l;
-            pushed = λ z. absurd (false≢true z);
+            pushed = λ z. absurd (err_not_ok z);
           }
 
 -- the phase by the number of fields
@@ -373,7 +447,7 @@ skip p (suc d) i n l h =
     let r = skip p d (suc i) n (omega arith) (λ j a b. h j (omega arith) (omega arith)) in
     rw (e, h i (omega arith) (omega arith)) (r ∙ ap (λ (j : ℕ). keep p (range j (n - j))) k)
 
-module _ (c₀ c : List ℕ) {dt from r : ℕ} (ex : Extends (context c₀) (context c)) (N : NextConstructor c dt from r) where
+module _ (c₀ c : List ℕ) (dt : ℕ) (ex : Extends (context c₀) (context c)) where
   -- the symbols are those of the start
   symbols_same : length (context c).symbols ≡ length (context c₀).symbols
   symbols_same = ap (λ (ss : List Symbol). length ss) (extends_symbols (context c₀) (context c) ex)
@@ -382,14 +456,13 @@ module _ (c₀ c : List ℕ) {dt from r : ℕ} (ex : Extends (context c₀) (con
   unfolding builds
   builds_same k = rw (extends_symbol (context c₀) (context c) k ex)
 
-  ctors_skip : ctors_from (context c₀) dt from ≡ ctors_from (context c₀) dt r
-  ctors_skip =
-      let a = N.after in
-      let w = N.within in
+  ctors_skip : (from to : ℕ) → from ≤ to → to ≤ length (context c).symbols → NoneBuilds c dt from to →
+      ctors_from (context c₀) dt from ≡ ctors_from (context c₀) dt to
+  ctors_skip from to a w N =
       let m = symbols_same in
-      let e : from + (r - from) ≡ r = omega arith in
-      skip (builds (context c₀) dt) (r - from) from (length (context c₀).symbols) (omega arith)
-      (λ k l h. sym (builds_same k) ∙ N.between k l (omega arith))
+      let e : from + (to - from) ≡ to = omega arith in
+      skip (builds (context c₀) dt) (to - from) from (length (context c₀).symbols) (omega arith)
+      (λ k l h. sym (builds_same k) ∙ N k l (omega arith))
       ∙ ap (ctors_from (context c₀) dt) e
 
 ctors_all : (cx : Context) (dt : ℕ) → dt_constructors cx dt ≡ ctors_from cx dt 0
@@ -409,45 +482,36 @@ ctors_end : (cx : Context) (dt i : ℕ) → length cx.symbols ≤ i → ctors_fr
 unfolding keep range
 ctors_end cx dt i l = let e : length cx.symbols - i ≡ 0 = omega arith in rw e
 
--- The testers of the constructors below f are made and listed; o₀ is the answer table at the start.
-pub record Testing (c₀ : List ℕ) (x : ℕ) (o₀ : List ℕ) (n : ℕ) (c o : List ℕ) (f : ℕ) : Type 0 where
+-- The testers of the constructors below i are made and listed; o₀ is the answer table at the start.
+pub record Testing (c₀ : List ℕ) (x : ℕ) (o₀ c o : List ℕ) (i : ℕ) : Type 0 where
   pub long : length c ≡ length c₀
   pub out_long : length o ≡ length o₀
   pub core : ContextSound c
   pub formed : Formed (context c)
   pub extends : Extends (context c₀) (context c)
-  pub count : n ≡ length (context c₀).symbols
-  pub small : n ≤ max_symbols
-  pub within : f ≤ n
-  pub here : f < n → builds (context c₀) (sort_of (context c₀) x) f ≡ true
+  pub within : i ≤ length (context c₀).symbols
   pub split : SplitSound o
   pub guard : split_guard o ≡ none
-  pub few : length (split_atoms o) ≤ f
-  pub few_phases : length (split_phases o) ≤ f
+  pub few : length (split_atoms o) ≤ i
+  pub few_phases : length (split_phases o) ≤ i
   pub rest : (s : State) →
       foldl (make_tester x) (record { atoms = []; state = with_terms s (context c₀) }) (ctors_of c₀ x)
-      ≡ foldl (make_tester x) (testers_at s c o) (ctors_from (context c₀) (sort_of (context c₀) x) f)
+      ≡ foldl (make_tester x) (testers_at s c o) (ctors_from (context c₀) (sort_of (context c₀) x) i)
   pub phases : map (phase (context c₀)) (ctors_of c₀ x)
-      ≡ split_phases o ++ map (phase (context c₀)) (ctors_from (context c₀) (sort_of (context c₀) x) f)
+      ≡ split_phases o ++ map (phase (context c₀)) (ctors_from (context c₀) (sort_of (context c₀) x) i)
 
-pub test_first : {c : List ℕ} {x : ℕ} {p o : List ℕ} {n dt r : ℕ} → Splittable c x p → n ≡ length (context c).symbols →
-    n ≤ max_symbols → SplitCleared o → dt ≡ sort_of (context c) x → NextConstructor c dt 0 r → Testing c x o n c o r
-test_first {c} {x} {p} {o} {n} {dt} {r} z N m C d B =
+pub test_first : {c : List ℕ} {x : ℕ} {p o : List ℕ} → Splittable c x p → SplitCleared o → Testing c x o c o 0
+test_first {c} {x} z C =
     let a = C.atoms in
     let k = C.phases in
-    let w = B.within in
-    let e = ctors_all (context c) dt ∙ ctors_skip c c (extends_self (context c)) B in
-    let q = subst (λ (y : ℕ). dt_constructors (context c) y ≡ ctors_from (context c) y r) d e in
+    let q = ctors_all (context c) (sort_of (context c) x) in
     record {
       long = refl;
       out_long = refl;
       core = z.core;
       formed = z.formed;
       extends = extends_self (context c);
-      count = N;
-      small = m;
       within = omega arith;
-      here = λ h. subst (λ (y : ℕ). builds (context c) y r ≡ true) d (B.here (omega arith));
       split = C.sound;
       guard = C.guard;
       few = rw a (omega arith);
@@ -457,107 +521,99 @@ test_first {c} {x} {p} {o} {n} {dt} {r} z N m C d B =
     }
 
 module _
-    {c₀ : List ℕ} {x : ℕ} {p o₀ : List ℕ} {n : ℕ} {c o : List ℕ} {f : ℕ} (z : Splittable c₀ x p) (t : Testing c₀ x o₀ n c o f)
+    {c₀ : List ℕ} {x : ℕ} {p o₀ c o : List ℕ} {i dt : ℕ} (z : Splittable c₀ x p) (t : Testing c₀ x o₀ c o i)
+    (d : dt ≡ sort_of (context c₀) x)
   where
-    module _ (h : f < n) where
+    abbrev symbols# : ℕ
+    symbols# = length (context c₀).symbols
+
+    same_count : length (context c).symbols ≡ symbols#
+    same_count = symbols_same c₀ c dt t.extends
+
+    pub next_asked : ContextSound c × (i ≤ length (context c).symbols)
+    next_asked = (t.core, let l = t.within in let e = same_count in omega arith)
+
+    module _ {f : ℕ} (N : LowestConstructor c dt i f) where
+      below : f < symbols#
+      below = let l = N.within in let e = same_count in omega arith
+
       sort_kept : sort_of (context c) x ≡ sort_of (context c₀) x
       sort_kept = extends_sort_of (context c₀) (context c) x t.extends z.within
 
       pub testable : Testable c x f o
-      unfolding builds
       testable = record {
         core = t.core;
         formed = t.formed;
         signed = extends_signed (context c₀) (context c) t.extends z.signed;
         within = let l = extends_length (context c₀) (context c) t.extends in let w = z.within in omega arith;
-        building = rw (extends_symbol (context c₀) (context c) f t.extends, sort_kept) (t.here h);
+        building = rw (sort_kept, ← d) N.here;
         room = record {
           sound = t.split;
-          atoms = let a = t.few in let s = t.small in omega arith;
-          phases = let a = t.few_phases in let s = t.small in omega arith;
+          atoms = let a = t.few in let l = N.after in let w = N.within in let m = t.core.symbols_fit in let k = t.core.symbol_count in omega arith;
+          phases =
+              let a = t.few_phases in let l = N.after in let w = N.within in let m = t.core.symbols_fit in let k = t.core.symbol_count in
+              omega arith;
         };
       }
 
-      -- the next constructor may be looked for
-      pub next_within : {c' o' : List ℕ} {b : Bool} → MakesTester c x f o b c' o' → f + 1 ≤ length (context c').symbols
-      next_within {c'} M =
-          let e = ap (λ (ss : List Symbol). length ss) (extends_symbols (context c) (context c') M.extends) in
-          let k = ap (λ (ss : List Symbol). length ss) (extends_symbols (context c₀) (context c) t.extends) in
-          let j = t.count in
-          omega arith
-
-      -- f, then the constructors behind it
-      rest_here : ctors_from (context c₀) (sort_of (context c₀) x) f ≡ f ∷ ctors_from (context c₀) (sort_of (context c₀) x) (f + 1)
-      rest_here = let e = t.count in ctors_here (context c₀) (sort_of (context c₀) x) f (omega arith) (t.here h)
+      -- the constructors from i on begin with f
+      behind : ctors_from (context c₀) (sort_of (context c₀) x) i ≡ f ∷ ctors_from (context c₀) (sort_of (context c₀) x) (f + 1)
+      behind =
+          subst (λ (y : ℕ). ctors_from (context c₀) y i ≡ f ∷ ctors_from (context c₀) y (f + 1)) d
+          (ctors_skip c₀ c dt t.extends i f N.after (let l = N.within in omega arith) N.between
+          ∙ ctors_here (context c₀) dt f below (sym (builds_same c₀ c dt t.extends f) ∙ N.here))
 
       phase_kept : phase (context c) f ≡ phase (context c₀) f
       unfolding phase
       phase_kept = rw (extends_symbol (context c₀) (context c) f t.extends)
 
-      pub test_next : {c' o' : List ℕ} {b : Bool} {dt r : ℕ} → MakesTester c x f o b c' o' → b ≡ true → length c' ≡ length c →
-          length o' ≡ length o → dt ≡ sort_of (context c₀) x → NextConstructor c' dt (f + 1) r → Testing c₀ x o₀ n c' o' r
-      test_next {c'} {o'} {b} {dt} {r} M q l k d B = record {
-        long = l ∙ t.long;
-        out_long = k ∙ t.out_long;
-        core = M.core;
-        formed = M.formed;
-        extends = ex;
-        count = t.count;
-        small = t.small;
-        within = let w = B.within in let i = symbols_same c₀ c' ex B in let j = t.count in omega arith;
-        here = λ p.
-            let i = symbols_same c₀ c' ex B in
-            let j = t.count in
-            subst (λ (m : ℕ). builds (context c₀) m r ≡ true) d (sym (builds_same c₀ c' ex B r) ∙ B.here (omega arith));
-        split = P.sound;
-        guard = P.guard ∙ t.guard;
-        few = let i = t.few in let j = B.after in rw (P.atoms, length-append) (omega arith);
-        few_phases = let i = t.few_phases in let j = B.after in rw (P.phases, length-append) (omega arith);
-        rest = λ s.
-            t.rest s
-            ∙ ap (foldl (make_tester x) (testers_at s c o)) behind
-            ∙ ap (λ (ts : Testers). foldl (make_tester x) ts (ctors_from (context c₀) (sort_of (context c₀) x) r))
-            (subst (λ (a : Bool). TestersOutcome a (make_tester x (testers_at s c o) f) (testers_at s c' o')) q (M.outcome s));
-        phases =
-            t.phases
-            ∙ ap (λ (is : List ℕ). split_phases o ++ map (phase (context c₀)) is) behind
-            ∙ sym (append_assoc (split_phases o) (phase (context c₀) f ∷ []) after)
-            ∙ ap (λ (ps : List Phase). ps ++ after) (ap (λ (p : Phase). split_phases o ++ (p ∷ [])) (sym phase_kept) ∙ sym P.phases);
-      }
-        where
-          P : TesterPushed o (M.pushed q).0 (phase (context c) f) o'
-          P = (M.pushed q).1
+      module _ {c' o' : List ℕ} where
+        pub test_next : MakesTester c x f o (Ok tt) c' o' → length c' ≡ length c → length o' ≡ length o → Testing c₀ x o₀ c' o' (f + 1)
+        test_next M l k = record {
+          long = l ∙ t.long;
+          out_long = k ∙ t.out_long;
+          core = M.core;
+          formed = M.formed;
+          extends = extends_then (context c₀) (context c) (context c') t.extends M.extends;
+          within = let l = below in omega arith;
+          split = P.sound;
+          guard = P.guard ∙ t.guard;
+          few = let n = t.few in let j = N.after in rw (P.atoms, length-append) (omega arith);
+          few_phases = let n = t.few_phases in let j = N.after in rw (P.phases, length-append) (omega arith);
+          rest = λ s.
+              t.rest s
+              ∙ ap (foldl (make_tester x) (testers_at s c o)) behind
+              ∙ ap (λ (ts : Testers). foldl (make_tester x) ts (ctors_from (context c₀) (sort_of (context c₀) x) (f + 1))) (M.outcome s);
+          phases =
+              t.phases
+              ∙ ap (λ (is : List ℕ). split_phases o ++ map (phase (context c₀)) is) behind
+              ∙ sym (append_assoc (split_phases o) (phase (context c₀) f ∷ []) after)
+              ∙ ap (λ (ps : List Phase). ps ++ after) (ap (λ (q : Phase). split_phases o ++ (q ∷ [])) (sym phase_kept) ∙ sym P.phases);
+        }
+          where
+            P : TesterPushed o (M.pushed refl).0 (phase (context c) f) o'
+            P = (M.pushed refl).1
 
-          ex : Extends (context c₀) (context c')
-          ex = extends_then (context c₀) (context c) (context c') t.extends M.extends
+            after : List Phase
+            after = map (phase (context c₀)) (ctors_from (context c₀) (sort_of (context c₀) x) (f + 1))
 
-          behind : ctors_from (context c₀) (sort_of (context c₀) x) f ≡ f ∷ ctors_from (context c₀) (sort_of (context c₀) x) r
-          behind =
-              rest_here
-              ∙ ap (λ (is : List ℕ). f ∷ is)
-              (subst (λ (i : ℕ). ctors_from (context c₀) i (f + 1) ≡ ctors_from (context c₀) i r) d (ctors_skip c₀ c' ex B))
+        pub test_lacks : {n : NoRoom} → MakesTester c x f o (Err n) c' o' → MakesTesters c₀ x (Err n) c' o'
+        test_lacks M = record {
+          core = M.core;
+          formed = M.formed;
+          extends = extends_then (context c₀) (context c) (context c') t.extends M.extends;
+          outcome = λ s.
+              let made = make_tester x (testers_at s c o) f in
+              let is = ctors_from (context c₀) (sort_of (context c₀) x) (f + 1) in
+              subst⁻¹ (λ (ts : Testers). terms_fit ts.state.terms ≡ false)
+              (t.rest s ∙ ap (foldl (make_tester x) (testers_at s c o)) behind)
+              (onward_unfit made.state (foldl (make_tester x) made is).state
+              (fold_onward (λ (ts : Testers). ts.state) (make_tester x) (make_tester_onward x) is made) (M.outcome s));
+          listed = λ q. absurd (err_not_ok q);
+        }
 
-          after : List Phase
-          after = map (phase (context c₀)) (ctors_from (context c₀) (sort_of (context c₀) x) r)
-
-      pub test_lacks : {c' o' : List ℕ} {b : Bool} → MakesTester c x f o b c' o' → b ≡ false → MakesTesters c₀ x false c' o'
-      test_lacks {c'} {o'} {b} M q = record {
-        core = M.core;
-        formed = M.formed;
-        extends = extends_then (context c₀) (context c) (context c') t.extends M.extends;
-        outcome = λ s.
-            let made = make_tester x (testers_at s c o) f in
-            let l = subst (λ (a : Bool). TestersOutcome a made (testers_at s c' o')) q (M.outcome s) in
-            let is = ctors_from (context c₀) (sort_of (context c₀) x) (f + 1) in
-            subst⁻¹ (λ (ts : Testers). terms_fit ts.state.terms ≡ false)
-            (t.rest s ∙ ap (foldl (make_tester x) (testers_at s c o)) rest_here)
-            (onward_unfit made.state (foldl (make_tester x) made is).state
-            (fold_onward (λ (ts : Testers). ts.state) (make_tester x) (make_tester_onward x) is made) l);
-        listed = λ p. absurd (false≢true p);
-      }
-
-    pub test_done : n ≤ f → MakesTesters c₀ x true c o
-    test_done h = record {
+    pub test_done : NoneBuilds c dt i (length (context c).symbols) → MakesTesters c₀ x (Ok tt) c o
+    test_done N = record {
       core = t.core;
       formed = t.formed;
       extends = t.extends;
@@ -571,8 +627,11 @@ module _
       };
     }
       where
-        none_left : ctors_from (context c₀) (sort_of (context c₀) x) f ≡ []
-        none_left = let e = t.count in ctors_end (context c₀) (sort_of (context c₀) x) f (omega arith)
+        none_left : ctors_from (context c₀) (sort_of (context c₀) x) i ≡ []
+        none_left =
+            subst (λ (y : ℕ). ctors_from (context c₀) y i ≡ []) d
+            (ctors_skip c₀ c dt t.extends i (length (context c).symbols) next_asked.1 (omega arith) N
+            ∙ ctors_end (context c₀) dt (length (context c).symbols) (let e = same_count in omega arith))
 
 -- ---- a term split on
 
@@ -622,9 +681,9 @@ module _ {c : List ℕ} {x : ℕ} {p s : List ℕ} (y : Splittable c x p) (z : S
   small : x < max_terms
   small = let l = y.within in let n = y.core.term_count in let m = y.core.terms_fit in omega arith
 
-  module _ {b : Bool} {c' o : List ℕ} (M : MakesTesters c x b c' o) where
+  module _ {b : Stepped} {c' o : List ℕ} (M : MakesTesters c x b c' o) where
     -- the testers fit
-    pub split_made : {s' : List ℕ} → b ≡ true → s' ≡ put s SPLIT x 1 → SplitsOn c s x TCheck.TheVariants.Split c' s' o
+    pub split_made : {s' : List ℕ} → b ≡ Ok tt → s' ≡ put s SPLIT x 1 → SplitsOn c s x (Ok TCheck.TheVariants.Split) c' s' o
     unfolding split_on answered split_of listed with_terms with_split_done with_dt state_with dt_with
     split_made q k = rw k (record {
       tried = λ e w C. record {
@@ -632,7 +691,7 @@ module _ {c : List ℕ} {x : ℕ} {p s : List ℕ} (y : Splittable c x p) (z : S
         extends = M.extends;
         outcome = λ lv.
             let start = with_split_done (state_at c e s w lv) (insert x (flagged_from s SPLIT 0)) in
-            let m = subst (λ (a : Bool).
+            let m = subst (λ (a : Stepped).
             TestersOutcome a (foldl (make_tester x) (record { atoms = []; state = with_terms start (context c) })
             (ctors_of c x)) (testers_at start c' o)) q (M.outcome start) in
             let L = M.listed q in
@@ -649,7 +708,7 @@ module _ {c : List ℕ} {x : ℕ} {p s : List ℕ} (y : Splittable c x p) (z : S
     })
 
     -- they do not
-    pub split_lacks : b ≡ false → SplitsOn c s x TCheck.TheVariants.NoRoom c' s o
+    pub split_lacks : b ≡ Err (record {}) → SplitsOn c s x (Err (record {})) c' s o
     unfolding split_on answered with_terms with_split_done with_dt state_with dt_with
     split_lacks q = record {
       tried = λ e w C. record {
@@ -657,7 +716,7 @@ module _ {c : List ℕ} {x : ℕ} {p s : List ℕ} (y : Splittable c x p) (z : S
         extends = M.extends;
         outcome = λ lv.
             let start = with_split_done (state_at c e s w lv) (insert x (flagged_from s SPLIT 0)) in
-            subst (λ (a : Bool). TestersOutcome a (foldl (make_tester x) (record { atoms = []; state = with_terms start (context c) })
+            subst (λ (a : Stepped). TestersOutcome a (foldl (make_tester x) (record { atoms = []; state = with_terms start (context c) })
             (ctors_of c x)) (testers_at start c' o)) q (M.outcome start);
         unchanged = λ n. refl;
         readable = tt;
@@ -673,19 +732,19 @@ pub found_splittable : {c s o : List ℕ} {u : Undetermined.Undetermined} {x : T
 found_splittable {x = x} y i = record { core = y.core; formed = y.formed; signed = y.signed; within = y.within x i; long = y.long }
 
 module _ {c s c' s' o : List ℕ} (u : Undetermined.Undetermined) where
-  pub found_split : {x : TermId} {r : TCheck.TCheck} → u ≡ Undetermined.TheVariants.Split x → SplitsOn c s x.0 r c' s' o →
+  pub found_split : {x : TermId} {r : RuleAnswer} → u ≡ Undetermined.TheVariants.Split x → SplitsOn c s x.0 r c' s' o →
       FoundAnswered u c s r c' s' o
   found_split {x} {r} i k = subst (λ (v : Undetermined.Undetermined). FoundAnswered v c s r c' s' o) (sym i) k
 
 pub found_unknown : (c s o : List ℕ) {u : Undetermined.Undetermined} → u ≡ Undetermined.TheVariants.Unknown →
-    FoundAnswered u c s TCheck.TheVariants.Unknown c s o
+    FoundAnswered u c s (Ok TCheck.TheVariants.Unknown) c s o
 found_unknown c s o i =
-    subst (λ (v : Undetermined.Undetermined). FoundAnswered v c s TCheck.TheVariants.Unknown c s o) (sym i) (refl, refl, refl)
+    subst (λ (v : Undetermined.Undetermined). FoundAnswered v c s (Ok TCheck.TheVariants.Unknown) c s o) (sym i) (refl, refl, refl)
 
 pub found_nothing : (c s o : List ℕ) {u : Undetermined.Undetermined} → u ≡ Undetermined.TheVariants.Nothing →
-    FoundAnswered u c s TCheck.TheVariants.Sat c s o
+    FoundAnswered u c s (Ok TCheck.TheVariants.Sat) c s o
 found_nothing c s o i =
-    subst (λ (v : Undetermined.Undetermined). FoundAnswered v c s TCheck.TheVariants.Sat c s o) (sym i) (refl, refl, refl)
+    subst (λ (v : Undetermined.Undetermined). FoundAnswered v c s (Ok TCheck.TheVariants.Sat) c s o) (sym i) (refl, refl, refl)
 
 -- ---- the rule
 
@@ -705,7 +764,7 @@ module _ {c e s w : List ℕ} (C : CheckSound c e s w) {r : Undetermined.Undeter
       let (j, d) = keep_in (λ y. is_datatype_sort z.terms (sort_of z.terms y)) z.dt.marks x.0 k in
       datatype_within (context c) C.state.signed x.0 d
 
-  pub split_tried : {x : TermId} {a : TCheck.TCheck} {c' s' o : List ℕ} → r ≡ Undetermined.TheVariants.Split x →
+  pub split_tried : {x : TermId} {a : RuleAnswer} {c' s' o : List ℕ} → r ≡ Undetermined.TheVariants.Split x →
       SplitsOn c s x.0 a c' s' o → Tried rule c e s w a c' s' w o
   unfolding exhaustiveness_split split_answer
   split_tried {x} i K =
@@ -720,7 +779,7 @@ module _ {c e s w : List ℕ} (C : CheckSound c e s w) {r : Undetermined.Undeter
   unfolding exhaustiveness_split split_answer then pass go_on
   no_split lv n = ap (λ (f : Option ℕ). then (split_answer (state_at c e s w lv) f) (λ v. unknown_fence v)) n
 
-  pub unknown_tried : {o : List ℕ} → r ≡ Undetermined.TheVariants.Unknown → Tried rule c e s w TCheck.TheVariants.Unknown c s w o
+  pub unknown_tried : {o : List ℕ} → r ≡ Undetermined.TheVariants.Unknown → Tried rule c e s w (Ok TCheck.TheVariants.Unknown) c s w o
   unfolding unknown_fence
   unknown_tried i = record {
     sound = C;
@@ -732,7 +791,7 @@ module _ {c e s w : List ℕ} (C : CheckSound c e s w) {r : Undetermined.Undeter
     readable = tt;
   }
 
-  pub none_tried : {o : List ℕ} → r ≡ Undetermined.TheVariants.Nothing → Tried rule c e s w TCheck.TheVariants.Sat c s w o
+  pub none_tried : {o : List ℕ} → r ≡ Undetermined.TheVariants.Nothing → Tried rule c e s w (Ok TCheck.TheVariants.Sat) c s w o
   unfolding unknown_fence
   none_tried i = record {
     sound = C;
@@ -756,7 +815,7 @@ found_asked C P l = record {
   long = l;
 }
 
-pub found_tried : {c e s w c' s' o : List ℕ} {r : TCheck.TCheck} (u : Undetermined.Undetermined) → CheckSound c e s w →
+pub found_tried : {c e s w c' s' o : List ℕ} {r : RuleAnswer} (u : Undetermined.Undetermined) → CheckSound c e s w →
     Passed c e s w u → FoundAnswered u c s r c' s' o → Tried rule c e s w r c' s' w o
 found_tried (Undetermined.TheVariants.Split x) C P k = split_tried C P refl k
 found_tried Undetermined.TheVariants.Unknown C P (q, i, j) = rw (q, i, j) (unknown_tried C P refl)

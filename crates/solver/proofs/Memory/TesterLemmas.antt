@@ -1,5 +1,5 @@
 -- The tester lemma: the tester of an application's constructor on the application is made and handed out.
-use Rattle.shinri_core.proofs.Kit.{ℕ, ◌-◌, ◌<◌, ◌≡◌, refl, sym, ap, ap₂, ◌∙◌, ◌⊎◌, inl, inr, Bool, true, false, cond, ◌&&◌, List, [], ◌∷◌, none, some, Option, arith, eqb, eq-eqb, ne_eqb, length, get_or}
+use Rattle.shinri_core.proofs.Kit.{ℕ, ◌-◌, ◌<◌, ◌≡◌, refl, sym, ap, ap₂, ◌∙◌, ◌⊎◌, inl, inr, Bool, true, false, cond, ◌&&◌, List, [], ◌∷◌, none, some, Option, arith, eqb, eq-eqb, ne_eqb, length, get_or, suc}
 use Rattle.shinri_core.specs.Limits.{max_terms}
 use Rattle.shinri_core.specs.Term as Term
 use Rattle.shinri_core.specs.Term.{Symbol, Tester}
@@ -10,7 +10,6 @@ use Rattle.shinri_core.specs.Memory.Table.{context, MayApply}
 use Rattle.shinri_core.specs.Memory.Codes.{role_meaning, OpAt, RoleAt, MkApp, made_answer, made_context}
 use Rattle.shinri_core.specs.declared.ids.TermId.{TermId}
 use Rattle.shinri_core.specs.declared.ids.SymbolId.{SymbolId}
-use Rattle.shinri_core.specs.declared.context.Made as Made
 use Rattle.shinri_core.specs.declared.term.Op as Op
 use Rattle.shinri_core.specs.declared.term.DtRole as DtRole
 use Rattle.shinri_core.proofs.Lists.{and_no}
@@ -19,11 +18,11 @@ use Rattle.theory.specs.Memory.Table.{merges}
 use Rattle.solver.specs.State.{State, ctor_apps, testers, equal, make_app}
 use Rattle.solver.specs.Rules.{Ruled, pass, hand_out_made, tester_lemma_at, tester_lemma}
 use Rattle.solver.specs.declared.answer.TCheck as TCheck
-use Rattle.solver.specs.declared.answer.Guard as Guard
+use Rattle.std.specs.Prelude.{None, Ok, Err}
 use Rattle.solver.specs.Memory.Table.{term_kind, state_with}
 use Rattle.solver.specs.Memory.Work.{W_MARK, state_at, CheckSound}
-use Rattle.solver.specs.Memory.Answer.{Tried}
-use Rattle.solver.specs.Memory.Making.{Makeable, HandsOut}
+use Rattle.solver.specs.Memory.Answer.{Tried, RuleAnswer}
+use Rattle.solver.specs.Memory.Making.{Makeable, HandsOut, Made}
 use Rattle.solver.specs.Memory.Checks.{Underway}
 use Rattle.solver.specs.Memory.Collapse.{when, by_apps, if_marked, testing, Testable, TesterOn}
 use Rattle.solver.proofs.Basics.{by_test}
@@ -41,7 +40,7 @@ use Rattle.solver.proofs.Memory.Collapsing.{made_none, made_some, handed, making
 -- ---- an application of the constructor
 
 module _
-    {c c' : List ℕ} {o : Term.Op} {args : List ℕ} {m : Made.Made} {z : TermId} (K : MkApp c o args m c') (q : m ≡ Made.TheVariants.At z)
+    {c c' : List ℕ} {o : Term.Op} {args : List ℕ} {m : Made} {z : TermId} (K : MkApp c o args m c') (q : m ≡ Ok z)
   where
     abbrev new : Context.Made
     new = mk_app (context c) o args
@@ -49,7 +48,7 @@ module _
     below_fits : terms_fit new.context ≡ true → z.0 < max_terms
     unfolding made_answer made_context
     below_fits h =
-        let a : m ≡ Made.TheVariants.At (record { 0 = new.id }) = rw h at K.answer in
+        let a : m ≡ Ok (record { 0 = new.id }) = rw h at K.answer in
         let v : context c' ≡ new.context = rw h at K.view in
         let e : z ≡ record { 0 = new.id } = cc in
         let l = (mk_app_makes (context c) o args).within in
@@ -60,7 +59,7 @@ module _
     below_lacks : terms_fit new.context ≡ false → z.0 < max_terms
     unfolding made_answer
     below_lacks h =
-        let a : m ≡ Made.TheVariants.NoRoom = rw h at K.answer in
+        let a : m ≡ Err (record {}) = rw h at K.answer in
         let b : ◌≡◌ {A = ℕ} 0 1 = cc in
         omega arith
 
@@ -88,7 +87,7 @@ module _ {c s : List ℕ} {f ctor x : ℕ} {o : List ℕ} (P : Testable c s f ct
 
     -- another constructor
     pub test_other : {o' : List ℕ} → (P.a.ctor ≡ ctor → ⊥) → (arg : ℕ) → Kept-on arg →
-        Tried (rule_at arg) c e s w TCheck.TheVariants.Sat c s w o'
+        Tried (rule_at arg) c e s w (Ok TCheck.TheVariants.Sat) c s w o'
     unfolding when tester_lemma_at
     test_other n arg k =
         tried_pass C (λ lv.
@@ -122,14 +121,14 @@ module _ {c s : List ℕ} {f ctor x : ℕ} {o : List ℕ} (P : Testable c s f ct
           (ap₂ (λ (a b : Bool). a && b) (eq-eqb P.a.ctor ctor own) (ap (are_equal (merges e) arg) A.app ∙ k))
           ∙ ap (λ (z : ℕ). hand_out_made (make_app S f (z ∷ [])) []) A.app
 
-      module _ {m : Made.Made} {c' : List ℕ} (K : MkApp c (Term.Uninterpreted f) (x ∷ []) m c') where
-        pub test_none : {o' : List ℕ} → m ≡ Made.TheVariants.NoRoom → (arg : ℕ) → Kept-on arg →
-            Tried (rule_at arg) c e s w TCheck.TheVariants.NoRoom c' s w o'
+      module _ {m : Made} {c' : List ℕ} (K : MkApp c (Term.Uninterpreted f) (x ∷ []) m c') where
+        pub test_none : {o' : List ℕ} → m ≡ Err (record {}) → (arg : ℕ) → Kept-on arg →
+            Tried (rule_at arg) c e s w (Err (record {})) c' s w o'
         test_none q arg k =
             tried_as (made_none (λ a. hand_out_made a []) (made_app makeable K) q C (λ a. hand_out_made_onward a [])) (own_rule arg k)
 
-        pub test_some : {z : TermId} {r : TCheck.TCheck} {s' o' : List ℕ} → m ≡ Made.TheVariants.At z →
-            HandsOut z.0 Guard.TheVariants.Nothing s r s' o' → (arg : ℕ) → Kept-on arg → Tried (rule_at arg) c e s w r c' s' w o'
+        pub test_some : {z : TermId} {r : TCheck.TCheck} {s' o' : List ℕ} → m ≡ Ok z →
+            HandsOut z.0 None s r s' o' → (arg : ℕ) → Kept-on arg → Tried (rule_at arg) c e s w (Ok r) c' s' w o'
         test_some q H arg k =
             let M = made_app makeable K in
             tried_as (made_some (λ a. hand_out_made a []) M q (handed (M.sound s C) H)) (own_rule arg k)
@@ -143,8 +142,8 @@ tester_others x ms a S q h =
     (ap (λ (b : Bool). eqb a.ctor x.ctor && b) (ap (λ (es : List Merge). are_equal es x.arg a.app) q ∙ h)
     ∙ and_no (eqb a.ctor x.ctor))
 
-pub walk_testable : {c₀ e s₀ w c s : List ℕ} {f ctor arg : ℕ} {o₀ o : List ℕ} {k : ℕ} → TesterOn c₀ e s₀ w f ctor arg o₀ →
-    Walking (tester_lemma_at (testing f ctor arg)) c₀ e s₀ w arg c s k → (k ≡ 0 → ⊥) → length o ≡ length o₀ → Testable c s f ctor (k - 1) o
+pub walk_testable : {c₀ e s₀ w c s : List ℕ} {f ctor arg : ℕ} {o₀ o : List ℕ} {k x : ℕ} → TesterOn c₀ e s₀ w f ctor arg o₀ →
+    Walking (tester_lemma_at (testing f ctor arg)) c₀ e s₀ w arg c s k → k ≡ suc x → length o ≡ length o₀ → Testable c s f ctor x o
 walk_testable {c₀} {c = c} {f = f} P W n l = record {
   core = W.trying.sound.state.core;
   solver = W.trying.sound.state.solver;
@@ -205,7 +204,7 @@ module _ {c e s w : List ℕ} {x : ℕ} {o : List ℕ} (U : Underway c e s w o) 
               let h = its_argument in
               record { under = U; role = tester_role; within = omega arith }
 
-          pub tester_tried : {r : TCheck.TCheck} {c' s' o' : List ℕ} →
+          pub tester_tried : {r : RuleAnswer} {c' s' o' : List ℕ} →
               Tried (by_apps (tester_lemma_at (testing f.0 g.0 y))) c e s w r c' s' w o' →
               Tried (λ S. when (λ z. by_apps (tester_lemma_at z)) (tester_app (context c) x) S) c e s w r c' s' w o'
           unfolding role_meaning tester_by_role by_apps
@@ -226,20 +225,20 @@ module _ {c e s w : List ℕ} {x : ℕ} {o : List ℕ} (U : Underway c e s w o) 
     node = let z = U.check.state.core in omega (arith, z.term_count, z.terms_fit)
 
     pub tester_other : {o' : List ℕ} → (k ≡ 4 → ⊥) →
-        Tried (if_marked w x (when (λ z. by_apps (tester_lemma_at z)) (tester_app (context c) x))) c e s w TCheck.TheVariants.Sat c s w o'
+        Tried (if_marked w x (when (λ z. by_apps (tester_lemma_at z)) (tester_app (context c) x))) c e s w (Ok TCheck.TheVariants.Sat) c s w o'
     tester_other i = term_passes tester_lemma_at x (tester_app (context c) x) U.check (go (U.check.work.marks x node))
       where
         go : (at w W_MARK x ≡ 0) ⊎ (at w W_MARK x ≡ term_kind (context c) x) → (at w W_MARK x ≡ 0) ⊎ (tester_app (context c) x ≡ none)
         go (inl z) = inl z
         go (inr z) = inr (kind_no_tester (context c) U.check.state.formed U.check.state.signed x (λ q. i (m ∙ z ∙ q)))
 
-    pub tester_marked : {r : TCheck.TCheck} {c' s' o' : List ℕ} → 0 < k →
+    pub tester_marked : {r : RuleAnswer} {c' s' o' : List ℕ} → 0 < k →
         Tried (λ S. when (λ z. by_apps (tester_lemma_at z)) (tester_app (context c) x) S) c e s w r c' s' w o' →
         Tried (if_marked w x (when (λ z. by_apps (tester_lemma_at z)) (tester_app (context c) x))) c e s w r c' s' w o'
     tester_marked h T = term_tried tester_lemma_at x (tester_app (context c) x) {k = k - 1} (let q = m in omega arith) T
 
 -- the rule as the definition has it
-pub tester_lemma_is : {c e s w : List ℕ} {r : TCheck.TCheck} {c' s' o : List ℕ} →
+pub tester_lemma_is : {c e s w : List ℕ} {r : RuleAnswer} {c' s' o : List ℕ} →
     Tried (by_terms tester_lemma_at tester_app) c e s w r c' s' w o → Tried tester_lemma c e s w r c' s' w o
 unfolding tester_lemma testers by_terms
 tester_lemma_is T = tried_as T (λ lv. refl)

@@ -19,10 +19,10 @@ use Rattle.theory.proofs.Classes.{equal_refl, equal_sym}
 use Rattle.solver.specs.State.{State, equal}
 use Rattle.solver.specs.Rules.{Ruled, pass, tester_lemma_at, try_each}
 use Rattle.solver.specs.declared.answer.TCheck as TCheck
-use Rattle.solver.specs.declared.work.CtorOf as CtorOf
+use Rattle.std.specs.Prelude.{Some, Ok}
 use Rattle.solver.specs.Memory.Table.{state_with}
-use Rattle.solver.specs.Memory.Work.{state_at, apps_from, first_in_class, ctor_meaning, CtorOfClass, CheckSound}
-use Rattle.solver.specs.Memory.Answer.{Outcome, Tried}
+use Rattle.solver.specs.Memory.Work.{state_at, apps_from, first_in_class, ctor_meaning, CtorOfClass, CheckSound, CtorOf}
+use Rattle.solver.specs.Memory.Answer.{Outcome, Tried, RuleAnswer}
 use Rattle.solver.specs.Memory.Collapse.{by_apps, testing, FLAGS, TesterOn, Tested, TestsSound, TestsOnce, TestableOnce}
 use Rattle.solver.proofs.Basics.{first_some}
 use Rattle.solver.proofs.Signature.{tester_of, tester_function, declared_role}
@@ -71,8 +71,8 @@ tester_small {c} {f = f} {ctor} P =
 
 -- ---- flags
 
-module _ {c e s w : List ℕ} {rule : State → Ruled} {r : TCheck.TCheck} {c' s' o : List ℕ} (C : CheckSound c e s w)
-    (K : Tried rule c e s w r c' s' w o) (q : r ≡ TCheck.TheVariants.Sat)
+module _ {c e s w : List ℕ} {rule : State → Ruled} {r : RuleAnswer} {c' s' o : List ℕ} (C : CheckSound c e s w)
+    (K : Tried rule c e s w r c' s' w o) (q : r ≡ Ok TCheck.TheVariants.Sat)
   where
     tested_still : (f y : ℕ) → Tested c e s w f y → Tested c' e s' w f y
     unfolding equal state_with
@@ -96,7 +96,7 @@ module _ {c e s w d : List ℕ} {f ctor arg y : ℕ} {o : List ℕ} (P : Testabl
   C = P.on.under.check
 
   -- it was done: the rule passes, for every argument of the class
-  pub tests_pass : {o' : List ℕ} → at d FLAGS y ≡ suc f → TestsOnce rule c e s w TCheck.TheVariants.Sat c s d o'
+  pub tests_pass : {o' : List ℕ} → at d FLAGS y ≡ suc f → TestsOnce rule c e s w (Ok TCheck.TheVariants.Sat) c s d o'
   unfolding equal state_with
   tests_pass h = record {
     tried = tried_pass C (λ lv.
@@ -109,8 +109,8 @@ module _ {c e s w d : List ℕ} {f ctor arg y : ℕ} {o : List ℕ} (P : Testabl
     flags = λ q. P.flags;
   }
 
-  module _ {r : TCheck.TCheck} {c' s' o' : List ℕ} (K : Tried rule c e s w r c' s' w o') where
-    module _ (q : r ≡ TCheck.TheVariants.Sat) where
+  module _ {r : RuleAnswer} {c' s' o' : List ℕ} (K : Tried rule c e s w r c' s' w o') where
+    module _ (q : r ≡ Ok TCheck.TheVariants.Sat) where
       now_tested : Tested c' e s' w f y
       unfolding equal state_with
       now_tested = record {
@@ -118,7 +118,7 @@ module _ {c e s w d : List ℕ} {f ctor arg y : ℕ} {o : List ℕ} (P : Testabl
             let S = state_at c e s w lv in
             let S' = state_at c' e s' w lv in
             let same = tester_of ctor ctor' (sym P.on.role ∙ role_back C K q f (Tester ctor') ρ) in
-            let outcome = subst (λ (m : TCheck.TCheck). Outcome m (rule S) S' o') q (K.outcome lv) in
+            let outcome = subst (λ (m : RuleAnswer). Outcome m (rule S) S' o') q (K.outcome lv) in
             subst (λ (n : ℕ). tester_lemma_at (testing f n y) a S' ≡ pass S') same
             (tested_passes f ctor arg y a S' K.sound.state.formed (true_T (are_equal (merges e) arg y) P.near)
             (all_tested (testing f ctor arg) (apps_from (context c) w 0) S S'
@@ -143,24 +143,21 @@ module _ {c e s w d : List ℕ} {f ctor arg y : ℕ} {o : List ℕ} (P : Testabl
           go x g k b (no m) = tested_still C K q g x (P.flags.done x g k (sym (other_place d FLAGS y x v m) ∙ b))
 
     -- it is done now, and the flag is set
-    pub tests_now : {d' : List ℕ} {v : ℕ} → r ≡ TCheck.TheVariants.Sat → v ≡ suc f → d' ≡ put d FLAGS y v →
-        TestsOnce rule c e s w TCheck.TheVariants.Sat c' s' d' o'
-    tests_now {d'} {v} q n g =
-        subst (λ (m : TCheck.TCheck). TestsOnce rule c e s w m c' s' d' o') q
-        (record { tried = K; flags = λ m. subst (TestsSound c' e s' w) (sym g) (tests_more m v n) })
+    pub tests_now : {d' : List ℕ} {v : ℕ} → v ≡ suc f → d' ≡ put d FLAGS y v → TestsOnce rule c e s w r c' s' d' o'
+    tests_now {d'} {v} n g = record { tried = K; flags = λ m. subst (TestsSound c' e s' w) (sym g) (tests_more m v n) }
 
     -- it answers
-    pub tests_answer : {d' : List ℕ} → (r ≡ TCheck.TheVariants.Sat → ⊥) → TestsOnce rule c e s w r c' s' d' o'
+    pub tests_answer : {d' : List ℕ} → (r ≡ Ok TCheck.TheVariants.Sat → ⊥) → TestsOnce rule c e s w r c' s' d' o'
     tests_answer n = record { tried = K; flags = λ m. absurd (n m) }
 
 -- ---- a class whose lowest application is of another constructor, or that has none
 
-pub not_tested : {rule : State → Ruled} {c e s w d : List ℕ} {r : TCheck.TCheck} {c' s' o : List ℕ} → CheckSound c e s w →
+pub not_tested : {rule : State → Ruled} {c e s w d : List ℕ} {r : RuleAnswer} {c' s' o : List ℕ} → CheckSound c e s w →
     TestsSound c e s w d → Tried rule c e s w r c' s' w o → TestsOnce rule c e s w r c' s' d o
 not_tested C D K = record { tried = K; flags = λ q. tests_keep C K q D }
 
-pub lowest_tested : {c e s w d : List ℕ} {f ctor arg : ℕ} {o : List ℕ} {a : CtorOf.CtorOf} {g : SymbolId} {x : TermId} →
-    TesterOn c e s w f ctor arg o → TestsSound c e s w d → CtorOfClass c e w arg a → a ≡ CtorOf.TheVariants.At g x →
+pub lowest_tested : {c e s w d : List ℕ} {f ctor arg : ℕ} {o : List ℕ} {a : CtorOf} {g : SymbolId} {x : TermId} →
+    TesterOn c e s w f ctor arg o → TestsSound c e s w d → CtorOfClass c e w arg a → a ≡ Some (g, x) →
     TestableOnce c e s w d f ctor arg x.0 o
 unfolding ctor_meaning first_in_class
 lowest_tested {c} {e} {w = w} {arg = arg} {g = g} {x = x} P D K q =

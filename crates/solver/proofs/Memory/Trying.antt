@@ -1,8 +1,9 @@
 -- Rules tried one after the other: what the rest of a loop makes of the present tables is what the whole made of those at the start.
 -- Until an answer only the terms grow.
-use Rattle.shinri_core.proofs.Kit.{ℕ, ◌≡◌, refl, ap, ◌∙◌, subst, subst⁻¹, List, [], ◌∷◌, none, some, Option, arith}
+use Rattle.shinri_core.proofs.Kit.{ℕ, ◌≡◌, refl, sym, ap, ◌∙◌, Bool, true, false, not, not-false, false≢true, subst, subst⁻¹, List, [], ◌∷◌, none, some, Option, arith}
 use types.Run.{OneOf, miss}
 use denote.Enum.Declared.{tag_of}
+use Rattle.shinri_core.specs.declared.limits.NoRoom.{NoRoom}
 use Rattle.shinri_core.specs.Formed.{Extends}
 use Rattle.shinri_core.specs.Memory.Table.{context}
 use Rattle.solver.specs.State.{State}
@@ -10,28 +11,60 @@ use Rattle.solver.specs.Rules as Rules
 use Rattle.solver.specs.Rules.{Ruled, pass, answered, go_on, then, try_each}
 use Rattle.solver.specs.declared.answer.TCheck as TCheck
 use Rattle.solver.specs.Memory.Work.{state_at, CheckSound}
-use Rattle.solver.specs.Memory.Answer.{Outcome, Tried}
+use Rattle.solver.specs.Memory.Answer.{Outcome, Tried, RuleAnswer}
 use Rattle.solver.specs.contracts.answer.TCheck.{the_type}
+use denote.Enum.Bare.{sameb}
 use Rattle.solver.proofs.Terms.{extends_self, extends_then}
 use Rattle.solver.proofs.Memory.Unfitting.{Onward, then_unfit}
+use Rattle.std.specs.Prelude.{Ok, Err}
 
 -- `Sat` is no split
-pub sat_split : (r : TCheck.TCheck) → r ≡ TCheck.TheVariants.Sat → r ≡ TCheck.TheVariants.Split → ⊥
+pub sat_split : (r : RuleAnswer) → r ≡ Ok TCheck.TheVariants.Sat → r ≡ Ok TCheck.TheVariants.Split → ⊥
 sat_split r p q = let z : ◌≡◌ {A = ℕ} 0 1 = cc in omega arith
 
--- the other arms of a match on an answer
+-- an answer of another tag than the first is not `Sat`
 pub not_sat : {r : TCheck.TCheck} → OneOf (1 ∷ 2 ∷ 3 ∷ 4 ∷ []) (tag_of the_type r) → r ≡ TCheck.TheVariants.Sat → ⊥
 not_sat k q = miss (1 ∷ 2 ∷ 3 ∷ 4 ∷ []) 0 tt (subst (λ (z : TCheck.TCheck). OneOf (1 ∷ 2 ∷ 3 ∷ 4 ∷ []) (tag_of the_type z)) q k)
 
+-- a refusal is no `Sat`
+pub err_not_sat : {r : RuleAnswer} {n : NoRoom} → r ≡ Err n → r ≡ Ok TCheck.TheVariants.Sat → ⊥
+err_not_sat p q = let z : ◌≡◌ {A = ℕ} 0 1 = cc in omega arith
+
+-- what the test of an answer says
+same_sat : (t : TCheck.TCheck) → sameb the_type t TCheck.TheVariants.Sat ≡ true → t ≡ TCheck.TheVariants.Sat
+same_sat TCheck.TheVariants.Sat q = refl
+same_sat TCheck.TheVariants.Conflict q = absurd (false≢true q)
+same_sat TCheck.TheVariants.Split q = absurd (false≢true q)
+same_sat TCheck.TheVariants.Unknown q = absurd (false≢true q)
+
+pub plain_sat : (t : TCheck.TCheck) {b : Bool} → b ≡ not (sameb the_type t TCheck.TheVariants.Sat) → b ≡ false → t ≡ TCheck.TheVariants.Sat
+plain_sat t p q = same_sat t (not-false (sameb the_type t TCheck.TheVariants.Sat) (sym p ∙ q))
+
+pub plain_answer : (t : TCheck.TCheck) {b : Bool} → b ≡ not (sameb the_type t TCheck.TheVariants.Sat) → b ≡ true →
+    t ≡ TCheck.TheVariants.Sat → ⊥
+plain_answer t p q d = false≢true (ap (λ (z : TCheck.TCheck). not (sameb the_type z TCheck.TheVariants.Sat)) (sym d) ∙ sym p ∙ q)
+
+pub is_sat : (t : TCheck.TCheck) {b : Bool} → b ≡ not (sameb the_type t TCheck.TheVariants.Sat) → b ≡ false →
+    ◌≡◌ {A = RuleAnswer} (Ok t) (Ok TCheck.TheVariants.Sat)
+is_sat t p q = ap Ok (plain_sat t p q)
+
+pub is_answer : (t : TCheck.TCheck) {b : Bool} → b ≡ not (sameb the_type t TCheck.TheVariants.Sat) → b ≡ true →
+    ◌≡◌ {A = RuleAnswer} (Ok t) (Ok TCheck.TheVariants.Sat) → ⊥
+is_answer t p q k = plain_answer t p q cc
+
+pub no_sat : (t : TCheck.TCheck) {b : Bool} → b ≡ sameb the_type t TCheck.TheVariants.Sat → b ≡ false →
+    ◌≡◌ {A = RuleAnswer} (Ok t) (Ok TCheck.TheVariants.Sat) → ⊥
+no_sat t p q = is_answer t (ap not p) (ap not q)
+
 -- an answer stays, whatever comes behind it
-outcome_then : (r : TCheck.TCheck) (a : Ruled) (next : State → Ruled) (S : State) (o : List ℕ) → (r ≡ TCheck.TheVariants.Sat → ⊥) →
+outcome_then : (r : RuleAnswer) (a : Ruled) (next : State → Ruled) (S : State) (o : List ℕ) → (r ≡ Ok TCheck.TheVariants.Sat → ⊥) →
     ((S' : State) → Onward S' (next S').state) → Outcome r a S o → Outcome r (then a next) S o
 unfolding then answered go_on
-outcome_then TCheck.TheVariants.Sat a next S o n h p = absurd (n refl)
-outcome_then TCheck.TheVariants.Conflict a next S o n h p = ap (λ (z : Ruled). then z next) p
-outcome_then TCheck.TheVariants.Split a next S o n h p = ap (λ (z : Ruled). then z next) p
-outcome_then TCheck.TheVariants.Unknown a next S o n h p = ap (λ (z : Ruled). then z next) p
-outcome_then TCheck.TheVariants.NoRoom a next S o n h p = then_unfit a next h p
+outcome_then (Ok TCheck.TheVariants.Sat) a next S o n h p = absurd (n refl)
+outcome_then (Ok TCheck.TheVariants.Conflict) a next S o n h p = ap (λ (z : Ruled). then z next) p
+outcome_then (Ok TCheck.TheVariants.Split) a next S o n h p = ap (λ (z : Ruled). then z next) p
+outcome_then (Ok TCheck.TheVariants.Unknown) a next S o n h p = ap (λ (z : Ruled). then z next) p
+outcome_then (Err m) a next S o n h p = then_unfit a next h p
 
 -- a rule that passes goes on
 pass_then : (a : Ruled) (next : State → Ruled) (S : State) → a ≡ pass S → then a next ≡ next S
@@ -55,11 +88,11 @@ try_as T h = record { sound = T.sound; extends = T.extends; same = T.same; whole
 
 module _
     {rule : State → Ruled} {c₀ e s₀ w c s : List ℕ} (step next : State → Ruled)
-    (T : Trying rule (λ S. then (step S) next) c₀ e s₀ w c s) {r : TCheck.TCheck} {c' s' o : List ℕ}
+    (T : Trying rule (λ S. then (step S) next) c₀ e s₀ w c s) {r : RuleAnswer} {c' s' o : List ℕ}
     (K : Tried step c e s w r c' s' w o)
   where
     -- the step passes
-    pub try_next : r ≡ TCheck.TheVariants.Sat → Trying rule next c₀ e s₀ w c' s'
+    pub try_next : r ≡ Ok TCheck.TheVariants.Sat → Trying rule next c₀ e s₀ w c' s'
     try_next q = record {
       sound = K.sound;
       extends = extends_then (context c₀) (context c) (context c') T.extends K.extends;
@@ -67,11 +100,11 @@ module _
       whole = λ lv.
           T.whole lv
           ∙ pass_then (step (state_at c e s w lv)) next (state_at c' e s' w lv)
-          (subst (λ (z : TCheck.TCheck). Outcome z (step (state_at c e s w lv)) (state_at c' e s' w lv) o) q (K.outcome lv));
+          (subst (λ (z : RuleAnswer). Outcome z (step (state_at c e s w lv)) (state_at c' e s' w lv) o) q (K.outcome lv));
     }
 
     -- the step answers
-    pub try_answer : (r ≡ TCheck.TheVariants.Sat → ⊥) → ((S : State) → Onward S (next S).state) → Tried rule c₀ e s₀ w r c' s' w o
+    pub try_answer : (r ≡ Ok TCheck.TheVariants.Sat → ⊥) → ((S : State) → Onward S (next S).state) → Tried rule c₀ e s₀ w r c' s' w o
     try_answer n h = record {
       sound = K.sound;
       extends = extends_then (context c₀) (context c) (context c') T.extends K.extends;
@@ -84,16 +117,16 @@ module _
 
 -- nothing is left
 pub try_done : {rule : State → Ruled} {c₀ e s₀ w c s o : List ℕ} → Trying rule pass c₀ e s₀ w c s →
-    Tried rule c₀ e s₀ w TCheck.TheVariants.Sat c s w o
+    Tried rule c₀ e s₀ w (Ok TCheck.TheVariants.Sat) c s w o
 try_done T = record { sound = T.sound; extends = T.extends; outcome = T.whole; unchanged = λ q. T.same; readable = tt }
 
 -- a rule that passes
 pub tried_pass : {rule : State → Ruled} {c e s w o : List ℕ} → CheckSound c e s w →
-    ((lv : ℕ → ℕ) → rule (state_at c e s w lv) ≡ pass (state_at c e s w lv)) → Tried rule c e s w TCheck.TheVariants.Sat c s w o
+    ((lv : ℕ → ℕ) → rule (state_at c e s w lv) ≡ pass (state_at c e s w lv)) → Tried rule c e s w (Ok TCheck.TheVariants.Sat) c s w o
 tried_pass {rule} C h = try_done (try_as (try_first rule C) h)
 
 -- a rule by another name
-pub tried_as : {rule rule' : State → Ruled} {c e s w : List ℕ} {r : TCheck.TCheck} {c' s' w' o : List ℕ} →
+pub tried_as : {rule rule' : State → Ruled} {c e s w : List ℕ} {r : RuleAnswer} {c' s' w' o : List ℕ} →
     Tried rule c e s w r c' s' w' o → ((lv : ℕ → ℕ) → rule' (state_at c e s w lv) ≡ rule (state_at c e s w lv)) →
     Tried rule' c e s w r c' s' w' o
 tried_as {c = c} {e = e} {r = r} {c' = c'} {s' = s'} {w' = w'} {o = o} K h = record {

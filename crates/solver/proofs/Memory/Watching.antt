@@ -1,7 +1,7 @@
 -- A check where no constructor application is marked and no tester was asserted: unequal terms, then the watched ones. The pass over the
 -- watched terms goes by the solver's marks, as if they were those of a work table: no class has an application, so each watched term is
 -- undetermined.
-use Rattle.shinri_core.proofs.Kit.{ℕ, ◌+◌, ◌≤◌, ◌<◌, ◌≡◌, refl, sym, ap, ◌∙◌, subst, inl, inr, Bool, true, false, not, ◌||◌, List, [], Option, some, arith, eqb, eq-eqb, ne_eqb, eqb-true, eqb-false, length}
+use Rattle.shinri_core.proofs.Kit.{ℕ, ◌≤◌, ◌<◌, ◌≡◌, refl, sym, ap, ◌∙◌, subst, inl, inr, Bool, true, false, ◌||◌, List, [], Option, some, arith, eqb, eq-eqb, ne_eqb, eqb-true, eqb-false, length}
 use Rattle.shinri_core.specs.Limits.{max_terms}
 use Rattle.shinri_core.specs.Lists.{first}
 use Rattle.shinri_core.specs.Memory.Words.{at}
@@ -12,22 +12,23 @@ use Rattle.solver.specs.Rules.{Ruled, disequality_clash}
 use Rattle.solver.specs.Ring.{Edge}
 use Rattle.solver.specs.Check.{before_ring, ring_answer}
 use Rattle.solver.specs.declared.answer.TCheck as TCheck
-use Rattle.solver.specs.declared.work.CtorOf as CtorOf
+use Rattle.std.specs.Prelude.{None, Ok}
 use Rattle.solver.specs.declared.exhaustiveness.Undetermined as Undetermined
-use Rattle.solver.specs.Memory.Table.{MARK, LASTING, SPLIT, is_set, flagged, state_with, dt_with, StateSound}
+use Rattle.solver.specs.Memory.Table.{MARK, LASTING, is_set, flagged, state_with, dt_with, StateSound}
 use Rattle.solver.specs.Memory.Recording.{NoneAnnounced, NoneLasting}
 use Rattle.solver.specs.Memory.Work.{W_MARK, state_at, apps_from, first_in_class, ctor_meaning, marks_only, CtorOfClass, CheckSound}
-use Rattle.solver.specs.Memory.Answer.{answer_meaning, Outcome, Tried}
-use Rattle.solver.specs.Memory.Splitting.{is_undetermined, Watches, SplitsOn, FoundAsked, FoundAnswered}
-use Rattle.solver.specs.Memory.Checks.{passes, from_split, from_injectivity, Rings, ChecksFully, UnmarkedAsked, WatchedAsked, ChecksWatched, ChecksKept}
+use Rattle.solver.specs.Memory.Answer.{answer_meaning, Outcome, Tried, RuleAnswer}
+use Rattle.solver.specs.Memory.Splitting.{is_undetermined, Watches, SplitsOn, FoundAsked, FoundAnswered, Asking}
+use Rattle.solver.specs.Memory.Checks.{from_split, from_injectivity, Rings, ChecksFully, UnmarkedAsked, WatchedAsked, ChecksWatched, ChecksKept}
 use Rattle.solver.specs.Memory.Disequalities.{UnequalAsked, UnequalClash, NoneJoined}
 use Rattle.solver.proofs.Basics.{none_some, by_test}
 use Rattle.solver.proofs.NoApps.{no_ring, unequal_first, only_watched}
 use Rattle.solver.proofs.Memory.Flags.{flagged_none, flagged_same}
 use Rattle.solver.proofs.Memory.Roles.{kind_within}
 use Rattle.solver.proofs.Memory.MarksOnly.{only_mark, none_built, begins_only}
-use Rattle.solver.proofs.Memory.Splitting.{Asked, passed_over, asked_none, Passing, pass_first, pass_by, pass_done, pass_split, pass_unknown, pass_nothing, split_tried, unknown_tried, none_tried}
-use Rattle.solver.proofs.Memory.Checking.{goes, passed, then_stop, fully_stopped, fully_walked, check_kept}
+use Rattle.solver.proofs.Memory.Splitting.{Asked, passed_over, asked_none, split_tried, unknown_tried, none_tried, passed_by}
+use Rattle.solver.proofs.Memory.Checking.{passed, then_stop, fully_stopped, fully_walked, check_kept}
+use Rattle.solver.proofs.Memory.LowestAsking.{asking_same}
 use Rattle.solver.proofs.Memory.Unfitting.{from_injectivity_onward}
 use Rattle.solver.proofs.Memory.Trying.{tried_as}
 use Rattle.solver.proofs.Memory.Disequalities.{unequal_tried}
@@ -45,7 +46,7 @@ module _ {c e s : List ℕ} (z : StateSound c e s) (n : NoneAnnounced s) where
   sound : CheckSound c e s (marks_only s)
   sound = (begins_only z n).check
 
-  open_class : (x : ℕ) → CtorOfClass c e (marks_only s) x CtorOf.TheVariants.Nothing
+  open_class : (x : ℕ) → CtorOfClass c e (marks_only s) x None
   unfolding ctor_meaning first_in_class first
   open_class x = record {
     is = rw (none_built z n);
@@ -68,64 +69,26 @@ module _ {c e s : List ℕ} (z : StateSound c e s) (n : NoneAnnounced s) where
           passed_over c e (marks_only s) z.formed z.signed sound.work x h (at s MARK x) (sym (only_mark s x h))
           (eqb-false (at s MARK x) 3 i) (eqb-false (at s MARK x) 5 j)
 
--- ---- the pass
-
--- the terms below x were passed
-pub record Watching (c s : List ℕ) (n x : ℕ) (unknown : Bool) : Type 0 where
-  pub count : n ≡ length (context c).terms
-  pub few : n ≤ max_terms
-  pub within : x ≤ n
-  pub passing : (e : List ℕ) → StateSound c e s → NoneAnnounced s → Passing c e s (marks_only s) n x unknown
-
-pub watch_first : {c s : List ℕ} {n : ℕ} → (n ≡ length (context c).terms) × (n ≤ max_terms) → Watching c s n 0 false
-watch_first {c} {s} {n} (i, f) = record {
-  count = i;
-  few = f;
-  within = omega arith;
-  passing = λ e z q. pass_first c e s (marks_only s) n;
+-- what the watched terms ask is what the definition asks
+pub watches : {c s : List ℕ} (r : Undetermined.Undetermined) → length (context c).terms ≤ max_terms →
+    Asking (λ x. eqb (at s MARK x) 3 || eqb (at s MARK x) 5) (length (context c).terms) s r → Watches c s r
+watches {c} {s} r f a = record {
+  within = λ x q. lower r a x q;
+  passed = λ e z n.
+      passed_by (sound z n) r
+      (asking_same (λ x. eqb (at s MARK x) 3 || eqb (at s MARK x) 5) (is_undetermined c e (marks_only s)) (length (context c).terms) s r
+      (same z n) a);
 }
-
-module _
-    {c s : List ℕ} {n x : ℕ} {unknown r : Bool} (W : Watching c s n x unknown) (h : x < n)
-    (q : r ≡ (eqb (at s MARK x) 3 || eqb (at s MARK x) 5))
   where
-    small : x < max_terms
-    small = let f = W.few in omega arith
+    lower : (r : Undetermined.Undetermined) → Asking (λ x. eqb (at s MARK x) 3 || eqb (at s MARK x) 5) (length (context c).terms) s r →
+        (x : TermId) → r ≡ Undetermined.TheVariants.Split x → x.0 < length (context c).terms
+    lower (Undetermined.TheVariants.Split y) (l, _, _, _) x q = let k : y ≡ x = cc in let m = ap (λ (z : TermId). z.0) k in omega arith
+    lower Undetermined.TheVariants.Unknown a x q = let k : ◌≡◌ {A = ℕ} 0 1 = cc in absurd (omega arith)
+    lower Undetermined.TheVariants.Nothing a x q = let k : ◌≡◌ {A = ℕ} 0 1 = cc in absurd (omega arith)
 
-    pub watch_by : {b : Bool} → r ≡ false → b ≡ unknown → Watching c s n (x + 1) b
-    watch_by d k = record {
-      count = W.count;
-      few = W.few;
-      within = omega arith;
-      passing = λ e z a. pass_by (W.passing e z a) r (watched_is z a x small q) h W.few d k;
-    }
-
-    pub watch_done : {b : Bool} (k : ℕ) → r ≡ true → k ≡ at s SPLIT x → (k ≡ 0 → ⊥) → b ≡ true → Watching c s n (x + 1) b
-    watch_done k d i o j = record {
-      count = W.count;
-      few = W.few;
-      within = omega arith;
-      passing = λ e z a. pass_done (W.passing e z a) r (watched_is z a x small q) h W.few k d i o j;
-    }
-
-    pub watch_split : (k : ℕ) → r ≡ true → k ≡ at s SPLIT x → k ≡ 0 → Watches c s (Undetermined.TheVariants.Split (record { 0 = x }))
-    watch_split k d i o = record {
-      within = λ y p. let m = W.count in let k : x ≡ y.0 = cc in omega arith;
-      passed = λ e z a. pass_split (W.passing e z a) r (watched_is z a x small q) h W.few k d i o;
-    }
-
-module _ {c s : List ℕ} {n x : ℕ} {unknown : Bool} (W : Watching c s n x unknown) (h : n ≤ x) where
-  pub watch_unknown : unknown ≡ true → Watches c s Undetermined.TheVariants.Unknown
-  watch_unknown q = record {
-    within = λ y p. let k : ◌≡◌ {A = ℕ} 0 1 = cc in absurd (omega arith);
-    passed = λ e z a. pass_unknown (W.passing e z a) (sound z a) W.count h q;
-  }
-
-  pub watch_nothing : unknown ≡ false → Watches c s Undetermined.TheVariants.Nothing
-  watch_nothing q = record {
-    within = λ y p. let k : ◌≡◌ {A = ℕ} 0 1 = cc in absurd (omega arith);
-    passed = λ e z a. pass_nothing (W.passing e z a) (sound z a) W.count h q;
-  }
+    same : {e : List ℕ} (z : StateSound c e s) (n : NoneAnnounced s) (x : ℕ) → x < length (context c).terms →
+        (eqb (at s MARK x) 3 || eqb (at s MARK x) 5) ≡ is_undetermined c e (marks_only s) x
+    same z n x h = watched_is z n x (omega arith) refl
 
 -- ---- the check
 
@@ -144,7 +107,7 @@ module _ {c e s : List ℕ} (z : StateSound c e s) (n : NoneAnnounced s) where
   none_in u lv = none_built z n
 
   -- what follows the rules that pass is the whole
-  whole : {r : TCheck.TCheck} {c' s' o : List ℕ} → NoneLasting c s → NoneJoined c e s →
+  whole : {r : RuleAnswer} {c' s' o : List ℕ} → NoneLasting c s → NoneJoined c e s →
       Tried from_split c e s (marks_only s) r c' s' (marks_only s) o →
       Tried before_ring c e s (marks_only s) r c' s' (marks_only s) o
   unfolding state_with dt_with
@@ -168,14 +131,8 @@ module _ {c e s : List ℕ} (z : StateSound c e s) (n : NoneAnnounced s) where
     readable = tt;
   }
 
--- an answer other than that of a rule that passes
-answers : (r : TCheck.TCheck) → (r ≡ TCheck.TheVariants.Sat → ⊥) → not (passes r) ≡ true
-unfolding passes
-answers TCheck.TheVariants.Sat d = absurd (d refl)
-answers TCheck.TheVariants.Conflict d = refl
-answers TCheck.TheVariants.Split d = refl
-answers TCheck.TheVariants.Unknown d = refl
-answers TCheck.TheVariants.NoRoom d = refl
+unknown_sat : ◌≡◌ {A = RuleAnswer} (Ok TCheck.TheVariants.Unknown) (Ok TCheck.TheVariants.Sat) → ⊥
+unknown_sat q = let z : ◌≡◌ {A = ℕ} 0 1 = cc in omega arith
 
 -- what was found may be answered
 pub watched_asked : {c s o : List ℕ} {u : Undetermined.Undetermined} → WatchedAsked c s o → Watches c s u → FoundAsked c s u o
@@ -183,43 +140,41 @@ watched_asked y w =
     record { core = y.core; formed = y.formed; signed = y.signed; solver = y.solver; within = w.within; long = y.long }
 
 module _ {c s : List ℕ} {r : Undetermined.Undetermined} (w : Watches c s r) where
-  watched_split : {x : TermId} {a : TCheck.TCheck} {c' s' o : List ℕ} → r ≡ Undetermined.TheVariants.Split x →
+  watched_split : {x : TermId} {a : RuleAnswer} {c' s' o : List ℕ} → r ≡ Undetermined.TheVariants.Split x →
       SplitsOn c s x.0 a c' s' o → ChecksWatched c s a c' s' o
   watched_split {x} {a} i k = record {
     fully = λ e z n l j.
-        fully_stopped (begins_only z n) refl (answers a k.answers)
+        fully_stopped (begins_only z n) k.answers
         (whole z n l j (split_tried (sound z n) (w.passed e z n) i k));
     marks = k.marks;
   }
 
-  watched_unknown : {o : List ℕ} → r ≡ Undetermined.TheVariants.Unknown → ChecksWatched c s TCheck.TheVariants.Unknown c s o
-  unfolding passes
+  watched_unknown : {o : List ℕ} → r ≡ Undetermined.TheVariants.Unknown → ChecksWatched c s (Ok TCheck.TheVariants.Unknown) c s o
   watched_unknown i = record {
     fully = λ e z n l j.
-        fully_stopped (begins_only z n) refl refl (whole z n l j (unknown_tried (sound z n) (w.passed e z n) i));
+        fully_stopped (begins_only z n) unknown_sat (whole z n l j (unknown_tried (sound z n) (w.passed e z n) i));
     marks = λ x h. refl;
   }
 
-  watched_none : {o : List ℕ} → r ≡ Undetermined.TheVariants.Nothing → ChecksWatched c s TCheck.TheVariants.Sat c s o
-  unfolding passes
+  watched_none : {o : List ℕ} → r ≡ Undetermined.TheVariants.Nothing → ChecksWatched c s (Ok TCheck.TheVariants.Sat) c s o
   watched_none {o} i = record {
     fully = λ e z n l j.
-        fully_walked (begins_only z n) refl refl (whole z n l j (none_tried (sound z n) (w.passed e z n) {o = o} i)) (no_rings z n o);
+        fully_walked (begins_only z n) refl (whole z n l j (none_tried (sound z n) (w.passed e z n) {o = o} i)) (no_rings z n o);
     marks = λ x h. refl;
   }
 
 -- by what the pass found
-pub watched_found : {c s c' s' o : List ℕ} {r : TCheck.TCheck} (u : Undetermined.Undetermined) → Watches c s u →
+pub watched_found : {c s c' s' o : List ℕ} {r : RuleAnswer} (u : Undetermined.Undetermined) → Watches c s u →
     FoundAnswered u c s r c' s' o → ChecksWatched c s r c' s' o
 watched_found (Undetermined.TheVariants.Split x) w k = watched_split w refl k
 watched_found Undetermined.TheVariants.Unknown w (q, i, j) = rw (q, i, j) (watched_unknown w refl)
 watched_found Undetermined.TheVariants.Nothing w (q, i, j) = rw (q, i, j) (watched_none w refl)
 
 -- its marks are the solver's already
-marks_kept : {c e s c' s' o : List ℕ} {r : TCheck.TCheck} → ChecksFully c e s r c' s' (marks_only s) o →
+marks_kept : {c e s c' s' o : List ℕ} {r : RuleAnswer} → ChecksFully c e s r c' s' (marks_only s) o →
     ((x : ℕ) → x < max_terms → at s' MARK x ≡ at s MARK x) → ChecksKept c e s r c' s' o
 marks_kept {s = s} {s' = s'} k m = record {
-  fits = λ h. check_kept refl k refl h (record {
+  fits = λ h. check_kept refl k h (record {
     sound = λ d f y n. y.state;
     view = λ d f lv y n.
         ap (state_with d f s' lv)
@@ -238,21 +193,21 @@ split_asked z n =
     record { core = st.core; formed = st.formed; signed = st.signed; solver = st.solver; long = omega arith }
 
 -- unequal terms first
-module _ {c e s o : List ℕ} {r : TCheck.TCheck} {b : Bool} {o₁ : List ℕ} (z : UnmarkedAsked c e s o) (u : UnequalClash c e s r o₁)
-    (test : b ≡ passes r) where
-  pub watched_stopped : not b ≡ true → ChecksKept c e s r c s o₁
-  watched_stopped taken =
+module _ {c e s o : List ℕ} {r : TCheck.TCheck} {o₁ : List ℕ} (z : UnmarkedAsked c e s o) (u : UnequalClash c e s r o₁) where
+  pub watched_stopped : (◌≡◌ {A = RuleAnswer} (Ok r) (Ok TCheck.TheVariants.Sat) → ⊥) → ChecksKept c e s (Ok r) c s o₁
+  watched_stopped n =
       marks_kept
-      (fully_stopped (begins_only z.state z.apps) test taken
+      (fully_stopped (begins_only z.state z.apps) n
       (tried_as
-      (then_stop disequality_clash from_injectivity test taken from_injectivity_onward
+      (then_stop disequality_clash from_injectivity n from_injectivity_onward
       (unequal_tried (sound z.state z.apps) u))
       (λ lv. unequal_first (state_at c e s (marks_only s) lv) (none_in z.state z.apps s lv))))
       (λ x h. refl)
 
-  pub watched_on : {c' s' o₂ : List ℕ} {q : TCheck.TCheck} → not b ≡ false → ChecksWatched c s q c' s' o₂ → ChecksKept c e s q c' s' o₂
-  watched_on left w = marks_kept (w.fully e z.state z.apps z.lasting none) w.marks
+  pub watched_on : {c' s' o₂ : List ℕ} {q : RuleAnswer} → ◌≡◌ {A = RuleAnswer} (Ok r) (Ok TCheck.TheVariants.Sat) →
+      ChecksWatched c s q c' s' o₂ → ChecksKept c e s q c' s' o₂
+  watched_on p w = marks_kept (w.fully e z.state z.apps z.lasting none) w.marks
     where
       none : NoneJoined c e s
       none v lv =
-          passed r (disequality_clash (state_at c e s v lv)) (state_at c e s v lv) o₁ (goes r test left) (u.outcome v lv)
+          passed (Ok r) (disequality_clash (state_at c e s v lv)) (state_at c e s v lv) o₁ p (u.outcome v lv)

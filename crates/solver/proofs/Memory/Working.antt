@@ -18,9 +18,9 @@ use Rattle.theory.specs.EqEngine.{Merge, find, are_equal}
 use Rattle.theory.specs.Memory.Table.{merges, EngineSound}
 use Rattle.theory.proofs.Sizes.{find_within}
 use Rattle.theory.proofs.Memory.Log.{merges_within}
-use Rattle.solver.specs.declared.work.CtorOf as CtorOf
+use Rattle.std.specs.Prelude.{Some, None}
 use Rattle.solver.specs.Memory.Table.{is_set, flagged_from, term_kind, MarksAre}
-use Rattle.solver.specs.Memory.Work.{W_MARK, ROOT, LOWEST, apps_from, first_in_class, app_word, lower_word, work_room, work_size, ctor_meaning, ClassAsked, CtorOfClass, NamesApp, Lowered, Markable, Marked}
+use Rattle.solver.specs.Memory.Work.{W_MARK, ROOT, LOWEST, apps_from, first_in_class, app_word, lower_word, work_room, work_size, ctor_meaning, ClassAsked, CtorOfClass, Lowered, Markable, Marked}
 use Rattle.solver.proofs.Basics.{by_test, none_some, some_is, first_some, gather_in}
 use Rattle.solver.proofs.Apps.{IsCtor, ctor_app_is, op_is, app_within}
 use Rattle.solver.proofs.Memory.Roles.{kind_ctor, kind_no_ctor, kind_within}
@@ -235,17 +235,17 @@ module _ (cx : Context) (ms : List Merge) (w : List ℕ) (x word : ℕ) (q : wor
       go none p = refl
       go (some a) p = absurd (omega arith)
 
-  pub class_app : (word ≡ 0 → ⊥) → LowestApp cx ms w x (word - 1)
+  pub class_app : {app : ℕ} → word ≡ suc app → LowestApp cx ms w x app
   unfolding app_word first_in_class apps_from
-  class_app d = go (first_in_class ms x (apps_from cx w 0)) refl q
+  class_app {app} d = go (first_in_class ms x (apps_from cx w 0)) refl q
     where
-      go : (o : Option CtorApp) → first_in_class ms x (apps_from cx w 0) ≡ o → word ≡ app_word o → LowestApp cx ms w x (word - 1)
-      go none p e = absurd (d e)
+      go : (o : Option CtorApp) → first_in_class ms x (apps_from cx w 0) ≡ o → word ≡ app_word o → LowestApp cx ms w x app
+      go none p e = absurd (omega arith)
       go (some a) p e =
           let (i, t) = first_some (λ (b : CtorApp). are_equal ms x b.app) (apps_from cx w 0) a p in
           let (y, j, s) = gather_in (ctor_app cx) (flagged_from w W_MARK 0) a i in
           let z = ctor_app_is cx y a s in
-          let n : y ≡ word - 1 = let f = z.app in omega arith in
+          let n : y ≡ app = let f = z.app in omega arith in
           record { app = a; is = p; ctor = subst (λ (k : ℕ). IsCtor cx k a) n z }
 
 -- an application by its parts
@@ -259,7 +259,7 @@ pub root_word : {c e w : List ℕ} {x root word : ℕ} → ClassAsked c e w x �
 root_word {w = w} {x = x} z p q = q ∙ ap (at w LOWEST) p ∙ z.work.lowest x z.is_node
 
 module _ (c e w : List ℕ) (x word : ℕ) (is_word : word ≡ class_word (context c) (merges e) w x 0) where
-  pub no_ctor : word ≡ 0 → CtorOfClass c e w x CtorOf.TheVariants.Nothing
+  pub no_ctor : word ≡ 0 → CtorOfClass c e w x None
   unfolding ctor_meaning
   no_ctor d = record {
     is = sym (class_empty (context c) (merges e) w x word is_word d);
@@ -267,51 +267,36 @@ module _ (c e w : List ℕ) (x word : ℕ) (is_word : word ≡ class_word (conte
     declared = λ a h. absurd (none_some a h);
   }
 
-  pub lowest_within : (word ≡ 0 → ⊥) → word - 1 < length (context c).terms
-  lowest_within d =
-      let a = class_app (context c) (merges e) w x word is_word d in
-      app_within (context c) (word - 1) a.app.ctor a.ctor.op
+  module _ {app : ℕ} (d : word ≡ suc app) where
+    found : LowestApp (context c) (merges e) w x app
+    found = class_app (context c) (merges e) w x word is_word d
 
-  pub no_equation : {o : Op.Op} → (word ≡ 0 → ⊥) → OpAt c (word - 1) o → o ≡ Op.TheVariants.Eq → ⊥
-  unfolding op_meaning
-  no_equation {o} d r s =
-      let a = class_app (context c) (merges e) w x word is_word d in
-      let n = ap op_meaning (sym s) ∙ r.is ∙ a.ctor.op in
-      let k : ◌≡◌ {A = ℕ} 0 1 = cc in
-      omega arith
+    pub lowest_within : app < length (context c).terms
+    lowest_within = app_within (context c) app found.app.ctor found.ctor.op
 
-  pub the_ctor : {o : Op.Op} {f : SymbolId.SymbolId} {y : TermId.TermId} → (word ≡ 0 → ⊥) → OpAt c (word - 1) o →
-      o ≡ Op.TheVariants.Uninterpreted f → y.0 ≡ word - 1 → CtorOfClass c e w x (CtorOf.TheVariants.At f y)
-  unfolding op_meaning ctor_meaning
-  the_ctor {o} {f} {y} d r s n = record {
-    is = ap some same ∙ sym a.is;
-    within = λ b h.
-        subst (λ (k : ℕ). k < length (context c).terms) (sym n ∙ ap (λ (v : CtorApp). v.app) (some_is _ b h)) (lowest_within d);
-    declared = λ b h.
-        subst (λ (k : ℕ). k < length (context c).symbols) (ap (λ (v : CtorApp). v.ctor) (some_is _ b h)) (symbol_below r s);
-  }
-    where
-      a : LowestApp (context c) (merges e) w x (word - 1)
-      a = class_app (context c) (merges e) w x word is_word d
+    pub no_equation : {o : Op.Op} → OpAt c app o → o ≡ Op.TheVariants.Eq → ⊥
+    unfolding op_meaning
+    no_equation {o} r s =
+        let n = ap op_meaning (sym s) ∙ r.is ∙ found.ctor.op in
+        let k : ◌≡◌ {A = ℕ} 0 1 = cc in
+        omega arith
 
-      ctor_is : f.0 ≡ a.app.ctor
-      ctor_is = op_is f.0 a.app.ctor (ap op_meaning (sym s) ∙ r.is ∙ a.ctor.op)
+    pub the_ctor : {o : Op.Op} {f : SymbolId.SymbolId} {y : TermId.TermId} → OpAt c app o →
+        o ≡ Op.TheVariants.Uninterpreted f → y.0 ≡ app → CtorOfClass c e w x (Some (f, y))
+    unfolding op_meaning ctor_meaning
+    the_ctor {o} {f} {y} r s n = record {
+      is = ap some same ∙ sym found.is;
+      within = λ b h.
+          subst (λ (k : ℕ). k < length (context c).terms) (sym n ∙ ap (λ (v : CtorApp). v.app) (some_is _ b h)) lowest_within;
+      declared = λ b h.
+          subst (λ (k : ℕ). k < length (context c).symbols) (ap (λ (v : CtorApp). v.ctor) (some_is _ b h)) (symbol_below r s);
+    }
+      where
+        ctor_is : f.0 ≡ found.app.ctor
+        ctor_is = op_is f.0 found.app.ctor (ap op_meaning (sym s) ∙ r.is ∙ found.ctor.op)
 
-      same : record { app = y.0; ctor = f.0; fields = children (context c) y.0 } ≡ a.app
-      same = app_made a.app (n ∙ sym a.ctor.app) ctor_is (ap (children (context c)) n ∙ a.ctor.args)
-
--- what a word names, by the code's three ways
-module _ (c : List ℕ) (word : ℕ) where
-  pub names_none : word ≡ 0 → NamesApp c word CtorOf.TheVariants.Nothing
-  names_none d = record { names = λ e w x q. no_ctor c e w x word q d }
-
-  pub names_equation : {o : Op.Op} → (word ≡ 0 → ⊥) → OpAt c (word - 1) o → o ≡ Op.TheVariants.Eq →
-      NamesApp c word CtorOf.TheVariants.Nothing
-  names_equation d r s = record { names = λ e w x q. absurd (no_equation c e w x word q d r s) }
-
-  pub names_ctor : {o : Op.Op} {f : SymbolId.SymbolId} {y : TermId.TermId} → (word ≡ 0 → ⊥) → OpAt c (word - 1) o →
-      o ≡ Op.TheVariants.Uninterpreted f → y.0 ≡ word - 1 → NamesApp c word (CtorOf.TheVariants.At f y)
-  names_ctor d r s n = record { names = λ e w x q. the_ctor c e w x word q d r s n }
+        same : record { app = y.0; ctor = f.0; fields = children (context c) y.0 } ≡ found.app
+        same = app_made found.app (n ∙ sym found.ctor.app) ctor_is (ap (children (context c)) n ∙ found.ctor.args)
 
 -- ---- the lowest of a class lowered
 

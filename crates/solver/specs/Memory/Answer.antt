@@ -2,6 +2,8 @@
 -- phases.
 use Rattle.std.specs.Prelude.{ℕ, zero, suc, ◌≤◌, ◌<◌, ◌≡◌, false, List, [], ◌∷◌, ◌++◌, length}
 use Rattle.std.proofs.Math.Option.{Option, none, some}
+use Rattle.shinri_core.specs.declared.ids.Lit.{Lit}
+use Rattle.shinri_core.specs.declared.limits.NoRoom.{NoRoom}
 use Rattle.shinri_core.specs.Limits.{max_symbols}
 use Rattle.shinri_core.specs.Context.{terms_fit}
 use Rattle.shinri_core.specs.Formed.{Extends}
@@ -13,7 +15,7 @@ use Rattle.solver.specs.Rules as Rules
 use Rattle.solver.specs.Rules.{Phase, Positive, NoPhase, Ruled, pass, answered}
 use Rattle.solver.specs.declared.answer.TCheck as TCheck
 use Rattle.solver.specs.declared.answer.Phase as GivenPhase
-use Rattle.solver.specs.declared.answer.Guard as Guard
+use Rattle.std.specs.Prelude.{Option as GivenOption, Some, None, Result, Ok, Err}
 use Rattle.solver.specs.Memory.Work.{state_at, CheckSound}
 
 -- ---- a split
@@ -82,19 +84,23 @@ unfoldable pub phase_meaning : GivenPhase.Phase → Phase
 phase_meaning GivenPhase.TheVariants.Positive = Positive
 phase_meaning GivenPhase.TheVariants.NoPhase = NoPhase
 
-unfoldable pub guard_meaning : Guard.Guard → Option ℕ
-guard_meaning (Guard.TheVariants.At l) = some l.0
-guard_meaning Guard.TheVariants.Nothing = none
+-- the literal that guards a lemma, if any
+abbrev pub Guard : Type 0
+Guard = GivenOption Lit
+
+unfoldable pub guard_meaning : Guard → Option ℕ
+guard_meaning (Some l) = some l.0
+guard_meaning None = none
 
 -- ---- what the functions on a split ask and promise
 
 -- the table with a guard, or without one
-unfoldable pub guarded : List ℕ → Guard.Guard → List ℕ
-guarded o (Guard.TheVariants.At l) = put (put o COUNTS GUARDED 1) COUNTS GUARD l.0
-guarded o Guard.TheVariants.Nothing = put o COUNTS GUARDED 0
+unfoldable pub guarded : List ℕ → Guard → List ℕ
+guarded o (Some l) = put (put o COUNTS GUARDED 1) COUNTS GUARD l.0
+guarded o None = put o COUNTS GUARDED 0
 
 -- one atom under a guard stands there, without phases
-pub record LemmaWritten (x : ℕ) (g : Guard.Guard) (u : List ℕ) : Type 0 where
+pub record LemmaWritten (x : ℕ) (g : Guard) (u : List ℕ) : Type 0 where
   pub sound : SplitSound u
   pub is : split_of u ≡ Rules.Split (x ∷ []) (listed (guard_meaning g)) []
 
@@ -118,36 +124,40 @@ pub record TesterPushed (o : List ℕ) (x : ℕ) (p : Phase) (u : List ℕ) : Ty
   pub guard : split_guard u ≡ split_guard o
   pub phases : split_phases u ≡ split_phases o ++ (p ∷ [])
 
+-- the answer of what can run out of room; what cannot answers as `Ok` does
+abbrev pub RuleAnswer : Type 0
+RuleAnswer = Result TCheck.TCheck NoRoom
+
 -- what an answer that is no refusal says, beside the answer table
-unfoldable pub answer_meaning : TCheck.TCheck → List ℕ → Option Rules.TCheck
-answer_meaning TCheck.TheVariants.Sat o = some Rules.Sat
-answer_meaning TCheck.TheVariants.Conflict o = some (Rules.Conflict (leaves o))
-answer_meaning TCheck.TheVariants.Split o = some (split_of o)
-answer_meaning TCheck.TheVariants.Unknown o = some Rules.Unknown
-answer_meaning TCheck.TheVariants.NoRoom o = none
+unfoldable pub answer_meaning : RuleAnswer → List ℕ → Option Rules.TCheck
+answer_meaning (Ok TCheck.TheVariants.Sat) o = some Rules.Sat
+answer_meaning (Ok TCheck.TheVariants.Conflict) o = some (Rules.Conflict (leaves o))
+answer_meaning (Ok TCheck.TheVariants.Split) o = some (split_of o)
+answer_meaning (Ok TCheck.TheVariants.Unknown) o = some Rules.Unknown
+answer_meaning (Err n) o = none
 
 -- the answer table can be read
-abbrev pub Readable : TCheck.TCheck → List ℕ → Type 0
-Readable TCheck.TheVariants.Sat o = Unit {0}
-Readable TCheck.TheVariants.Conflict o = LeavesSound o
-Readable TCheck.TheVariants.Split o = SplitSound o
-Readable TCheck.TheVariants.Unknown o = Unit {0}
-Readable TCheck.TheVariants.NoRoom o = Unit {0}
+abbrev pub Readable : RuleAnswer → List ℕ → Type 0
+Readable (Ok TCheck.TheVariants.Sat) o = Unit {0}
+Readable (Ok TCheck.TheVariants.Conflict) o = LeavesSound o
+Readable (Ok TCheck.TheVariants.Split) o = SplitSound o
+Readable (Ok TCheck.TheVariants.Unknown) o = Unit {0}
+Readable (Err n) o = Unit {0}
 
 -- ---- a rule
 
 -- what a rule of the definition gave, by the code's answer: `Sat` stands for a rule that does not apply
-abbrev pub Outcome : TCheck.TCheck → Ruled → State → List ℕ → Type 0
-Outcome TCheck.TheVariants.Sat r s o = r ≡ pass s
-Outcome TCheck.TheVariants.Conflict r s o = r ≡ answered s (Rules.Conflict (leaves o))
-Outcome TCheck.TheVariants.Split r s o = r ≡ answered s (split_of o)
-Outcome TCheck.TheVariants.Unknown r s o = r ≡ answered s Rules.Unknown
-Outcome TCheck.TheVariants.NoRoom r s o = terms_fit r.state.terms ≡ false
+abbrev pub Outcome : RuleAnswer → Ruled → State → List ℕ → Type 0
+Outcome (Ok TCheck.TheVariants.Sat) r s o = r ≡ pass s
+Outcome (Ok TCheck.TheVariants.Conflict) r s o = r ≡ answered s (Rules.Conflict (leaves o))
+Outcome (Ok TCheck.TheVariants.Split) r s o = r ≡ answered s (split_of o)
+Outcome (Ok TCheck.TheVariants.Unknown) r s o = r ≡ answered s Rules.Unknown
+Outcome (Err n) r s o = terms_fit r.state.terms ≡ false
 
 -- A rule was tried on the tables before; c' s' w' are those after. Only a split changes the solver's table.
-pub record Tried (rule : State → Ruled) (c e s w : List ℕ) (r : TCheck.TCheck) (c' s' w' o : List ℕ) : Type 0 where
+pub record Tried (rule : State → Ruled) (c e s w : List ℕ) (r : RuleAnswer) (c' s' w' o : List ℕ) : Type 0 where
   pub sound : CheckSound c' e s' w'
   pub extends : Extends (context c) (context c')
   pub outcome : (lv : ℕ → ℕ) → Outcome r (rule (state_at c e s w lv)) (state_at c' e s' w' lv) o
-  pub unchanged : (r ≡ TCheck.TheVariants.Split → ⊥) → s' ≡ s
+  pub unchanged : (r ≡ Ok TCheck.TheVariants.Split → ⊥) → s' ≡ s
   pub readable : Readable r o

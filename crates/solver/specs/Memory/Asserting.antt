@@ -1,5 +1,5 @@
 -- What asserting a literal promises.
-use Rattle.std.specs.Prelude.{ℕ, ◌≤◌, ◌<◌, ◌≡◌, Bool, true, List, length}
+use Rattle.std.specs.Prelude.{ℕ, ◌≤◌, ◌<◌, ◌≡◌, Bool, true, List, length, Ok}
 use Rattle.std.proofs.Math.Option.{some}
 use Rattle.shinri_core.specs.Ids as Ids
 use Rattle.shinri_core.specs.Context.{TesterApp, tester_app}
@@ -31,7 +31,7 @@ pub record AssertsTester (b : Bool) (c e s : List ℕ) (l x : ℕ) (r : TCheck.T
   pub conflict : (lv : ℕ → ℕ) → ConflictIs r (conflict_by b (state c e s lv) l app) o
   pub state : (lv : ℕ → ℕ) → lv (records# s) ≡ level e → state c e s' lv ≡ recording b (state c e s lv) x l
   pub marks : (m : TesterMarks) → MarksSound s m → MarksSound s' m
-  pub readable : Readable r o
+  pub readable : Readable (Ok r) o
 
 -- a literal of a registered variable may be asserted
 pub record Assertable (c e s : List ℕ) (l : ℕ) (o : List ℕ) : Type 0 where
@@ -45,4 +45,4 @@ pub record Asserts (c e s : List ℕ) (l : ℕ) (r : TCheck.TCheck) (s' o : List
   pub conflict : (lv : ℕ → ℕ) → ConflictIs r (assert (state c e s lv) l).conflict o
   pub state : (lv : ℕ → ℕ) → lv (records# s) ≡ level e → (assert (state c e s lv) l).state ≡ state c e s' lv
   pub marks : (m : TesterMarks) → MarksSound s m → MarksSound s' m
-  pub readable : Readable r o
+  pub readable : Readable (Ok r) o

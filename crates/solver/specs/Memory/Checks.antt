@@ -1,5 +1,5 @@
 -- What a check promises.
-use Rattle.std.specs.Prelude.{ℕ, ◌≤◌, ◌<◌, ◌≡◌, Bool, true, false, cond, List, length}
+use Rattle.std.specs.Prelude.{ℕ, ◌≤◌, ◌<◌, ◌≡◌, Bool, true, false, cond, List, length, Ok, is_ok}
 use Rattle.std.proofs.Math.Option.{none, some}
 use Rattle.shinri_core.specs.Limits.{max_terms, table_words}
 use Rattle.shinri_core.specs.Context.{terms_fit}
@@ -15,25 +15,9 @@ use Rattle.solver.specs.declared.answer.TCheck as TCheck
 use Rattle.solver.specs.Memory.Table.{MARK, state, SolverSound, StateSound}
 use Rattle.solver.specs.Memory.Recording.{NoneAnnounced, NoneLasting}
 use Rattle.solver.specs.Memory.Work.{Blank, work_size, marks_only, state_at, ChainSound, CheckSound}
-use Rattle.solver.specs.Memory.Answer.{answer_meaning, Readable}
+use Rattle.solver.specs.Memory.Answer.{RuleAnswer, answer_meaning, Readable}
 use Rattle.solver.specs.Memory.Making.{Making}
 use Rattle.solver.specs.Memory.Disequalities.{NoneJoined}
-
--- does a rule pass on to the next?
-unfoldable pub passes : TCheck.TCheck → Bool
-passes TCheck.TheVariants.Sat = true
-passes TCheck.TheVariants.Conflict = false
-passes TCheck.TheVariants.Split = false
-passes TCheck.TheVariants.Unknown = false
-passes TCheck.TheVariants.NoRoom = false
-
--- is there room for what a check makes?
-unfoldable pub has_room : TCheck.TCheck → Bool
-has_room TCheck.TheVariants.Sat = true
-has_room TCheck.TheVariants.Conflict = true
-has_room TCheck.TheVariants.Split = true
-has_room TCheck.TheVariants.Unknown = true
-has_room TCheck.TheVariants.NoRoom = false
 
 -- ---- the rules
 
@@ -76,8 +60,8 @@ pub record Ringable (c e w o : List ℕ) : Type 0 where
 
 pub record Rings (c e w : List ℕ) (r : TCheck.TCheck) (o : List ℕ) : Type 0 where
   pub outcome : (s : List ℕ) (lv : ℕ → ℕ) →
-      answer_meaning r o ≡ some (ring_answer (state_at c e s w lv) (constructor_graph_find_cycle (state_at c e s w lv)))
-  pub readable : Readable r o
+      answer_meaning (Ok r) o ≡ some (ring_answer (state_at c e s w lv) (constructor_graph_find_cycle (state_at c e s w lv)))
+  pub readable : Readable (Ok r) o
 
 -- a full check may begin
 pub record Beginnable (c e s w o : List ℕ) : Type 0 where
@@ -86,17 +70,17 @@ pub record Beginnable (c e s w o : List ℕ) : Type 0 where
   pub long : answer_size ≤ length o
 
 -- what a check of the definition gave, by the code's answer: its answer and its state, or that it does not fit
-pub record Answered (r : TCheck.TCheck) (k : Checked) (s : State) (o : List ℕ) : Type 0 where
-  pub answer : has_room r ≡ true → answer_meaning r o ≡ some k.answer
-  pub state : has_room r ≡ true → k.state ≡ s
-  pub refused : has_room r ≡ false → terms_fit k.state.terms ≡ false
+pub record Answered (r : RuleAnswer) (k : Checked) (s : State) (o : List ℕ) : Type 0 where
+  pub answer : is_ok r ≡ true → answer_meaning r o ≡ some k.answer
+  pub state : is_ok r ≡ true → k.state ≡ s
+  pub refused : is_ok r ≡ false → terms_fit k.state.terms ≡ false
 
 -- A full check on the work table; with no room the solver's table is as it was, and the terms made are still there.
-pub record ChecksFully (c e s : List ℕ) (r : TCheck.TCheck) (c' s' w' o : List ℕ) : Type 0 where
+pub record ChecksFully (c e s : List ℕ) (r : RuleAnswer) (c' s' w' o : List ℕ) : Type 0 where
   pub sound : CheckSound c' e s' w'
   pub extends : Extends (context c) (context c')
   pub outcome : (lv : ℕ → ℕ) → Answered r (full_check (state c e s lv)) (state_at c' e s' w' lv) o
-  pub unchanged : has_room r ≡ false → s' ≡ s
+  pub unchanged : is_ok r ≡ false → s' ≡ s
   pub readable : Readable r o
 
 -- the tables have room for marks
@@ -126,13 +110,13 @@ pub record WatchedAsked (c s o : List ℕ) : Type 0 where
 
 -- a full check where no constructor application is marked, no tester was asserted positively and no unequal terms are equal: no mark is
 -- set
-pub record ChecksWatched (c s : List ℕ) (r : TCheck.TCheck) (c' s' o : List ℕ) : Type 0 where
+pub record ChecksWatched (c s : List ℕ) (r : RuleAnswer) (c' s' o : List ℕ) : Type 0 where
   pub fully : (e : List ℕ) → StateSound c e s → NoneAnnounced s → NoneLasting c s → NoneJoined c e s →
       ChecksFully c e s r c' s' (marks_only s) o
   pub marks : (x : ℕ) → x < max_terms → at s' MARK x ≡ at s MARK x
 
 -- A check: its answer and its state are the definition's if they fit, else it is refused and nothing changes.
-pub record Checks (full : Bool) (c e s : List ℕ) (r : TCheck.TCheck) (c' s' o : List ℕ) : Type 0 where
+pub record Checks (full : Bool) (c e s : List ℕ) (r : RuleAnswer) (c' s' o : List ℕ) : Type 0 where
   pub sound : StateSound c' e s'
   pub answer : (lv : ℕ → ℕ) →
       answer_meaning r o
@@ -142,6 +126,6 @@ pub record Checks (full : Bool) (c e s : List ℕ) (r : TCheck.TCheck) (c' s' o 
   pub readable : Readable r o
 
 -- A full check; with no room the terms made are still there.
-pub record ChecksKept (c e s : List ℕ) (r : TCheck.TCheck) (c' s' o : List ℕ) : Type 0 where
-  pub fits : has_room r ≡ true → Checks true c e s r c' s' o
-  pub refused : has_room r ≡ false → (w : List ℕ) × ChecksFully c e s r c' s' w o
+pub record ChecksKept (c e s : List ℕ) (r : RuleAnswer) (c' s' o : List ℕ) : Type 0 where
+  pub fits : is_ok r ≡ true → Checks true c e s r c' s' o
+  pub refused : is_ok r ≡ false → (w : List ℕ) × ChecksFully c e s r c' s' w o

@@ -1,5 +1,5 @@
 -- What the functions of collapse and of the tester lemma ask and promise.
-use Rattle.std.specs.Prelude.{ℕ, ◌≤◌, ◌<◌, suc, ◌≡◌, true, cond, List, [], ◌∷◌, length}
+use Rattle.std.specs.Prelude.{ℕ, ◌≤◌, ◌<◌, suc, ◌≡◌, true, cond, List, [], ◌∷◌, length, Ok}
 use Rattle.std.proofs.Math.Option.{Option, none, some}
 use Rattle.shinri_core.specs.Limits.{max_terms}
 use Rattle.shinri_core.specs.Lists.{In}
@@ -13,9 +13,11 @@ use Rattle.theory.specs.Memory.Answer.{answer_size}
 use Rattle.solver.specs.State.{State, MadeIn, ctor_apps}
 use Rattle.solver.specs.Rules.{Ruled, pass, try_each, collapse_at, tester_lemma_at}
 use Rattle.solver.specs.declared.answer.TCheck as TCheck
+use Rattle.solver.specs.declared.collapse.Selection.{Selection}
+use Rattle.solver.specs.declared.collapse.Testing.{Testing}
 use Rattle.solver.specs.Memory.Table.{is_set, SolverSound}
 use Rattle.solver.specs.Memory.Work.{W_MARK, CheckSound, state_at, apps_from, first_in_class}
-use Rattle.solver.specs.Memory.Answer.{Tried}
+use Rattle.solver.specs.Memory.Answer.{Tried, RuleAnswer}
 use Rattle.solver.specs.Memory.Checks.{Underway}
 
 -- ---- rules
@@ -44,6 +46,13 @@ selection f ctor i arg = record { app = arg; selector = f; ctor = ctor; index = 
 -- tester f of a constructor on arg
 abbrev pub testing : ℕ → ℕ → ℕ → TesterApp
 testing f ctor arg = record { app = arg; tester = f; ctor = ctor; arg = arg }
+
+-- those of the code
+abbrev pub selected : Selection → SelApp
+selected x = selection x.selector.0 x.ctor.0 x.index x.arg.0
+
+abbrev pub tested : Testing → TesterApp
+tested x = testing x.tester.0 x.ctor.0 x.arg.0
 
 -- ---- what is asked
 
@@ -87,15 +96,15 @@ pub record TesterOn (c e s w : List ℕ) (f ctor arg : ℕ) (o : List ℕ) : Typ
 -- ---- what is promised
 
 -- the rule was tried for the application app, for every argument of its class
-abbrev pub TriedAt : (ℕ → CtorApp → State → Ruled) → (c e s w : List ℕ) → ℕ → TCheck.TCheck → (c' s' o : List ℕ) → Type 0
+abbrev pub TriedAt : (ℕ → CtorApp → State → Ruled) → (c e s w : List ℕ) → ℕ → RuleAnswer → (c' s' o : List ℕ) → Type 0
 TriedAt rule c e s w app r c' s' o =
     (arg : ℕ) → are_equal (merges e) arg app ≡ true → Tried (when (rule arg) (ctor_app (context c) app)) c e s w r c' s' w o
 
-abbrev pub CollapsesAt : (c e s w : List ℕ) (f ctor i app : ℕ) → TCheck.TCheck → (c' s' o : List ℕ) → Type 0
+abbrev pub CollapsesAt : (c e s w : List ℕ) (f ctor i app : ℕ) → RuleAnswer → (c' s' o : List ℕ) → Type 0
 CollapsesAt c e s w f ctor i app r c' s' o = TriedAt (λ arg. collapse_at (selection f ctor i arg)) c e s w app r c' s' o
 
 -- a tester's does not ask for classes
-abbrev pub TestsAt : (c s : List ℕ) (f ctor app : ℕ) → TCheck.TCheck → (c' s' o : List ℕ) → Type 0
+abbrev pub TestsAt : (c s : List ℕ) (f ctor app : ℕ) → RuleAnswer → (c' s' o : List ℕ) → Type 0
 TestsAt c s f ctor app r c' s' o =
     (e w : List ℕ) → CheckSound c e s w → TriedAt (λ arg. tester_lemma_at (testing f ctor arg)) c e s w app r c' s' o
 
@@ -118,12 +127,12 @@ pub record DoneSound (c e s w d : List ℕ) : Type 0 where
   pub done : (z : ℕ) → z < max_terms → is_set (at d FLAGS z) ≡ true → Collapsed c e s w z
 
 -- a rule was tried, and what the flags say is right if it passes
-pub record TriedOnce (Done : (c s : List ℕ) → Type 0) (rule : State → Ruled) (c e s w : List ℕ) (r : TCheck.TCheck) (c' s' o : List ℕ) :
+pub record TriedOnce (Done : (c s : List ℕ) → Type 0) (rule : State → Ruled) (c e s w : List ℕ) (r : RuleAnswer) (c' s' o : List ℕ) :
     Type 0 where
   pub tried : Tried rule c e s w r c' s' w o
-  pub flags : r ≡ TCheck.TheVariants.Sat → Done c' s'
+  pub flags : r ≡ Ok TCheck.TheVariants.Sat → Done c' s'
 
-abbrev pub CollapsesOnce : (State → Ruled) → (c e s w : List ℕ) → TCheck.TCheck → (c' s' d o : List ℕ) → Type 0
+abbrev pub CollapsesOnce : (State → Ruled) → (c e s w : List ℕ) → RuleAnswer → (c' s' d o : List ℕ) → Type 0
 CollapsesOnce rule c e s w r c' s' d o = TriedOnce (λ a b. DoneSound a e b w d) rule c e s w r c' s' o
 
 -- f is selector i of a constructor, y the lowest application of arg's class, and one of that constructor
@@ -153,7 +162,7 @@ pub record TestsSound (c e s w d : List ℕ) : Type 0 where
   pub long : max_terms ≤ length d
   pub done : (y f : ℕ) → y < max_terms → at d FLAGS y ≡ suc f → Tested c e s w f y
 
-abbrev pub TestsOnce : (State → Ruled) → (c e s w : List ℕ) → TCheck.TCheck → (c' s' d o : List ℕ) → Type 0
+abbrev pub TestsOnce : (State → Ruled) → (c e s w : List ℕ) → RuleAnswer → (c' s' d o : List ℕ) → Type 0
 TestsOnce rule c e s w r c' s' d o = TriedOnce (λ a b. TestsSound a e b w d) rule c e s w r c' s' o
 
 -- f is a tester, y a term of arg's class

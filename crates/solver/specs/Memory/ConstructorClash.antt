@@ -1,5 +1,6 @@
 -- What the functions of the constructor clash ask and promise, by the numbers of the marked constructor applications.
-use Rattle.std.specs.Prelude.{ℕ, ◌-◌, ◌≤◌, ◌<◌, ◌≡◌, Bool, true, false, not, ◌&&◌, List, eqb, length}
+use Rattle.std.specs.Prelude.{ℕ, ◌≤◌, ◌<◌, ◌≡◌, Bool, true, false, not, ◌&&◌, List, eqb, length, Option, MatchOption}
+use Rattle.shinri_core.specs.declared.ids.TermId.{TermId}
 use Rattle.shinri_core.specs.Limits.{max_terms}
 use Rattle.shinri_core.specs.Term as Term
 use Rattle.shinri_core.specs.Term.{Op, Eq}
@@ -49,11 +50,9 @@ pub record FirstClash (c e w : List ℕ) (p q : ℕ) : Type 0 where
   pub clash : clashing c e p q ≡ true
   pub between : NoClash c e w p q
 
--- r is one more than the first behind p that p clashes with, or 0 if there is none
-pub record ClashAt (c e w : List ℕ) (p r : ℕ) : Type 0 where
-  pub fits : r ≤ max_terms
-  pub none : r ≡ 0 → MarkedApp w p → NoClash c e w p max_terms
-  pub found : (r ≡ 0 → ⊥) → FirstClash c e w p (r - 1)
+-- r is the first behind p that p clashes with, if there is one
+abbrev pub ClashAt : (c e w : List ℕ) → ℕ → Option TermId → Type 0
+ClashAt c e w p r = MatchOption r (MarkedApp w p → NoClash c e w p max_terms) (λ q. FirstClash c e w p q.0)
 
 -- the tables that a clash is looked for in
 pub record ClashTables (c e w : List ℕ) : Type 0 where

@@ -1,5 +1,5 @@
 -- What the functions promise that record unequal terms and find those that are equal now.
-use Rattle.std.specs.Prelude.{ℕ, ◌≤◌, ◌<◌, ◌≡◌, true, false, List, length}
+use Rattle.std.specs.Prelude.{ℕ, ◌≤◌, ◌<◌, ◌≡◌, true, false, List, length, Ok}
 use Rattle.std.proofs.Math.Option.{Option}
 use Rattle.shinri_core.specs.Ids as Ids
 use Rattle.shinri_core.specs.Term.{Eq}
@@ -51,7 +51,7 @@ pub record SidesAsked (c e : List ℕ) (x : ℕ) (o : List ℕ) : Type 0 where
 -- what the negative literal l of the equation x contradicts, whatever the solver's tables
 pub record SidesConflict (c e : List ℕ) (l x : ℕ) (r : TCheck.TCheck) (o : List ℕ) : Type 0 where
   pub conflict : (s w : List ℕ) (lv : ℕ → ℕ) → ConflictIs r (disequality_conflict (state_at c e s w lv) l (children (context c) x)) o
-  pub readable : Readable r o
+  pub readable : Readable (Ok r) o
 
 -- ---- the record
 
@@ -71,12 +71,12 @@ pub record PairAsked (c e s : List ℕ) (i : ℕ) (o : List ℕ) : Type 0 where
 -- what entry i gives, in a check with any marks
 pub record PairConflict (c e s : List ℕ) (i : ℕ) (r : TCheck.TCheck) (o : List ℕ) : Type 0 where
   pub conflict : (w : List ℕ) (lv : ℕ → ℕ) → ConflictIs r (found_at unequal_finds (entry_of of_unequal s lv i) (state_at c e s w lv)) o
-  pub readable : Readable r o
+  pub readable : Readable (Ok r) o
 
 -- what the rule gives, in a check with any marks
 pub record UnequalClash (c e s : List ℕ) (r : TCheck.TCheck) (o : List ℕ) : Type 0 where
-  pub outcome : (w : List ℕ) (lv : ℕ → ℕ) → Outcome r (disequality_clash (state_at c e s w lv)) (state_at c e s w lv) o
-  pub readable : Readable r o
+  pub outcome : (w : List ℕ) (lv : ℕ → ℕ) → Outcome (Ok r) (disequality_clash (state_at c e s w lv)) (state_at c e s w lv) o
+  pub readable : Readable (Ok r) o
 
 -- no recorded unequal terms are equal
 abbrev pub NoneJoined : List ℕ → List ℕ → List ℕ → Type 0

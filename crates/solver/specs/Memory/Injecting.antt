@@ -1,6 +1,6 @@
--- What the functions of injectivity ask and promise: steps of the definition from state to state, whatever the solver's table. They answer
--- whether the terms made fit.
-use Rattle.std.specs.Prelude.{ℕ, suc, ◌≤◌, ◌<◌, ◌≡◌, ◌⊎◌, Bool, true, false, cond, eqb, length}
+-- What the functions of injectivity ask and promise: steps of the definition from state to state, whatever the solver's table.
+use Rattle.std.specs.Prelude.{ℕ, suc, ◌≤◌, ◌<◌, ◌≡◌, ◌⊎◌, Bool, true, false, cond, eqb, length, Result, Ok, Err}
+use Rattle.shinri_core.specs.declared.limits.NoRoom.{NoRoom}
 use mathlib.Core.List.{List, [], ◌∷◌, foldl}
 use Rattle.shinri_core.specs.Limits.{max_terms}
 use Rattle.shinri_core.specs.Lists.{In}
@@ -16,7 +16,7 @@ use Rattle.solver.specs.State.{State}
 use Rattle.solver.specs.Rules.{pass, mint_on_both, mint_selectors, instantiate_injectivity_selectors}
 use Rattle.solver.specs.declared.answer.TCheck as TCheck
 use Rattle.solver.specs.Memory.Work.{W_MARK, work_marks, apps_from, state_at, ChainSound, CheckSound}
-use Rattle.solver.specs.Memory.Answer.{Tried}
+use Rattle.solver.specs.Memory.Answer.{RuleAnswer, Tried}
 use Rattle.solver.specs.Memory.Making.{Making}
 use Rattle.solver.specs.Memory.ConstructorClash.{symbol_of, app_at, MarkedApp}
 
@@ -29,17 +29,21 @@ pub record Moves (c e w c' w' : List ℕ) : Type 0 where
   pub chain : ChainSound c e w → ChainSound c' e w'
   pub extends : Extends (context c) (context c')
 
+-- the answer to some steps
+abbrev pub Stepped : Type 0
+Stepped = Result (Unit {0}) NoRoom
+
 -- what a step of the definition gave: the state now, or terms that do not fit
-abbrev pub StepOutcome : Bool → State → State → Type 0
-StepOutcome true S S' = S ≡ S'
-StepOutcome false S S' = terms_fit S.terms ≡ false
+abbrev pub StepOutcome : Stepped → State → State → Type 0
+StepOutcome (Ok u) S S' = S ≡ S'
+StepOutcome (Err n) S S' = terms_fit S.terms ≡ false
 
 -- a step F of the definition was done; if it fits, the marked constructor applications are as before
-pub record Steps (F : State → State) (c e w : List ℕ) (r : Bool) (c' w' : List ℕ) : Type 0 where
+pub record Steps (F : State → State) (c e w : List ℕ) (r : Stepped) (c' w' : List ℕ) : Type 0 where
   pub moves : Moves c e w c' w'
-  pub marks : r ≡ true → (x : ℕ) → MarkedApp w x → MarkedApp w' x
-  pub back : r ≡ true → (x : ℕ) → MarkedApp w' x → MarkedApp w x
-  pub apps : r ≡ true → (i : ℕ) → i ≤ max_terms → apps_from (context c') w' i ≡ apps_from (context c) w i
+  pub marks : r ≡ Ok tt → (x : ℕ) → MarkedApp w x → MarkedApp w' x
+  pub back : r ≡ Ok tt → (x : ℕ) → MarkedApp w' x → MarkedApp w x
+  pub apps : r ≡ Ok tt → (i : ℕ) → i ≤ max_terms → apps_from (context c') w' i ≡ apps_from (context c) w i
   pub outcome : (s : List ℕ) (lv : ℕ → ℕ) → StepOutcome r (F (state_at c e s w lv)) (state_at c' e s w' lv)
 
 -- ---- what is asked
@@ -147,6 +151,12 @@ select_from cx w p s = cond (eqb (at w W_MARK p) 1) (select_with (app_at cx p) (
 
 -- ---- the rule
 
-pub record Injects (c e w : List ℕ) (r : TCheck.TCheck) (c' w' : List ℕ) : Type 0 where
-  pub tried : (s o : List ℕ) → CheckSound c e s w → Tried (λ S. pass (instantiate_injectivity_selectors S)) c e s w r c' s w' o
+-- the answer of a rule that only passes
+abbrev pub passing : Stepped → RuleAnswer
+passing (Ok u) = Ok TCheck.TheVariants.Sat
+passing (Err n) = Err n
+
+pub record Injects (c e w : List ℕ) (r : Stepped) (c' w' : List ℕ) : Type 0 where
+  pub tried : (s o : List ℕ) → CheckSound c e s w →
+      Tried (λ S. pass (instantiate_injectivity_selectors S)) c e s w (passing r) c' s w' o
   pub chain : ChainSound c' e w'

@@ -5,7 +5,7 @@ use Rattle.shinri_core.specs.Term.{Constructor}
 use Rattle.shinri_core.specs.Context.{symbol, sort_of, tester_app}
 use Rattle.shinri_core.specs.Memory.Words.{at}
 use Rattle.shinri_core.specs.Memory.Table.{context}
-use Rattle.shinri_core.specs.declared.context.Made as Made
+use Rattle.std.specs.Prelude.{Ok}
 use Rattle.shinri_core.specs.declared.ids.TermId.{TermId}
 use Rattle.theory.specs.Atom.{var_of_atom}
 use Rattle.theory.specs.Memory.Registry.{atoms}
@@ -16,7 +16,7 @@ use Rattle.solver.specs.declared.answer.TCheck as TCheck
 use Rattle.solver.specs.Memory.Table.{LASTING, registry, is_set, SolverSound}
 use Rattle.solver.specs.Memory.Work.{state_at, CheckSound}
 use Rattle.solver.specs.Memory.Answer.{Outcome, Readable}
-use Rattle.solver.specs.Memory.Making.{Making, MakesTerm}
+use Rattle.solver.specs.Memory.Making.{Making, Made, MakesTerm}
 
 -- ---- the definition by its parts
 
@@ -46,9 +46,9 @@ pub record Coverable (c e w : List ℕ) (a f : ℕ) : Type 0 where
   pub agree : sort_of (context c) a ≡ (symbol (context c) f).result
 
 -- it was made; it has the sort of a
-pub record Covers (c e w : List ℕ) (a f : ℕ) (r : Made.Made) (c' w' : List ℕ) : Type 0 where
+pub record Covers (c e w : List ℕ) (a f : ℕ) (r : Made) (c' w' : List ℕ) : Type 0 where
   pub makes : MakesTerm (mint_over a f) ⊥ c e w r c' w'
-  pub result : (y : TermId) → r ≡ Made.TheVariants.At y → sort_of (context c') y.0 ≡ (symbol (context c') f).result
+  pub result : (y : TermId) → r ≡ Ok y → sort_of (context c') y.0 ≡ (symbol (context c') f).result
 
 -- the lemma y may be handed out under the guard of atom x
 pub record Guardable (s : List ℕ) (x y : ℕ) (o : List ℕ) : Type 0 where
@@ -61,10 +61,9 @@ pub record Guardable (s : List ℕ) (x y : ℕ) (o : List ℕ) : Type 0 where
 pub record Guards (s : List ℕ) (x y : ℕ) (r : TCheck.TCheck) (s' o : List ℕ) : Type 0 where
   pub sound : (c e w : List ℕ) → CheckSound c e s w → CheckSound c e s' w
   pub outcome : (c e w : List ℕ) (lv : ℕ → ℕ) →
-      Outcome r (guard (var_of_atom (atoms (registry s)) x) (record { id = y; state = state_at c e s w lv })) (state_at c e s' w lv) o
-  pub readable : Readable r o
+      Outcome (Ok r) (guard (var_of_atom (atoms (registry s)) x) (record { id = y; state = state_at c e s w lv })) (state_at c e s' w lv) o
+  pub readable : Readable (Ok r) o
   pub unchanged : (r ≡ TCheck.TheVariants.Split → ⊥) → s' ≡ s
-  pub no_refusal : r ≡ TCheck.TheVariants.NoRoom → ⊥
 
 -- term a may be instantiated by constructor f, guarded by atom x
 pub record Instantiable (c e s w : List ℕ) (x f a : ℕ) (o : List ℕ) : Type 0 where

@@ -17,9 +17,9 @@ use Rattle.solver.specs.State.{State, AssertedAtom}
 use Rattle.solver.specs.Records.{tester_conflict, negative_conflict}
 use Rattle.solver.specs.Rules.{Ruled, tester_clash, negative_clash}
 use Rattle.solver.specs.declared.answer.TCheck as TCheck
-use Rattle.solver.specs.declared.work.CtorOf as CtorOf
+use Rattle.std.specs.Prelude.{Some, Ok}
 use Rattle.solver.specs.Memory.Table.{term_kind, records#, of_sign, entry_of}
-use Rattle.solver.specs.Memory.Work.{W_MARK, state_at, apps_from, first_in_class, ctor_meaning, ClassTable, CheckSound}
+use Rattle.solver.specs.Memory.Work.{W_MARK, state_at, apps_from, first_in_class, ctor_meaning, ClassTable, CheckSound, CtorOf}
 use Rattle.solver.specs.Memory.Answer.{Readable}
 use Rattle.solver.specs.Memory.ConstructorClash.{symbol_of}
 
@@ -29,7 +29,6 @@ ConflictIs TCheck.TheVariants.Sat m o = m ≡ none
 ConflictIs TCheck.TheVariants.Conflict m o = m ≡ some (leaves o)
 ConflictIs TCheck.TheVariants.Split m o = ⊥
 ConflictIs TCheck.TheVariants.Unknown m o = ⊥
-ConflictIs TCheck.TheVariants.NoRoom m o = ⊥
 
 -- ---- by the sign
 
@@ -65,24 +64,24 @@ Lone c e w =
 
 -- What a tester is compared with: a positive one with the lowest application of its term's class, a negative one with the lowest of its
 -- own constructor there; another application stands for none then.
-abbrev pub Found : Bool → List ℕ → List ℕ → List ℕ → ℕ → ℕ → CtorOf.CtorOf → Type 0
+abbrev pub Found : Bool → List ℕ → List ℕ → List ℕ → ℕ → ℕ → CtorOf → Type 0
 Found true c e w x d k = ctor_meaning (context c) k ≡ first_in_class (merges e) x (apps_from (context c) w 0)
 Found false c e w x d k = with_ctor d (ctor_meaning (context c) k) ≡ own_in_class (merges e) x d (apps_from (context c) w 0)
 
 -- ---- a tester against what is found
 
 -- a term, and what is found in its class
-pub record DisagreeAsked (e : List ℕ) (arg : ℕ) (k : CtorOf.CtorOf) (o : List ℕ) : Type 0 where
+pub record DisagreeAsked (e : List ℕ) (arg : ℕ) (k : CtorOf) (o : List ℕ) : Type 0 where
   pub engine : EngineSound e
   pub first : arg < max_terms
-  pub equal : (f : SymbolId) (y : TermId) → k ≡ CtorOf.TheVariants.At f y → (y.0 < max_terms) × (are_equal (merges e) arg y.0 ≡ true)
+  pub equal : (f : SymbolId) (y : TermId) → k ≡ Some (f, y) → (y.0 < max_terms) × (are_equal (merges e) arg y.0 ≡ true)
   pub long : answer_size ≤ length o
 
 -- what literal l contradicts, if it says that the term is built by a constructor, or that it is not
-pub record Disagrees (b : Bool) (e : List ℕ) (l ctor arg : ℕ) (k : CtorOf.CtorOf) (r : TCheck.TCheck) (o : List ℕ) : Type 0 where
+pub record Disagrees (b : Bool) (e : List ℕ) (l ctor arg : ℕ) (k : CtorOf) (r : TCheck.TCheck) (o : List ℕ) : Type 0 where
   pub conflict : (c s w : List ℕ) (lv : ℕ → ℕ) (x : TesterApp) → x.ctor ≡ ctor → x.arg ≡ arg → Found b c e w arg ctor k →
       ConflictIs r (conflict_by b (state_at c e s w lv) l x) o
-  pub readable : Readable r o
+  pub readable : Readable (Ok r) o
 
 -- ---- a tester application
 
@@ -116,7 +115,7 @@ pub record TesterConflict (b : Bool) (c e w : List ℕ) (l x : ℕ) (r : TCheck.
   pub app : TesterApp
   pub is_tester : tester_app (context c) x ≡ some app
   pub conflict : (s : List ℕ) (lv : ℕ → ℕ) → ConflictIs r (conflict_by b (state_at c e s w lv) l app) o
-  pub readable : Readable r o
+  pub readable : Readable (Ok r) o
 
 -- ---- the lowest application of one constructor
 
@@ -131,7 +130,7 @@ pub record OwnAsked (c e w : List ℕ) (i : ℕ) : Type 0 where
   pub marks : max_terms ≤ length w
   pub within : i < length (context c).terms
 
-pub record OwnApp (c e w : List ℕ) (x d : ℕ) (r : CtorOf.CtorOf) : Type 0 where
+pub record OwnApp (c e w : List ℕ) (x d : ℕ) (r : CtorOf) : Type 0 where
   pub is : ctor_meaning (context c) r ≡ own_in_class (merges e) x d (apps_from (context c) w 0)
   pub within : (a : CtorApp) → ctor_meaning (context c) r ≡ some a → a.app < length (context c).terms
 
@@ -162,4 +161,4 @@ pub record EntryAsked (b : Bool) (c e s w : List ℕ) (i : ℕ) (o : List ℕ) :
 
 pub record EntryConflict (b : Bool) (c e s w : List ℕ) (i : ℕ) (r : TCheck.TCheck) (o : List ℕ) : Type 0 where
   pub conflict : (lv : ℕ → ℕ) → ConflictIs r (found_at (tester_finds b) (entry_of (of_sign b) s lv i) (state_at c e s w lv)) o
-  pub readable : Readable r o
+  pub readable : Readable (Ok r) o

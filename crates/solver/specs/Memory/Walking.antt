@@ -1,7 +1,7 @@
 -- The walk for a ring on a table of its own, a local array: a colour for each application, and the path with how many fields of each of
 -- its applications are still to be tried. What the definition makes of a walk that has come so far is `resume`; each step leaves it as it
 -- is.
-use Rattle.std.specs.Prelude.{ℕ, zero, suc, ◌+◌, ◌-◌, ◌≤◌, ◌<◌, ◌≡◌, true, cond, eqb, length, get_or}
+use Rattle.std.specs.Prelude.{ℕ, zero, suc, ◌+◌, ◌-◌, ◌≤◌, ◌<◌, ◌≡◌, true, cond, eqb, length, get_or, Result, Ok, Err}
 use mathlib.Core.List.{List, [], ◌∷◌, map, foldl}
 use Rattle.std.proofs.Math.Option.{none, some}
 use Rattle.shinri_core.specs.Limits.{max_terms}
@@ -18,9 +18,7 @@ use Rattle.solver.specs.Ring.{Frame, Edge, Walk, Found, Finished, ring_edges, be
 use Rattle.solver.specs.Memory.Table.{flagged_from}
 use Rattle.solver.specs.Memory.Work.{W_MARK, state_at}
 use Rattle.solver.specs.Memory.Making.{Making}
-use Rattle.solver.specs.declared.ring.Entered as Entered
-use Rattle.solver.specs.declared.ring.Step as Step
-use Rattle.solver.specs.declared.ring.Cycle as Cycle
+use Rattle.solver.specs.declared.ring.Cycle.{Cycle}
 
 -- ---- the layout
 
@@ -212,34 +210,38 @@ pub record TriesTo (c e w r : List ℕ) (n : ℕ) (done : List ℕ) (field : ℕ
 
 -- ---- what the functions promise, by their answers, whatever is finished
 
-abbrev pub EnterOutcome : (c e w r : List ℕ) (n field : ℕ) → Entered.Entered → List ℕ → Type 0
-EnterOutcome c e w r n field (Entered.TheVariants.Ring x) r' =
-    (r' ≡ r) × ((done : List ℕ) → Walking c e r n done → Meets c e w r n done field x.0)
-EnterOutcome c e w r n field Entered.TheVariants.New r' =
-    (load (context c) r' (suc n) < load (context c) r n)
-    × ((done : List ℕ) → Walking c e r n done → Enters c e w r n done field r' (suc n))
-EnterOutcome c e w r n field Entered.TheVariants.Passed r' =
-    (r' ≡ r) × ((done : List ℕ) → Walking c e r n done → Enters c e w r n done field r n)
+abbrev pub EnterOutcome : (c e w r : List ℕ) (n field : ℕ) → Result ℕ Cycle → List ℕ → Type 0
+EnterOutcome c e w r n field (Ok m) r' =
+    (load (context c) r' m ≤ load (context c) r n)
+    × ((done : List ℕ) → Walking c e r n done → Enters c e w r n done field r' m)
+EnterOutcome c e w r n field (Err k) r' =
+    (k.field.0 ≡ field)
+    × (k.len ≡ n)
+    × (r' ≡ r)
+    × ((done : List ℕ) → Walking c e r n done → Meets c e w r n done field k.app.0)
 
-abbrev pub FieldOutcome : (c e w r : List ℕ) (n field : ℕ) → Step.Step → List ℕ → Type 0
-FieldOutcome c e w r n field (Step.TheVariants.Ring f x) r' =
-    (f.0 ≡ field) × (r' ≡ r) × ((done : List ℕ) → Walking c e r n done → Tries c e w r n done field x.0)
-FieldOutcome c e w r n field (Step.TheVariants.To m) r' =
+abbrev pub FieldOutcome : (c e w r : List ℕ) (n field : ℕ) → Result ℕ Cycle → List ℕ → Type 0
+FieldOutcome c e w r n field (Ok m) r' =
     (load (context c) r' m ≤ load (context c) r n)
     × ((done : List ℕ) → Walking c e r n done → TriesTo c e w r n done field r' m)
+FieldOutcome c e w r n field (Err k) r' =
+    (k.field.0 ≡ field)
+    × (k.len ≡ n)
+    × (r' ≡ r)
+    × ((done : List ℕ) → Walking c e r n done → Tries c e w r n done field k.app.0)
 
-abbrev pub StepOutcome : (c e w r : List ℕ) (n : ℕ) → Step.Step → List ℕ → Type 0
-StepOutcome c e w r n (Step.TheVariants.Ring f x) r' =
-    (done : List ℕ) → Walking c e r n done → Closes c e w r n done r' n f.0 x.0
-StepOutcome c e w r n (Step.TheVariants.To m) r' =
+abbrev pub StepOutcome : (c e w r : List ℕ) (n : ℕ) → Result ℕ Cycle → List ℕ → Type 0
+StepOutcome c e w r n (Ok m) r' =
     (load (context c) r' m < load (context c) r n)
     × ((done : List ℕ) → Walking c e r n done → Goes c e w r n done r' m)
+StepOutcome c e w r n (Err k) r' =
+    (done : List ℕ) → Walking c e r n done → Closes c e w r n done r' k.len k.field.0 k.app.0
 
-abbrev pub WalkOutcome : (c e w r : List ℕ) (n : ℕ) → Cycle.Cycle → List ℕ → Type 0
-WalkOutcome c e w r n (Cycle.TheVariants.At f x m) r' =
-    (done : List ℕ) → Walking c e r n done → Closes c e w r n done r' m f.0 x.0
-WalkOutcome c e w r n Cycle.TheVariants.Nothing r' =
+abbrev pub WalkOutcome : (c e w r : List ℕ) (n : ℕ) → Result (Unit {0}) Cycle → List ℕ → Type 0
+WalkOutcome c e w r n (Ok _) r' =
     (done : List ℕ) → Walking c e r n done → Goes c e w r n done r' 0
+WalkOutcome c e w r n (Err k) r' =
+    (done : List ℕ) → Walking c e r n done → Closes c e w r n done r' k.len k.field.0 k.app.0
 
 -- ---- watched terms
 
@@ -256,11 +258,11 @@ pub record WatchedDone (c e w done : List ℕ) (x : ℕ) (r' : List ℕ) : Type 
   pub walking : Walking c e r' 0 done'
   pub finished : (s : List ℕ) (lv : ℕ → ℕ) → walk_watched (state_at c e s w lv) x done ≡ Finished done'
 
-abbrev pub WatchedOutcome : (c e w r : List ℕ) (x : ℕ) → Cycle.Cycle → List ℕ → Type 0
-WatchedOutcome c e w r x (Cycle.TheVariants.At f y m) r' =
-    (done : List ℕ) → Walking c e r 0 done → WatchedRing c e w done x r' m f.0 y.0
-WatchedOutcome c e w r x Cycle.TheVariants.Nothing r' =
+abbrev pub WatchedOutcome : (c e w r : List ℕ) (x : ℕ) → Result (Unit {0}) Cycle → List ℕ → Type 0
+WatchedOutcome c e w r x (Ok _) r' =
     (done : List ℕ) → Walking c e r 0 done → WatchedDone c e w done x r'
+WatchedOutcome c e w r x (Err k) r' =
+    (done : List ℕ) → Walking c e r 0 done → WatchedRing c e w done x r' k.len k.field.0 k.app.0
 
 -- the watched terms from term i on
 unfoldable pub watched_from : Context → List ℕ → ℕ → List ℕ
@@ -286,11 +288,11 @@ pub record SeekOn (c e w done : List ℕ) (i : ℕ) (r' : List ℕ) : Type 0 whe
       seeking (state_at c e s w lv) (Finished done) (watched_from (context c) w i)
       ≡ seeking (state_at c e s w lv) (Finished done') (watched_from (context c) w (suc i))
 
-abbrev pub SeekOutcome : (c e w r : List ℕ) (i : ℕ) → Cycle.Cycle → List ℕ → Type 0
-SeekOutcome c e w r i (Cycle.TheVariants.At f y m) r' =
-    (done : List ℕ) → Walking c e r 0 done → SeekRing c e w done i r' m f.0 y.0
-SeekOutcome c e w r i Cycle.TheVariants.Nothing r' =
+abbrev pub SeekOutcome : (c e w r : List ℕ) (i : ℕ) → Result (Unit {0}) Cycle → List ℕ → Type 0
+SeekOutcome c e w r i (Ok _) r' =
     (done : List ℕ) → Walking c e r 0 done → SeekOn c e w done i r'
+SeekOutcome c e w r i (Err k) r' =
+    (done : List ℕ) → Walking c e r 0 done → SeekRing c e w done i r' k.len k.field.0 k.app.0
 
 -- ---- the whole walk
 
@@ -300,19 +302,23 @@ pub record Unmet (r : List ℕ) : Type 0 where
   pub zero : (i : ℕ) → get_or r i 0 ≡ 0
 
 -- a ring on the path: the field leads back to an application of it
-pub record RingAt (e r : List ℕ) (n field app : ℕ) : Type 0 where
+pub record RingAt (e r : List ℕ) (k : Cycle) : Type 0 where
   pub engine : EngineSound e
   pub long : ring_size ≤ length r
-  pub fits : n ≤ max_terms
-  pub closing : EqualNodes e field app
-  pub path : (i : ℕ) → i < n → EqualNodes e (at r PATH_VIA i) (at r PATH_APP i)
+  pub fits : k.len ≤ max_terms
+  pub closing : EqualNodes e k.field.0 k.app.0
+  pub path : (i : ℕ) → i < k.len → EqualNodes e (at r PATH_VIA i) (at r PATH_APP i)
 
-abbrev pub CycleOutcome : (c e w : List ℕ) → Cycle.Cycle → List ℕ → Type 0
-CycleOutcome c e w (Cycle.TheVariants.At f x n) r =
-    RingAt e r n f.0 x.0
-    × ((s : List ℕ) (lv : ℕ → ℕ) → constructor_graph_find_cycle (state_at c e s w lv) ≡ some (ring_edges f.0 x.0 (path r n)))
-CycleOutcome c e w Cycle.TheVariants.Nothing r =
+-- its edges, the closing edge first
+abbrev pub edges_of : List ℕ → Cycle → List Edge
+edges_of r k = ring_edges k.field.0 k.app.0 (path r k.len)
+
+abbrev pub CycleOutcome : (c e w : List ℕ) → Result (Unit {0}) Cycle → List ℕ → Type 0
+CycleOutcome c e w (Ok _) r =
     (s : List ℕ) (lv : ℕ → ℕ) → constructor_graph_find_cycle (state_at c e s w lv) ≡ none
+CycleOutcome c e w (Err k) r =
+    RingAt e r k
+    × ((s : List ℕ) (lv : ℕ → ℕ) → constructor_graph_find_cycle (state_at c e s w lv) ≡ some (edges_of r k))
 
 -- ---- the conflict
 
@@ -330,6 +336,6 @@ pub record RingBegins (r : List ℕ) (n app k : ℕ) : Type 0 where
   pub below : below_entry app (path r n) [] ≡ edges r k n
 
 -- the leaves of a ring
-pub record RingLeaves (e r : List ℕ) (n field app : ℕ) (o : List ℕ) : Type 0 where
+pub record RingLeaves (e r : List ℕ) (k : Cycle) (o : List ℕ) : Type 0 where
   pub sound : LeavesSound o
-  pub are : leaves o ≡ firsts (edge_leaves (merges e) (ring_edges field app (path r n)))
+  pub are : leaves o ≡ firsts (edge_leaves (merges e) (edges_of r k))

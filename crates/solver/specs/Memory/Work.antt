@@ -1,8 +1,10 @@
 -- The work table of a check, a local array: the marks, the root of each term, and for each class its marked constructor
 -- applications, ascending. A check works on these marks, so that a check that does not fit has none to take back. Outside a check the
 -- marks and the words of the blocks alone, which the solver's table has side by side, are a short work table.
-use Rattle.std.specs.Prelude.{ℕ, zero, suc, ◌+◌, ◌-◌, ◌*◌, ◌≤◌, ◌<◌, ◌≡◌, ◌⊎◌, true, cond, List, [], ◌∷◌, eqb, ltb, length, get_or, take, drop}
+use Rattle.std.specs.Prelude.{ℕ, zero, suc, ◌+◌, ◌*◌, ◌≤◌, ◌<◌, ◌≡◌, ◌⊎◌, true, cond, List, [], ◌∷◌, eqb, ltb, length, get_or, take, drop}
 use Rattle.std.proofs.Math.Option.{Option, none, some}
+use Rattle.shinri_core.specs.declared.ids.SymbolId.{SymbolId}
+use Rattle.shinri_core.specs.declared.ids.TermId.{TermId}
 use Rattle.shinri_core.specs.Limits.{max_terms, table_words}
 use Rattle.shinri_core.specs.Lists.{first, gather, insert}
 use Rattle.shinri_core.specs.Context.{Context, CtorApp, ctor_app, children}
@@ -12,7 +14,7 @@ use Rattle.shinri_core.specs.Memory.Table.{context, ContextSound}
 use Rattle.theory.specs.EqEngine.{Merge, find, are_equal}
 use Rattle.theory.specs.Memory.Table.{merges, EngineSound}
 use Rattle.solver.specs.State.{State}
-use Rattle.solver.specs.declared.work.CtorOf as CtorOf
+use Rattle.std.specs.Prelude.{Option as GivenOption, Some, None}
 use Rattle.solver.specs.Memory.Table.{MARK, blocks, block_terms, term_kind, is_set, flagged_from, MarksAre, Announced, state_with, StateSound}
 
 -- ---- the layout
@@ -128,13 +130,17 @@ pub record CtorAsked (c e w : List ℕ) (x : ℕ) : Type 0 where
   pub table : ClassTable c e w
   pub is_node : x < max_terms
 
--- the code's answer in the definition
-unfoldable pub ctor_meaning : Context → CtorOf.CtorOf → Option CtorApp
-ctor_meaning cx (CtorOf.TheVariants.At f x) = some (record { app = x.0; ctor = f.0; fields = children cx x.0 })
-ctor_meaning cx CtorOf.TheVariants.Nothing = none
+-- what the code says of a class: its constructor and the application that stands for it, if there is one
+abbrev pub CtorOf : Type 0
+CtorOf = GivenOption (SymbolId × TermId)
+
+-- the same in the definition
+unfoldable pub ctor_meaning : Context → CtorOf → Option CtorApp
+ctor_meaning cx (Some (f, x)) = some (record { app = x.0; ctor = f.0; fields = children cx x.0 })
+ctor_meaning cx None = none
 
 -- the lowest marked constructor application of the class of x
-pub record CtorOfClass (c e w : List ℕ) (x : ℕ) (r : CtorOf.CtorOf) : Type 0 where
+pub record CtorOfClass (c e w : List ℕ) (x : ℕ) (r : CtorOf) : Type 0 where
   pub is : ctor_meaning (context c) r ≡ first_in_class (merges e) x (apps_from (context c) w 0)
   pub within : (a : CtorApp) → ctor_meaning (context c) r ≡ some a → a.app < length (context c).terms
   pub declared : (a : CtorApp) → ctor_meaning (context c) r ≡ some a → a.ctor < length (context c).symbols
@@ -143,13 +149,10 @@ pub record CtorOfClass (c e w : List ℕ) (x : ℕ) (r : CtorOf.CtorOf) : Type 0
 abbrev pub word_from : List ℕ → List ℕ → List ℕ → ℕ → ℕ → ℕ
 word_from c e w x i = app_word (first_in_class (merges e) x (apps_from (context c) w i))
 
--- The word may stand for a term; if it stands for the first application of a class, its answer is that of `ctor_of_class`.
-pub record NameAsked (c : List ℕ) (word : ℕ) : Type 0 where
-  pub core : ContextSound c
-  pub within : (word ≡ 0 → ⊥) → word - 1 < length (context c).terms
-
-pub record NamesApp (c : List ℕ) (word : ℕ) (r : CtorOf.CtorOf) : Type 0 where
-  pub names : (e w : List ℕ) (x : ℕ) → word ≡ word_from c e w x 0 → CtorOfClass c e w x r
+-- the word for a term, if there is one
+abbrev pub term_word : GivenOption TermId → ℕ
+term_word None = 0
+term_word (Some x) = suc x.0
 
 -- ---- a short work table
 

@@ -7,9 +7,12 @@ use Rattle.shinri_core.proofs.Lists.{In, T_true, true_T, in_range}
 use Rattle.theory.specs.Types.{EqJust, Asserted, Congruence, Interface, EqLeaf, AssertedLeaf, InterfaceLeaf}
 use Rattle.theory.specs.EqEngine.{Merge, Step, Explained, are_equal, pairs_of, common, way, same_pair, visit, cite, path, expand_edge, explain_rec, explain, firsts_after}
 use Rattle.theory.specs.Memory.Table.{left_word, right_word, first_word, pair_at, is_pair, merges#, label_word, value_word, after_word, fparent_word, fedge_word, label, begins, kind_of, theory_of, just_at, merge_at, pairs_start, merges_below, merges, EngineSound}
+use Rattle.shinri_core.specs.declared.ids.Lit.{Lit}
+use Rattle.theory.specs.declared.types.TheoryJust.{TheoryJust}
 use Rattle.theory.specs.declared.types.EqLeaf as Given
+use Rattle.theory.specs.declared.eq_engine.EdgeLabel as EdgeLabel
 use Rattle.theory.specs.Memory.Replay.{IsNode, Justified}
-use Rattle.theory.specs.Memory.Steps.{Upward}
+use Rattle.theory.specs.Memory.Steps.{Upward, IsLabel}
 use Rattle.theory.specs.Memory.Answer.{leaves, leaf_meaning, HasRoom, Pushed, Labels, Cites, AnswerSound}
 use Rattle.theory.specs.Memory.Explaining.{MARKS, age, pairs_age, Part, NewPair, Way, Label, Pairs, part_age, NotOlder, up_to, expand_way, expand_new, expand, pairs_from, marked, mark_of, Shows, Explaining, Goes, EqualNodes, EqualPair, PairsEqual, MarksPair, Explains}
 use Rattle.theory.proofs.Members.{in_left, in_right}
@@ -393,37 +396,38 @@ pair_in t from to j h k = go (range from (to - from)) (in_range from (to - from)
     go (x ∷ xs) (inl e) = inl (ap (pair_at t) e)
     go (x ∷ xs) (inr i) = inr (go xs i)
 
--- merge i by the words k and v that were read
-module _ {t m o : List ℕ} {i k v : ℕ} (z : Explaining t m o) (h : i < merges# t) (e : k ≡ label_word t i) (q : v ≡ value_word t i) where
-  label_is : just_at t i ≡ label t (kind_of k) (theory_of k) v (after_word t i)
+-- merge i by its label
+module _ {t m o : List ℕ} {i : ℕ} (z : Explaining t m o) (h : i < merges# t) where
+  of_kind : {n v : ℕ} → kind_of (label_word t i) ≡ n → v ≡ value_word t i →
+      just_at t i ≡ label t n (theory_of (label_word t i)) v (after_word t i)
   unfolding just_at
-  label_is = sym (ap₂ (λ (x y : ℕ). label t (kind_of x) (theory_of x) y (after_word t i)) e q)
+  of_kind w q = ap₂ (λ (n y : ℕ). label t n (theory_of (label_word t i)) y (after_word t i)) w (sym q)
 
-  of_kind : {n : ℕ} → kind_of k ≡ n → just_at t i ≡ label t n (theory_of k) v (after_word t i)
-  of_kind w = label_is ∙ ap (λ (n : ℕ). label t n (theory_of k) v (after_word t i)) w
-
-  pub edge_literal : kind_of k ≡ 0 → LabelLeaf t m o i (leaf_meaning (Given.TheVariants.Asserted (record { 0 = v })))
+  pub edge_literal : (p : Lit) → IsLabel t i (EdgeLabel.TheVariants.Asserted p) →
+      LabelLeaf t m o i (leaf_meaning (Given.TheVariants.Asserted p))
   unfolding label leaf_meaning
-  edge_literal w = leaf_goes (AssertedLeaf v) z h (subst (λ (j : EqJust). Labels j (AssertedLeaf v)) (sym (of_kind w)) refl)
+  edge_literal p (w, q) =
+      leaf_goes (AssertedLeaf p.0) z h (subst (λ (j : EqJust). Labels j (AssertedLeaf p.0)) (sym (of_kind w q)) refl)
 
-  pub edge_interface : (kind_of k ≡ 0 → ⊥) → (kind_of k ≡ 1 → ⊥) →
-      LabelLeaf t m o i (leaf_meaning (Given.TheVariants.Interface (record { theory = theory_of k; tag = v })))
+  pub edge_interface : (k : TheoryJust) → IsLabel t i (EdgeLabel.TheVariants.Interface k) →
+      LabelLeaf t m o i (leaf_meaning (Given.TheVariants.Interface k))
   unfolding label leaf_meaning
-  edge_interface a b = leaf_goes l z h (subst (λ (j : EqJust). Labels j l) (sym label_is) (go (kind_of k) a b))
+  edge_interface k (a, b, r, q) =
+      leaf_goes l z h (subst (λ (j : EqJust). Labels j l) (sym (of_kind refl q)) (go (kind_of (label_word t i)) a b))
     where
       l : EqLeaf
-      l = InterfaceLeaf (theory_of k) v
+      l = InterfaceLeaf k.theory k.tag
 
-      go : (n : ℕ) → (n ≡ 0 → ⊥) → (n ≡ 1 → ⊥) → Labels (label t n (theory_of k) v (after_word t i)) l
+      go : (n : ℕ) → (n ≡ 0 → ⊥) → (n ≡ 1 → ⊥) → Labels (label t n (theory_of (label_word t i)) k.tag (after_word t i)) l
       go zero a b = absurd (a refl)
       go (suc zero) a b = absurd (b refl)
-      go (suc (suc n)) a b = refl
+      go (suc (suc n)) a b = ap (λ (y : ℕ). InterfaceLeaf y k.tag) r
 
-  pub edge_congruence : {a : ℕ} → a ≡ after_word t i → kind_of k ≡ 1 → LabelPairs t i v a
+  pub edge_congruence : (v a : ℕ) → IsLabel t i (EdgeLabel.TheVariants.Congruence v a) → LabelPairs t i v a
   unfolding merges merge_at label pairs_from pairs_start begins pairs_of expand expand_edge part_age
-  edge_congruence {a} r w =
+  edge_congruence v a (w, q, r) =
       let f = (z.engine.entries i h).fit.0 in
-      let s : pairs_start t i ≡ value_word t i = ap (λ (n : ℕ). begins n (value_word t i) (after_word t i)) (sym (ap kind_of e) ∙ w) in
+      let s : pairs_start t i ≡ value_word t i = ap (λ (n : ℕ). begins n (value_word t i) (after_word t i)) w in
       let l = after_within t i z.engine h in
       record {
         ready = record { ordered = omega arith; each = λ j b c. record { in_force = omega arith; nodes = nodes j b c } };
@@ -433,7 +437,7 @@ module _ {t m o : List ℕ} {i k v : ℕ} (z : Explaining t m o) (h : i < merges
       }
     where
       is : just_at t i ≡ Congruence (pairs_from t v a)
-      is = of_kind w ∙ sym (ap (λ (n : ℕ). Congruence (pairs_from t v n)) r)
+      is = of_kind w q ∙ sym (ap (λ (n : ℕ). Congruence (pairs_from t v n)) r)
 
       nodes : (j : ℕ) → v ≤ j → j < a → EqualNodes t (pair_at t j).0 (pair_at t j).1
       nodes j b c =

@@ -5,12 +5,12 @@ use Rattle.shinri_core.specs.Lists.{In, range, zip}
 use Rattle.shinri_core.specs.Memory.Words.{at}
 use Rattle.theory.specs.Types.{EqJust, Congruence}
 use Rattle.theory.specs.declared.types.EqJust as Given
-use Rattle.theory.specs.declared.eq_engine.LabelWords as LabelWords
+use Rattle.theory.specs.declared.eq_engine.EdgeLabel as EdgeLabel
 use Rattle.theory.specs.EqEngine.{Merge, are_equal, merge, pairs_of, pairs_in_force, way}
 use Rattle.theory.specs.Memory.Replay.{EqualPairs}
 use Rattle.theory.specs.Memory.Table.{COUNTS, MERGES, LEVEL, PARENT, SIZE, merges#, level_word, left_word, right_word, pair_at, label, begins, merges, just_meaning, EngineSound, Engine, TwoNodes, Merges, Congruent}
-use Rattle.theory.specs.Memory.Steps.{SameLog, Joinable, HoldsLabel, PairRoom, Copied}
-use Rattle.theory.proofs.Memory.Log.{pairs_more, after_within}
+use Rattle.theory.specs.Memory.Steps.{SameLog, Joins, label_kind, label_theory, label_value, label_after, just_of, LabelOf, PairRoom, Copied}
+use Rattle.theory.proofs.Memory.Log.{pairs_more, after_within, in_force_few}
 use Rattle.theory.proofs.Memory.SoundTables.{edge_kept, Shortened, shorter_sound, shorter_merges}
 
 -- ---- the list
@@ -53,29 +53,34 @@ unfolding pairs_of just_meaning
 plain (Given.TheVariants.Asserted l) = refl
 plain (Given.TheVariants.Interface k) = refl
 
-module _ {t : List ℕ} {a b : ℕ} {r : Bool} (n : ℕ) (j : Given.EqJust) (w : LabelWords.LabelWords) (h : HoldsLabel j w)
+module _ {t : List ℕ} {a b : ℕ} {r : Bool} (j : Given.EqJust) (l : EdgeLabel.EdgeLabel) (h : LabelOf j l)
     (q : r ≡ are_equal (merges t) a b) (two : r ≡ false) where
-  pub joinable_label : TwoNodes t a b → n ≡ pairs_in_force (merges t) → n ≤ max_pairs → Joinable t a b w.kind w.theory w.value n
-  joinable_label s p top =
-      let start = h.no_pairs n in
+  pub joinable_label : TwoNodes t a b → Joins t a b l
+  joinable_label s =
+      let n = pairs_in_force (merges t) in
+      let z = s.sound in
+      let few = in_force_few t z in
+      let c = z.covers in
+      let start = (h.no_pairs (label_after l n)).0 in
+      let same = (h.no_pairs n).1 in
       record {
-        sound = s.sound;
+        sound = z;
         nodes = (s.first, s.second);
         two = sym q ∙ two;
         known = h.known;
         theory = h.theory;
         value = h.value;
-        start = start ∙ p;
+        start = start ∙ same;
         ordered = omega arith;
-        fit = top;
-        indexed = let c = s.sound.covers in omega arith;
-        pairs = λ x i. absurd (subst (λ (ps : List (ℕ × ℕ)). In x ps) (ap pairs_of (h.is t n) ∙ plain j) i);
+        fit = omega arith;
+        indexed = omega arith;
+        pairs = λ x i. absurd (subst (λ (ps : List (ℕ × ℕ)). In x ps) (ap pairs_of (h.is t (label_after l n)) ∙ plain j) i);
       }
 
   pub merged_label : {u : List ℕ} →
-      Engine u (record { a = a; b = b; just = label t w.kind w.theory w.value n; level = level_word t } ∷ merges t)
-      (level_word t) → Merges t u a b (just_meaning j)
-  merged_label = merged_two (label t w.kind w.theory w.value n) (just_meaning j) (sym q ∙ two) (h.is t n)
+      Engine u (record { a = a; b = b; just = just_of t l; level = level_word t } ∷ merges t) (level_word t) → Merges t u a b
+      (just_meaning j)
+  merged_label = merged_two (just_of t l) (just_meaning j) (sym q ∙ two) (h.is t (label_after l (pairs_in_force (merges t))))
 
 -- ---- a label of pairs
 
@@ -194,8 +199,12 @@ module _ {t u : List ℕ} {start : ℕ} {xs ys : List ℕ} {a b : ℕ} {r : Bool
       ap Congruence
       (ap (λ (k : ℕ). map (pair_at u) (range start k)) d ∙ zip_words (left_word u) (right_word u) xs ys start s.same_count c.new)
 
-  pub joinable_pairs : {n : ℕ} → n ≡ start + length xs → PairRoom t start xs ys → Joinable u a b 1 0 start n
-  unfolding begins pairs_of z
+  -- their label in the log
+  abbrev Range : ℕ → EdgeLabel.EdgeLabel
+  Range n = EdgeLabel.TheVariants.Congruence start n
+
+  pub joinable_pairs : {n : ℕ} → n ≡ start + length xs → PairRoom t start xs ys → Joins u a b (Range n)
+  unfolding begins pairs_of z label_kind label_theory label_value label_after
   joinable_pairs {n} e room =
       let f = room.fit in
       record {
@@ -214,8 +223,9 @@ module _ {t u : List ℕ} {start : ℕ} {xs ys : List ℕ} {a b : ℕ} {r : Bool
       }
 
   pub merged_pairs : {v : List ℕ} {n : ℕ} → n ≡ start + length xs →
-      Engine v (record { a = a; b = b; just = label u 1 0 start n; level = level_word u } ∷ merges u) (level_word u) → Merges t v a b
+      Engine v (record { a = a; b = b; just = just_of u (Range n); level = level_word u } ∷ merges u) (level_word u) → Merges t v a b
       (Congruence (zip xs ys))
+  unfolding label_kind label_theory label_value label_after
   merged_pairs {v} {n} e g =
       merged_two (label u 1 0 start n) (Congruence (zip xs ys)) (sym q ∙ two) (label_is n e) (record {
         sound = g.sound;

@@ -1,5 +1,5 @@
 -- The answer table: asking for a leaf, appending one, and what that does to the list of leaves.
-use Rattle.shinri_core.proofs.Kit.{ℕ, zero, suc, ◌+◌, ◌-◌, ◌≤◌, ◌<◌, ◌≡◌, refl, sym, subst, ap, ap₂, ◌∙◌, ◌⊎◌, inl, inr, Bool, true, false, cond, ◌&&◌, true≢false, false≢true, List, [], ◌∷◌, ◌++◌, ℕ_discrete, add-one, arith, eq-eqb, ne_eqb, eqb-true, below_more, T, eqb, leb, lit<, length, get_or}
+use Rattle.shinri_core.proofs.Kit.{ℕ, zero, suc, ◌+◌, ◌-◌, ◌≤◌, ◌<◌, ◌≡◌, refl, sym, subst, ap, ap₂, ◌∙◌, ◌⊎◌, inl, inr, Bool, true, false, cond, ◌&&◌, true≢false, false≢true, List, [], ◌∷◌, ◌++◌, ℕ_discrete, add-one, arith, ne_eqb, eqb-true, T, eqb, eqb_suc_suc, leb, lit<, length, get_or, take, drop, replicate}
 use Rattle.shinri_core.specs.Limits.{max_terms, max_theories}
 use Rattle.shinri_core.specs.Lists.{range}
 use Rattle.shinri_core.specs.Memory.Words.{at, put, apart, counted}
@@ -12,10 +12,10 @@ use Rattle.shinri_core.proofs.Memory.Stores as Stores
 use Rattle.theory.specs.Types.{EqLeaf, AssertedLeaf, InterfaceLeaf, same_leaf}
 use Rattle.theory.specs.EqEngine.{Merge}
 use Rattle.theory.specs.declared.types.EqLeaf as Given
-use Rattle.theory.specs.declared.types.TheoryJust as TheoryJust
-use Rattle.shinri_core.specs.declared.ids.Lit as Lit
-use Rattle.theory.specs.Memory.Answer.{COUNTS, LEAVES, LEAF_KIND, LEAF_VALUE, BUCKET, LINK, answer_room, answer_size, leaves#, buckets, bucket, bucket_of, leaf_of, leaf_at, leaves, leaf_meaning, has_leaf, LeavesSound, NoLeaves, HasRoom, Pushed, Pushable, Linkable, linked, Cites, Cited, AnswerSound, Cleared}
+use Rattle.theory.specs.declared.types.LeafWords as LeafWords
+use Rattle.theory.specs.Memory.Answer.{COUNTS, LEAVES, LEAF_KIND, LEAF_VALUE, BUCKET, LINK, answer_room, answer_size, leaves#, buckets, bucket, bucket_of, leaf_of, leaf_at, leaves, leaf_meaning, has_leaf, LeavesSound, HasRoom, Pushed, HoldsLeaf, Linkable, linked, Cites, Cited, AnswerSound, Cleared}
 use Rattle.theory.proofs.Members.{Apart, apart_last, in_either}
+use Rattle.theory.proofs.Memory.Filling.{put_mid, filled}
 use Rattle.theory.proofs.Explain.{in_seen, few_leaves}
 
 -- ---- stores
@@ -34,36 +34,16 @@ ruleset stores = (tt, lit<, other, same, long, Stores.other_place)
 
 -- ---- an empty table
 
--- the buckets below i are cleared
-pub record Clearing (o₀ o : List ℕ) (i : ℕ) : Type 0 where
-  pub within : i ≤ buckets
-  pub long : answer_size ≤ length o
-  pub same : length o ≡ length o₀
-  pub heads : (h : ℕ) → h < i → at o BUCKET h ≡ 0
-
-pub clear_first : {o : List ℕ} → answer_size ≤ length o → Clearing o o 0
-clear_first l = record { within = omega arith; long = l; same = refl; heads = λ h g. absurd (omega arith) }
-
-pub clear_next : {o₀ o u : List ℕ} {i : ℕ} → Clearing o₀ o i → i < buckets → u ≡ put o BUCKET i 0 → Clearing o₀ u (i + 1)
-clear_next {o = o} {u} {i} c h e =
-    let l : answer_size ≤ length o = c.long in
-    record {
-      within = omega arith;
-      long = search (e, stores);
-      same = ap length e ∙ Stores.length_put o BUCKET i 0 ∙ c.same;
-      heads = below_more (λ (x : ℕ). at u BUCKET x ≡ 0) i (λ x g. search (e, stores, Stores.earlier, c.heads)) (search (e, stores));
-    }
-
-pub clear_done : {o₀ o : List ℕ} {i : ℕ} → Clearing o₀ o i → buckets ≤ i → NoLeaves o
-clear_done c h = record { long = c.long; heads = λ x l. c.heads x (omega arith) }
-
-pub cleared : (o u : List ℕ) → NoLeaves o → u ≡ put o COUNTS LEAVES 0 → Cleared u
+-- the buckets are filled with 0, then the count is set
+pub cleared : (o ys u : List ℕ) → answer_size ≤ length o → ys ≡ replicate (length (take buckets (drop BUCKET o))) 0 →
+    u ≡ put (put_mid BUCKET buckets o ys) COUNTS LEAVES 0 → Cleared u
 unfolding leaves counted range newest
-cleared o u z e =
-    let l : answer_size ≤ length o = z.long in
+cleared o ys u k q e =
+    let z = filled BUCKET buckets 0 o ys (omega arith) q in
+    let l : answer_size ≤ length (put_mid BUCKET buckets o ys) = let s = z.long in omega arith in
     let c : leaves# u ≡ 0 = search (e, stores) in
     let n : leaves u ≡ [] = ap (counted (leaf_at u)) c in
-    let heads : (h : ℕ) → h < buckets → at u BUCKET h ≡ 0 = search (e, stores, z.heads) in
+    let heads : (h : ℕ) → h < buckets → at u BUCKET h ≡ 0 = search (e, stores, z.own) in
     let index : Indexed (bucket_of u) (at u BUCKET) (at u LINK) buckets 0 =
     record { heads = heads; links = λ i h. absurd (omega arith) } in
     record {
@@ -106,30 +86,23 @@ module _ (o : List ℕ) (i k v : ℕ) (h : i < length (leaves o)) (e : k ≡ at 
   unfolding leaf_of
   leaf_interface d = let p : suc (k - 1) ≡ k = omega arith in ap (λ (m : ℕ). leaf_of m v) p ∙ words_are
 
--- a leaf looked for, and the leaf at i by the words k and v that were read there
-module _ (o : List ℕ) (i kind value k : ℕ) (p : k ≡ at o LEAF_KIND i) where
-  pub leaf_same : (v : ℕ) → v ≡ at o LEAF_VALUE i → k ≡ kind → eqb value v ≡ same_leaf (leaf_of kind value) (leaf_at o i)
-  unfolding leaf_of same_leaf
-  leaf_same v r q =
-      go kind v ∙ ap₂ (λ (x y : ℕ). same_leaf (leaf_of kind value) (leaf_of x y)) (sym q ∙ p) r
-    where
-      go : (j w : ℕ) → eqb value w ≡ same_leaf (leaf_of j value) (leaf_of j w)
-      go zero w = refl
-      go (suc h) w = sym (ap (λ (b : Bool). b && eqb value w) (eq-eqb h h refl))
-
-  pub leaf_differs : (k ≡ kind → ⊥) → false ≡ same_leaf (leaf_of kind value) (leaf_at o i)
-  unfolding leaf_of same_leaf
-  leaf_differs q = go kind (at o LEAF_KIND i) (at o LEAF_VALUE i) (λ e. q (p ∙ sym e))
-    where
-      go : (j m w : ℕ) → (j ≡ m → ⊥) → false ≡ same_leaf (leaf_of j value) (leaf_of m w)
-      go zero zero w d = absurd (d refl)
-      go zero (suc m) w d = refl
-      go (suc j) zero w d = refl
-      go (suc j) (suc m) w d = sym (ap (λ (b : Bool). b && eqb value w) (ne_eqb j m (λ e. d (ap suc e))))
-
 -- is the leaf at i the one looked for?
 abbrev pub Is : List ℕ → ℕ → ℕ → ℕ → Bool
 Is o kind value i = same_leaf (leaf_of kind value) (leaf_at o i)
+
+-- words are compared as leaves are
+words_same : (j v m w : ℕ) → (eqb j m && eqb v w) ≡ same_leaf (leaf_of j v) (leaf_of m w)
+unfolding leaf_of same_leaf
+words_same zero v zero w = refl
+words_same zero v (suc m) w = ap (λ (b : Bool). b && eqb v w) (ne_eqb 0 (suc m) (λ e. omega arith))
+words_same (suc j) v zero w = ap (λ (b : Bool). b && eqb v w) (ne_eqb (suc j) 0 (λ e. omega arith))
+words_same (suc j) v (suc m) w = ap (λ (b : Bool). b && eqb v w) (eqb_suc_suc j m)
+
+-- the leaf at i, by the words k and w that were read there
+pub compared : (o : List ℕ) (kind value i : ℕ) {k w : ℕ} {b : Bool} → (k ≡ at o LEAF_KIND i) × (w ≡ at o LEAF_VALUE i) →
+    b ≡ (eqb kind k && eqb value w) → b ≡ Is o kind value i
+compared o j v i (p, q) e =
+    e ∙ ap₂ (λ (x y : ℕ). eqb j x && eqb v y) p q ∙ words_same j v (at o LEAF_KIND i) (at o LEAF_VALUE i)
 
 -- the same leaf has the same words
 same_words : (j v m w : ℕ) → same_leaf (leaf_of j v) (leaf_of m w) ≡ true → (m ≡ j) × (w ≡ v)
@@ -182,6 +155,13 @@ module _ {o : List ℕ} {kind value h k : ℕ} (w : Looking o kind value h k) wh
       sym (any_missing (same_leaf (leaf_of kind value)) (leaf_at o) (leaves# o) (λ j a g. w.asked.rest j (omega arith) g))
 
 -- ---- appending
+
+-- the words of a leaf that is to be pushed
+pub record Pushable (o : List ℕ) (kind value : ℕ) : Type 0 where
+  pub sound : LeavesSound o
+  pub kind_fits : kind ≤ max_theories
+  pub value_fits : value < 4294967296
+  pub room : HasRoom o (leaf_of kind value)
 
 module _ (o : List ℕ) (kind value : ℕ) (b : Bool) (z : Pushable o kind value) (e : b ≡ has_leaf (leaf_of kind value) (leaves o)) where
   pub pushed_old : b ≡ true → Pushed o o (leaf_of kind value)
@@ -251,10 +231,14 @@ module _ {o u : List ℕ} {n kind value h : ℕ} (z : LeavesSound o) (m : n ≡ 
       }
 
 -- what is asked to make it leaf n
-pub linkable : {o : List ℕ} {n kind value : ℕ} {b : Bool} → Pushable o kind value → b ≡ has_leaf (leaf_of kind value) (leaves o) →
-    b ≡ false → n ≡ leaves# o → Linkable o n kind value
-linkable {o} {n} {kind} {value} {b} z e q m =
-    record { long = z.sound.long; place = push_fits o kind value b z e n q m; kind_fits = z.kind_fits; value_fits = z.value_fits }
+pub linkable : {o : List ℕ} {n : ℕ} {w : LeafWords.LeafWords} {b : Bool} → Pushable o w.kind w.value →
+    b ≡ has_leaf (leaf_of w.kind w.value) (leaves o) → b ≡ false → n ≡ leaves# o → Linkable o n w
+linkable {o} {n} {w} {b} z e q m =
+    record {
+      long = z.sound.long;
+      place = push_fits o w.kind w.value b z e n q m;
+      fits = record { kind_fits = z.kind_fits; value_fits = z.value_fits };
+    }
 
 pub pushed_new : {o o₁ o₂ o₃ u : List ℕ} {kind value n : ℕ} {b : Bool} → Pushable o kind value →
     b ≡ has_leaf (leaf_of kind value) (leaves o) → b ≡ false → n ≡ leaves# o → o₁ ≡ linked o n (bucket kind value) →
@@ -275,16 +259,14 @@ pushed_new {o} {o₁} {o₂} {o₃} {u} {kind} {value} {n} {b} z e q m p₁ p₂
     }
 
 -- the words of a given leaf
-pub asserted_is : (l : Given.EqLeaf) (p : Lit.Lit) → l ≡ Given.TheVariants.Asserted p → leaf_meaning l ≡ leaf_of 0 p.0
-unfolding leaf_meaning leaf_of
-asserted_is l p e = ap leaf_meaning e
-
-pub interface_is : (l : Given.EqLeaf) (j : TheoryJust.TheoryJust) → l ≡ Given.TheVariants.Interface j →
-    leaf_meaning l ≡ leaf_of (1 + j.theory) j.tag
-unfolding leaf_meaning leaf_of
-interface_is l j e =
-    let n : suc j.theory ≡ 1 + j.theory = omega arith in
-    ap leaf_meaning e ∙ ap (λ (k : ℕ). leaf_of k j.tag) n
+pub pushable : {o : List ℕ} {l : Given.EqLeaf} {w : LeafWords.LeafWords} → LeavesSound o × HasRoom o (leaf_meaning l) → HoldsLeaf l w →
+    Pushable o w.kind w.value
+pushable z h = record {
+  sound = z.0;
+  kind_fits = h.fits.kind_fits;
+  value_fits = h.fits.value_fits;
+  room = subst (HasRoom _) h.is z.1;
+}
 
 -- ---- there is room, and the table stays sound
 

@@ -1,34 +1,28 @@
 -- The marks of the argument pairs that an explanation has expanded.
-use Rattle.shinri_core.proofs.Kit.{ℕ, ◌+◌, ◌/◌, ◌≤◌, ◌<◌, ◌≡◌, refl, sym, ap, ap₂, ◌∙◌, Bool, true, false, cond, not, ◌&&◌, ◌||◌, zero, suc, true≢false, List, arith, zero-add, eq-eqb, ne_eqb, eqb, length, get_or, set, get_or-set_same}
+use Rattle.shinri_core.proofs.Kit.{ℕ, ◌+◌, ◌/◌, ◌≤◌, ◌<◌, ◌≡◌, refl, sym, ap, ap₂, ◌∙◌, Bool, true, false, cond, not, ◌&&◌, ◌||◌, zero, suc, true≢false, List, arith, zero-add, ne_eqb, eqb, length, get_or, set, get_or-set_same}
+use Rattle.std.proofs.Common.{Some}
 use Rattle.shinri_core.specs.Limits.{max_terms, max_pairs}
 use Rattle.shinri_core.specs.Memory.Words.{at, put}
 use Rattle.shinri_core.proofs.Memory.Stores.{other_place}
 use Rattle.theory.specs.EqEngine.{pairs_in_force, same_pair}
-use Rattle.theory.specs.Memory.Table.{LEFT, left_word, right_word, first_word, indexed#, is_pair, merges, EngineSound}
-use Rattle.theory.specs.Memory.Steps.{FindsPair}
+use Rattle.theory.specs.Memory.Table.{LEFT, first_word, indexed#, is_pair, merges, EngineSound}
+use Rattle.theory.specs.declared.eq_engine.Pair as Pair
+use Rattle.theory.specs.Memory.Steps.{FindsPair, IsPairAt}
 use Rattle.theory.specs.Memory.Explaining.{MARKS, marked, mark_of, MarksPair}
 use Rattle.theory.proofs.Memory.PairIndex.{first_alike, alike_first}
 
-pub both_first : (x y a b : ℕ) → x ≡ a → eqb y b ≡ (eqb x a && eqb y b)
-both_first x y a b p = sym (ap (λ (u : Bool). u && eqb y b) (eq-eqb x a p))
+-- the nodes q of argument pair j are tested in one order (r), then in the other (s)
+module _ (t : List ℕ) (j a b : ℕ) {q : Pair.Pair} {r : Bool} (h : IsPairAt t j q) (p : r ≡ (eqb q.left a && eqb q.right b)) where
+  either : same_pair q.left q.right (a, b) ≡ is_pair t j (a, b)
+  either = ap₂ (λ (u v : ℕ). same_pair u v (a, b)) h.left h.right
 
-pub both_not : (x y a b : ℕ) → (x ≡ a → ⊥) → false ≡ (eqb x a && eqb y b)
-both_not x y a b p = sym (ap (λ (u : Bool). u && eqb y b) (ne_eqb x a p))
+  pub tested_first : r ≡ true → r ≡ is_pair t j (a, b)
+  unfolding same_pair
+  tested_first e = e ∙ sym (ap (λ (u : Bool). u || (eqb q.left b && eqb q.right a)) (sym p ∙ e)) ∙ either
 
--- a test r of the first order, then a test s of the other
-pub same_pair_first : (x y a b : ℕ) (r : Bool) → r ≡ (eqb x a && eqb y b) → r ≡ true → true ≡ same_pair x y (a, b)
-unfolding same_pair
-same_pair_first x y a b r p q = sym (ap (λ (u : Bool). u || (eqb x b && eqb y a)) (sym p ∙ q))
-
-pub same_pair_other : (x y a b : ℕ) (r s : Bool) → r ≡ (eqb x a && eqb y b) → r ≡ false → s ≡ (eqb x b && eqb y a) →
-    s ≡ same_pair x y (a, b)
-unfolding same_pair
-same_pair_other x y a b r s p q e = e ∙ sym (ap (λ (u : Bool). u || (eqb x b && eqb y a)) (sym p ∙ q))
-
--- a test r of the nodes x and y of argument pair j
-pub tested : (t : List ℕ) (a b j : ℕ) {x y : ℕ} {r : Bool} → x ≡ left_word t j → y ≡ right_word t j → r ≡ same_pair x y (a, b) →
-    r ≡ is_pair t j (a, b)
-tested t a b j p q e = e ∙ ap₂ (λ (u v : ℕ). same_pair u v (a, b)) p q
+  pub tested_other : {s : Bool} → r ≡ false → s ≡ (eqb q.left b && eqb q.right a) → s ≡ is_pair t j (a, b)
+  unfolding same_pair
+  tested_other e f = f ∙ sym (ap (λ (u : Bool). u || (eqb q.left b && eqb q.right a)) (sym p ∙ e)) ∙ either
 
 -- the region of the marks begins at 0, so a place of it is a place of the list
 get_or_at : (ks : List ℕ) (i : ℕ) → get_or ks i 0 ≡ at ks MARKS i
@@ -40,25 +34,19 @@ unfolding put
 set_put ks i v = ap (λ (x : ℕ). set ks x v) (sym (zero-add i))
 
 -- The pair of a and b is expanded: the first of the pairs of these nodes is marked, if there is one.
-module _ {t : List ℕ} {a b k n : ℕ} (z : EngineSound t) (w : FindsPair t a b k) (e : n ≡ indexed# t) where
-  pub mark_none : {ks : List ℕ} → k ≡ n → MarksPair t a b ks ks
-  mark_none {ks} q =
-      record {
-        each = λ j l. let c = z.covers in sym (ap (λ (x : Bool). cond x true (mark_of t ks j)) (w.missing (q ∙ e) j (omega arith)));
-      }
-
-  module _ (d : k ≡ n → ⊥) where
+module _ {t : List ℕ} (a b : ℕ) (z : EngineSound t) where
+  module _ {k : ℕ} (w : FindsPair t a b (Some k)) where
     found : k < indexed# t
-    found = let v = w.within in omega arith
+    found = w.0
 
     -- another first pair, other nodes
     apart_firsts : (j : ℕ) → j < indexed# t → is_pair t j (a, b) ≡ false → (first_word t j ≡ first_word t k → ⊥)
     apart_firsts j l o q =
-        true≢false (sym (first_alike a b z j k l found q (w.found found)) ∙ o)
+        true≢false (sym (first_alike a b z j k l found q w.1) ∙ o)
 
     -- the same nodes, one first pair
     one_first : (j : ℕ) → j < indexed# t → is_pair t j (a, b) ≡ true → first_word t j ≡ first_word t k
-    one_first j l o = alike_first a b z j k l found o (w.found found)
+    one_first j l o = alike_first a b z j k l found o w.1
 
     -- with any number that is a mark
     mark_first : {f : ℕ} (v : ℕ) {ks ls : List ℕ} → f < length ks → f ≡ first_word t k → marked v ≡ true → ls ≡ put ks MARKS f v →

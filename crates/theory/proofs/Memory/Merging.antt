@@ -1,14 +1,16 @@
 -- One merge: what its steps write, the new edge of the forest, the class that goes under and the entry of the log, makes a sound table
 -- with that merge in front.
 use Rattle.shinri_core.proofs.Kit.{ℕ, suc, ◌+◌, ◌≤◌, ◌<◌, ◌≡◌, refl, sym, subst, ap, ap₂, ◌∙◌, inl, Bool, false, cond, List, [], ◌∷◌, arith, ℕ_discrete, add-one, ne_eqb, le-leb, lt-leb, eqb, lit<, length}
-use Rattle.shinri_core.specs.Limits.{max_terms, max_pairs}
+use Rattle.shinri_core.specs.Limits.{max_terms, max_pairs, max_levels}
 use Rattle.shinri_core.specs.Lists.{In}
 use Rattle.shinri_core.specs.Memory.Words.{put}
 use Rattle.shinri_core.proofs.Memory.Stores.{kept_none, kept_more, kept_put}
+use Rattle.theory.specs.declared.eq_engine.EdgeLabel as EdgeLabel
+use Rattle.theory.specs.declared.eq_engine.LabelWords as LabelWords
 use Rattle.theory.specs.EqEngine.{Merge, child, root, classes, find, are_equal, pairs_in_force, Step, before, way}
 use Rattle.theory.specs.Memory.Replay.{IsNode, child_of, root_of, parent, end, BothSides, ups}
 use Rattle.theory.specs.Memory.Table.{engine_size, COUNTS, MERGES, LEVEL, PARENT, SIZE, FPARENT, FEDGE, FROOT, LEFT, RIGHT, HEAD, INDEXED, engine_room, merges#, level_word, parent_word, size_word, fparent_word, fedge_word, a_word, b_word, label_word, value_word, child_word, froot_word, after_word, left_word, right_word, label_code, level_of, kind_of, theory_of, label, begins, just_at, merge_at, pairs_start, merges, FirstEdge, EngineSound, Engine, TwoNodes}
-use Rattle.theory.specs.Memory.Steps.{SameEntry, SameLog, SameNode, Rerooted, Cut, Turnable, Turns, Spliced, TwoClasses, united, logged, Joinable}
+use Rattle.theory.specs.Memory.Steps.{SameEntry, SameLog, SameNode, Rerooted, Cut, Turnable, Turns, Spliced, TwoClasses, united, Entry, logged, Joinable, Joins, just_of, label_after, HoldsLabel}
 use Rattle.theory.proofs.Members.{in_right}
 use Rattle.theory.proofs.Classes.{turned_sides, size_more}
 use Rattle.theory.proofs.Forest.{Forest, Above, above?, Below, below, before_end, apart, end_on, end_root, split, back, first_side, turned_above, other_stays, other_root}
@@ -354,12 +356,12 @@ module _ {t t₁ : List ℕ} {a b kind h v e ra rb : ℕ} (J : Joinable t a b ki
     }
 
 -- the label of the words is the new merge's, at the present level
-pub joined : {t t₁ t₂ t₃ u : List ℕ} {a b kind h v e ra rb i l : ℕ} → Joinable t a b kind h v e → i ≡ merges# t → l ≡ level_word t →
+joined_by : {t t₁ t₂ t₃ u : List ℕ} {a b kind h v e ra rb i l : ℕ} → Joinable t a b kind h v e → i ≡ merges# t → l ≡ level_word t →
     ra ≡ find (merges t) a → rb ≡ find (merges t) b → Spliced t t₁ a b i → t₂ ≡ united t₁ (child (size_word t₁) ra rb)
     (root (size_word t₁) ra rb) i → t₃ ≡ logged t₂ i a b (label_code l kind h) v e → u ≡ put t₃ COUNTS MERGES (i + 1) → Engine u
     (record { a = a; b = b; just = label t kind h v e; level = level_word t } ∷ merges t) (level_word t)
 unfolding m
-joined {t} {t₁} {t₂} {t₃} {u} {a} {b} {kind} {h} {v} {e} {ra} {rb} {i} {l} J p q fa fb s e₂ e₃ e₄ =
+joined_by {t} {t₁} {t₂} {t₃} {u} {a} {b} {kind} {h} {v} {e} {ra} {rb} {i} {l} J p q fa fb s e₂ e₃ e₄ =
     let c = subst (Spliced t t₁ a b) p s in
     let z = J.sound in
     let long : engine_size ≤ length t₁ = let k = c.kept.long in let n = z.long in omega arith in
@@ -372,6 +374,38 @@ joined {t} {t₁} {t₂} {t₃} {u} {a} {b} {kind} {h} {v} {e} {ra} {rb} {i} {l}
     written long z.fewer (child_node J fa fb c) (root_node J fa fb c) (rw (← n, ← o, ← p, ← q) stored) in
     let g = grown J fa fb c w in
     record { sound = grown_sound z g; log = grown_merges z g; at_level = g.level }
+
+-- the words of a label that may join two classes fit
+pub entry_fits : {t : List ℕ} {a b i l n : ℕ} {g : EdgeLabel.EdgeLabel} {w : LabelWords.LabelWords} → Joins t a b g → HoldsLabel g l n w →
+    n ≡ pairs_in_force (merges t) → i ≡ merges# t → l ≤ max_levels → Entry i a b w
+entry_fits {g = g} J H m p h =
+    let z = J.sound in
+    let f = z.fewer in
+    let k = J.known in
+    let y = J.theory in
+    let c = H.code in
+    let v = H.value in
+    let j = J.value in
+    let o = H.after ∙ ap (label_after g) m in
+    let e = J.fit in
+    record {
+      entry = omega arith;
+      first = J.nodes.0;
+      second = J.nodes.1;
+      code = omega arith;
+      value = omega arith;
+      after = omega arith;
+    }
+
+-- and the words are those of a label
+pub joined : {t t₁ t₂ t₃ u : List ℕ} {a b ra rb i l n : ℕ} {g : EdgeLabel.EdgeLabel} {w : LabelWords.LabelWords} → Joins t a b g →
+    HoldsLabel g l n w → n ≡ pairs_in_force (merges t) → i ≡ merges# t → l ≡ level_word t → ra ≡ find (merges t) a →
+    rb ≡ find (merges t) b → Spliced t t₁ a b i → t₂ ≡ united t₁ (child (size_word t₁) ra rb) (root (size_word t₁) ra rb) i →
+    t₃ ≡ logged t₂ i a b w.code w.value w.after → u ≡ put t₃ COUNTS MERGES (i + 1) →
+    Engine u (record { a = a; b = b; just = just_of t g; level = level_word t } ∷ merges t) (level_word t)
+joined {t₂ = t₂} {t₃} {a = a} {b} {i = i} {l} {g = g} {w} J H m p q fa fb s e₂ e₃ e₄ =
+    let o = H.after ∙ ap (label_after g) m in
+    joined_by J p q fa fb s e₂ (rw (H.code, H.value, o) at e₃) e₄
 
 -- two classes have fewer terms than a word holds
 pub classes_fit : {t t₁ : List ℕ} {a b i ra rb : ℕ} → EngineSound t → i ≡ merges# t → Spliced t t₁ a b i → IsNode ra → IsNode rb →

@@ -1,13 +1,15 @@
 -- The index of argument pairs: pairs of the same nodes in either order, looking for one, one more, the newest taken back.
-use Rattle.shinri_core.proofs.Kit.{ℕ, suc, ◌+◌, ◌-◌, ◌*◌, ◌/◌, ◌%◌, ◌≤◌, ◌<◌, ◌≡◌, refl, sym, subst, ap, ap₂, ◌∙◌, ◌⊎◌, inl, inr, Bool, true, false, ◌&&◌, ◌||◌, true≢false, false≢true, List, arith, ℕ_discrete, le_antisymm, below_more, add-one, eq-eqb, eqb-true, eqb, lit<, length}
+use Rattle.shinri_core.proofs.Kit.{ℕ, suc, ◌+◌, ◌-◌, ◌*◌, ◌/◌, ◌%◌, ◌≤◌, ◌<◌, ◌≡◌, refl, sym, subst, ap, ap₂, ◌∙◌, ◌⊎◌, inl, inr, Bool, true, false, ◌&&◌, ◌||◌, true≢false, false≢true, List, arith, ℕ_discrete, le_antisymm, below_more, add-one, eq-eqb, eqb-true, eqb, lit<, length, take, drop, replicate}
+use Rattle.std.proofs.Common.{Some, None}
 use Rattle.shinri_core.specs.Limits.{max_terms, max_pairs}
 use Rattle.shinri_core.specs.Memory.Words.{at, put, Kept}
 use Rattle.shinri_core.specs.Memory.Table.{newest, Indexed}
-use Rattle.shinri_core.proofs.Memory.Stores.{kept_none, kept_put, earlier, other_place, length_put}
+use Rattle.shinri_core.proofs.Memory.Stores.{kept_none, kept_put, other_place, length_put}
 use Rattle.shinri_core.proofs.Memory.Index.{newest_found, indexed_more, indexed_less, indexed_same, Asking, ask_first, ask_next, ask_less}
 use Rattle.theory.specs.EqEngine.{same_pair}
 use Rattle.theory.specs.Memory.Table.{engine_size, LEFT, RIGHT, HEAD, INDEXED, engine_room, left_word, right_word, first_word, link_word, indexed#, pair_at, is_pair, pair_buckets, pair_bucket, pair_bucket_of, FirstsSound, PairsSound, EngineSound}
 use Rattle.theory.specs.Memory.Steps.{pair_regions, SamePairs, NoPairs, PairAsked, FindsPair, FirstOf, PairLinkable, pair_linked, Addable, PairAdded, LastPair, Cuttable, PairsAddable, PairsCut, PairRoom, Copied}
+use Rattle.theory.proofs.Memory.Filling.{put_mid, filled}
 use Rattle.theory.proofs.Memory.EngineStores as Engine
 use Rattle.theory.proofs.Memory.EngineStores.{stores}
 
@@ -103,34 +105,28 @@ module _ {t : List ℕ} {x y h k : ℕ} (w : Seeking t x y h k) where
     pub seek_less : v / max_terms < k
     seek_less = ask_less w.asks.indexed.index (only x y w.asks w.hash) w.asked d q
 
-  pub seek_found : {b : Bool} → (k ≡ 0 → ⊥) → b ≡ is_pair t (k - 1) (x, y) → b ≡ true → FindsPair t x y (k - 1)
-  seek_found d f q =
-      let a = w.asked.within in
-      record { within = omega arith; found = λ l. sym f ∙ q; missing = λ o. absurd (omega arith) }
+  pub seek_found : {b : Bool} → (k ≡ 0 → ⊥) → b ≡ is_pair t (k - 1) (x, y) → b ≡ true → FindsPair t x y (Some (k - 1))
+  seek_found d f q = let a = w.asked.within in (omega arith, sym f ∙ q)
 
-  pub seek_missing : {r : ℕ} → k ≡ 0 → r ≡ indexed# t → FindsPair t x y r
-  seek_missing q e =
-      record { within = omega arith; found = λ l. absurd (omega arith); missing = λ o j l. w.asked.rest j (omega arith) l }
+  pub seek_missing : k ≡ 0 → FindsPair t x y None
+  seek_missing q j l = w.asked.rest j (omega arith) l
 
 -- ---- the first pair of the same nodes
 
-module _ {t : List ℕ} {x y n k : ℕ} (z : PairAsked t x y) (e : n ≡ indexed# t) (w : FindsPair t x y k) where
-  pub first_none : k ≡ n → FirstOf t x y n
-  first_none q =
+module _ {t : List ℕ} {x y : ℕ} (z : PairAsked t x y) where
+  pub first_none : {n : ℕ} → n ≡ indexed# t → FindsPair t x y None → FirstOf t x y n
+  first_none e w =
       record {
         lower = omega arith;
         same = λ l. absurd (omega arith);
-        one = λ j l p. absurd (true≢false (sym p ∙ w.missing (q ∙ e) j l));
+        one = λ j l p. absurd (true≢false (sym p ∙ w j l));
       }
 
-  pub first_found : {v : ℕ} → (k ≡ n → ⊥) → v ≡ at t LEFT k → FirstOf t x y (v / max_terms)
-  first_found {v} d r =
+  pub first_found : {k v : ℕ} → FindsPair t x y (Some k) → v ≡ at t LEFT k → FirstOf t x y (v / max_terms)
+  first_found {k} {v} (l, here) r =
       let q = ap (λ (w : ℕ). w / max_terms) r in
-      let within = w.within in
-      let l : k < indexed# t = omega arith in
       let s = z.indexed.firsts in
       let o = s.lower k l in
-      let here = w.found l in
       record {
         lower = omega arith;
         same = λ g.
@@ -606,36 +602,13 @@ module _ {t : List ℕ} {start : ℕ} {xs ys : List ℕ} (r : PairRoom t start x
 
 -- ---- an empty index
 
--- the heads below i are cleared
-pub record Emptying (t₀ t : List ℕ) (i : ℕ) : Type 0 where
-  pub within : i ≤ pair_buckets
-  pub long : engine_size ≤ length t
-  pub same : length t ≡ length t₀
-  pub none : indexed# t ≡ 0
-  pub heads : (h : ℕ) → h < i → at t HEAD h ≡ 0
-
-pub empty_first : (t : List ℕ) {u : List ℕ} → engine_size ≤ length t → u ≡ put t INDEXED 0 0 → Emptying u u 0
-empty_first t l e = record {
-  within = omega arith;
-  long = search (e, writes);
-  same = refl;
-  none = search (e, writes);
-  heads = λ h g. absurd (omega arith);
-}
-
-pub empty_next : {t₀ t u : List ℕ} {i : ℕ} → Emptying t₀ t i → i < pair_buckets → u ≡ put t HEAD i 0 → Emptying t₀ u (i + 1)
-empty_next {t = t} {u} {i} c h e =
-    let l : engine_size ≤ length t = c.long in
-    record {
-      within = omega arith;
-      long = search (e, writes);
-      same = ap length e ∙ length_put t HEAD i 0 ∙ c.same;
-      none = search (e, writes, c.none);
-      heads = below_more (λ (x : ℕ). at u HEAD x ≡ 0) i (λ x g. search (e, writes, earlier, c.heads)) (search (e, writes));
-    }
-
-pub empty_done : {t₀ t : List ℕ} {i : ℕ} → Emptying t₀ t i → pair_buckets ≤ i → NoPairs t
-empty_done c h = record { long = c.long; none = c.none; heads = λ x l. c.heads x (omega arith) }
+-- the heads are filled with 0, then the count is set
+pub no_pairs : (t ys u : List ℕ) → engine_size ≤ length t → ys ≡ replicate (length (take pair_buckets (drop HEAD t))) 0 →
+    u ≡ put (put_mid HEAD pair_buckets t ys) INDEXED 0 0 → NoPairs u
+no_pairs t ys u k q e =
+    let z = filled HEAD pair_buckets 0 t ys (omega arith) q in
+    let l : engine_size ≤ length (put_mid HEAD pair_buckets t ys) = let s = z.long in omega arith in
+    record { long = search (e, writes); none = search (e, writes); heads = λ h g. search (e, writes, z.own) }
 
 pub empty_sound : {t : List ℕ} → NoPairs t → PairsSound t (indexed# t)
 unfolding newest

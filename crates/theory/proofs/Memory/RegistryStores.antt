@@ -1,5 +1,5 @@
 -- An empty registry, and one more registration: the table that its stores leave is sound and means the list with it at the end.
-use Rattle.shinri_core.proofs.Kit.{ℕ, zero, suc, ◌+◌, ◌-◌, ◌≤◌, ◌<◌, ◌≡◌, refl, sym, subst, ap, ◌∙◌, inl, inr, Bool, true, false, cond, true≢false, List, [], ◌∷◌, ◌++◌, Option, none, some, ℕ_discrete, add-one, arith, below_more, eq-eqb, ne_eqb, T, eqb, leb, lit<, length}
+use Rattle.shinri_core.proofs.Kit.{ℕ, zero, suc, ◌+◌, ◌-◌, ◌≤◌, ◌<◌, ◌≡◌, refl, sym, subst, ap, ◌∙◌, inl, inr, Bool, true, false, cond, true≢false, List, [], ◌∷◌, ◌++◌, Option, none, some, ℕ_discrete, add-one, arith, eq-eqb, ne_eqb, T, eqb, leb, lit<, length, take, drop, replicate}
 use Rattle.shinri_core.specs.Limits.{max_vars, max_terms}
 use Rattle.shinri_core.specs.Lists.{first, range}
 use Rattle.shinri_core.specs.Memory.Words.{at, put, apart, counted}
@@ -10,6 +10,7 @@ use Rattle.shinri_core.proofs.Memory.Stores as Stores
 use Rattle.theory.specs.Atom.{Registered, register, is_registered}
 use Rattle.theory.specs.Memory.Registry.{COUNTS, VARS, VAR, ATOM, FIRST, registry_room, registry_size, vars#, registered_at, atoms, of_var, of_atom, word_for, or_else, atom_word, first_word, first_with, RegistrySound, Registrable}
 use Rattle.theory.proofs.Members.{Apart, apart_length, apart_last}
+use Rattle.theory.proofs.Memory.Filling.{put_mid, filled}
 use Rattle.theory.proofs.Memory.RegistryWords.{registered_yes}
 
 -- ---- stores
@@ -183,44 +184,31 @@ registers {t} {t₁} {t₂} {t₃} {u} {n} {v} {x} {w} z e q e₁ e₂ e₃ e₄
 
 -- ---- an empty registry
 
--- no variable, and the first k variables and atoms have none
-pub record Emptying (t₀ t : List ℕ) (k : ℕ) : Type 0 where
-  pub kept : length t ≡ length t₀
-  pub long : registry_size ≤ length t
-  pub count : vars# t ≡ 0
-  pub empty : (y : ℕ) → y < k → (at t ATOM y ≡ 0) × (at t FIRST y ≡ 0)
-
-pub empty_first : (t u : List ℕ) → registry_size ≤ length t → u ≡ put t COUNTS VARS 0 → Emptying u u 0
-empty_first t u l e = record { kept = refl; long = search (e, stores); count = search (e, stores); empty = λ y h. absurd (omega arith) }
-
-pub empty_next : {t₀ t t₁ u : List ℕ} {k : ℕ} → Emptying t₀ t k → k < max_vars → t₁ ≡ put t ATOM k 0 → u ≡ put t₁ FIRST k 0 →
-    Emptying t₀ u (k + 1)
-empty_next {u = u} {k = k} c h e₁ e₂ = let l = c.long in record {
-  kept = search (e₂, e₁, stores);
-  long = search (e₂, e₁, stores);
-  count = search (e₂, e₁, c.count, stores);
-  empty =
-      below_more (λ (y : ℕ). (at u ATOM y ≡ 0) × (at u FIRST y ≡ 0)) k
-      (λ y g.
-      let b : y < max_vars = omega arith in
-      let d : y ≡ k → ⊥ = omega arith in
-      search (e₂, e₁, (c.empty y g).0, (c.empty y g).1, stores))
-      (search (e₂, e₁, stores));
-}
-
-pub empty_done : {t₀ t : List ℕ} {k : ℕ} → Emptying t₀ t k → max_vars ≤ k → RegistrySound t × (atoms t ≡ [])
+-- the words of variables and those of atoms are filled with 0, then the count is set
+pub emptied : (t ys zs u : List ℕ) → registry_size ≤ length t → ys ≡ replicate (length (take max_vars (drop ATOM t))) 0 →
+    zs ≡ replicate (length (take max_terms (drop FIRST (put_mid ATOM max_vars t ys)))) 0 →
+    u ≡ put (put_mid FIRST max_terms (put_mid ATOM max_vars t ys) zs) COUNTS VARS 0 → RegistrySound u × (atoms u ≡ [])
 unfolding atoms counted range word_for first
-empty_done {t = t} c h =
-    let z = c.count in
-    let a : atoms t ≡ [] = ap (counted (registered_at t)) z in (
+emptied t ys zs u l p q e =
+    let t₁ = put_mid ATOM max_vars t ys in
+    let t₂ = put_mid FIRST max_terms t₁ zs in
+    let v = filled ATOM max_vars 0 t ys (omega arith) p in
+    let m = v.long in
+    let x = filled FIRST max_terms 0 t₁ zs (omega arith) q in
+    let l₂ : registry_size ≤ length t₂ = let n = x.long in omega arith in
+    let z : vars# u ≡ 0 = search (e, stores) in
+    let a : atoms u ≡ [] = ap (counted (registered_at u)) z in
+    let no_atom : (y : ℕ) → y < max_vars → at u ATOM y ≡ 0 =
+    λ y h. let w = x.before ATOM y (omega arith) ∙ v.own y h in search (e, w, stores) in
+    let no_first : (y : ℕ) → y < max_terms → at u FIRST y ≡ 0 = λ y h. search (e, x.own, stores) in (
       record {
-        long = c.long;
+        long = search (e, stores);
         fit = omega arith;
-        vars = λ i l. absurd (omega arith);
-        once = subst (λ (n : ℕ). Apart (counted (at t VAR) n)) (sym z) tt;
-        atoms_are = λ v l. (c.empty v (omega arith)).0 ∙ sym (ap (λ (rs : List Registered). atom_word rs v) a);
-        atoms_fit = λ v l. let q = (c.empty v (omega arith)).0 in omega arith;
-        firsts_are = λ x l. (c.empty x (omega arith)).1 ∙ sym (ap (λ (rs : List Registered). first_word rs x) a);
+        vars = λ i h. absurd (omega arith);
+        once = subst (λ (n : ℕ). Apart (counted (at u VAR) n)) (sym z) tt;
+        atoms_are = λ y h. no_atom y h ∙ sym (ap (λ (rs : List Registered). atom_word rs y) a);
+        atoms_fit = λ y h. omega (arith, no_atom y h);
+        firsts_are = λ y h. no_first y h ∙ sym (ap (λ (rs : List Registered). first_word rs y) a);
       },
       a,
     )

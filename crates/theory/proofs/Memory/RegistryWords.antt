@@ -1,5 +1,5 @@
 -- What the words of the registry's table say of the list of registrations.
-use Rattle.shinri_core.proofs.Kit.{ℕ, zero, suc, ◌+◌, ◌-◌, ◌≤◌, ◌<◌, ◌≡◌, refl, sym, ap, ◌∙◌, Bool, true, false, cond, false≢true, List, [], ◌∷◌, Option, none, some, dec_lt, add-one, arith, ne_eqb}
+use Rattle.shinri_core.proofs.Kit.{ℕ, zero, suc, ◌+◌, ◌-◌, ◌≤◌, ◌<◌, ◌≡◌, refl, sym, ap, ◌∙◌, Bool, true, false, cond, false≢true, List, [], ◌∷◌, Option, none, some, dec_lt, add-one, arith, ne_eqb, not, eqb}
 use Rattle.shinri_core.specs.Limits.{max_vars, max_terms}
 use Rattle.shinri_core.specs.Lists.{any, first}
 use Rattle.shinri_core.specs.Memory.Words.{at}
@@ -78,6 +78,13 @@ module _ (t : List ℕ) (v : ℕ) (z : RegistrySound t) where
       go : Dec (v < max_vars) → (v < max_vars) × (0 < at t ATOM v) × (at t ATOM v ≤ max_terms)
       go (yes h) = (h, some_word h (at t ATOM v) refl, z.atoms_fit v h)
       go (no n) = absurd (false≢true (registered_beyond (omega arith) ∙ e))
+
+-- the word of a variable says whether it is registered
+pub registered_is : (t : List ℕ) (v w : ℕ) → RegistrySound t → v < max_vars → w ≡ at t ATOM v →
+    not (eqb w 0) ≡ is_registered (atoms t) v
+registered_is t v zero z h e = registered_no t v zero z h e refl
+registered_is t v (suc w) z h e =
+    let d : suc w ≡ 0 → ⊥ = λ q. omega arith in ap not (ne_eqb (suc w) 0 d) ∙ registered_yes t v (suc w) z h e d
 
 atom_word_of : (o : Option Registered) → word_for (λ (r : Registered). r.atom) o - 1 ≡ atom_of o
 unfolding word_for atom_of

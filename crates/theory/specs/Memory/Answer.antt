@@ -7,6 +7,7 @@ use Rattle.shinri_core.specs.Memory.Table.{Indexed}
 use Rattle.theory.specs.Types.{EqJust, Asserted, Congruence, Interface, EqLeaf, AssertedLeaf, InterfaceLeaf, same_leaf}
 use Rattle.theory.specs.EqEngine.{Merge}
 use Rattle.theory.specs.declared.types.EqLeaf as Given
+use Rattle.theory.specs.declared.types.LeafWords as LeafWords
 
 -- ---- the regions
 
@@ -80,11 +81,6 @@ pub record LeavesSound (o : List ℕ) : Type 0 where
   pub theories : (i : ℕ) → i < leaves# o → at o LEAF_KIND i ≤ max_theories
   pub index : Indexed (bucket_of o) (at o BUCKET) (at o LINK) buckets (leaves# o)
 
--- no bucket has a leaf
-pub record NoLeaves (o : List ℕ) : Type 0 where
-  pub long : answer_size ≤ length o
-  pub heads : (h : ℕ) → h < buckets → at o BUCKET h ≡ 0
-
 -- does a leaf stand in a list?
 abbrev pub has_leaf : EqLeaf → List EqLeaf → Bool
 has_leaf l ls = any (same_leaf l) ls
@@ -101,19 +97,21 @@ pub record Pushed (o u : List ℕ) (l : EqLeaf) : Type 0 where
   pub sound : LeavesSound u
   pub listed : leaves u ≡ with_leaf l (leaves o)
 
--- the words of a leaf that is to be pushed
-pub record Pushable (o : List ℕ) (kind value : ℕ) : Type 0 where
-  pub sound : LeavesSound o
-  pub kind_fits : kind ≤ max_theories
-  pub value_fits : value < 4294967296
-  pub room : HasRoom o (leaf_of kind value)
+-- words that a leaf may have
+pub record LeafFits (w : LeafWords.LeafWords) : Type 0 where
+  pub kind_fits : w.kind ≤ max_theories
+  pub value_fits : w.value < 4294967296
+
+-- the words of a leaf
+pub record HoldsLeaf (l : Given.EqLeaf) (w : LeafWords.LeafWords) : Type 0 where
+  pub fits : LeafFits w
+  pub is : leaf_meaning l ≡ leaf_of w.kind w.value
 
 -- a leaf of these words may be leaf n
-pub record Linkable (o : List ℕ) (n kind value : ℕ) : Type 0 where
+pub record Linkable (o : List ℕ) (n : ℕ) (w : LeafWords.LeafWords) : Type 0 where
   pub long : answer_size ≤ length o
   pub place : n < max_terms
-  pub kind_fits : kind ≤ max_theories
-  pub value_fits : value < 4294967296
+  pub fits : LeafFits w
 
 -- leaf n is at the head of bucket h
 unfoldable pub linked : List ℕ → ℕ → ℕ → List ℕ

@@ -78,10 +78,6 @@ pairs_from t from to = map (pair_at t) (range from (to - from))
 abbrev pub MARKS : ℕ
 MARKS = 0
 
--- so many marks are enough for most explanations
-abbrev pub few : ℕ
-few = 64
-
 -- a mark is any number but 0
 unfoldable pub marked : ℕ → Bool
 marked zero = false

@@ -1,11 +1,12 @@
 -- The lent table of the atom registry: its regions, what a table means, and when it is sound.
-use Rattle.std.specs.Prelude.{ℕ, zero, suc, ◌-◌, ◌≤◌, ◌<◌, ◌≡◌, Bool, false, List, [], ◌∷◌, eqb, length}
+use Rattle.std.specs.Prelude.{ℕ, zero, suc, ◌-◌, ◌≤◌, ◌<◌, ◌≡◌, Bool, false, List, [], ◌∷◌, eqb, length, None, Some}
+use Rattle.std.specs.declared.option.Option as Given
 use Rattle.std.proofs.Math.Option.{Option, none, some}
+use Rattle.shinri_core.specs.declared.ids.Var.{Var}
 use Rattle.shinri_core.specs.Limits.{max_vars, max_terms}
 use Rattle.shinri_core.specs.Lists.{Apart, first}
 use Rattle.shinri_core.specs.Memory.Words.{at, counted, room_in}
 use Rattle.theory.specs.Atom.{Registered, is_registered}
-use Rattle.theory.specs.declared.atom.FirstVar as FirstVar
 
 -- ---- the regions
 
@@ -96,6 +97,6 @@ abbrev pub first_with : List ℕ → ℕ → ℕ → ℕ
 first_with t x v = or_else (at t FIRST x) (suc v)
 
 -- the code's answer in the definition
-unfoldable pub first_var_meaning : FirstVar.FirstVar → Option ℕ
-first_var_meaning (FirstVar.TheVariants.At v) = some v.0
-first_var_meaning FirstVar.TheVariants.Nothing = none
+unfoldable pub first_var_meaning : Given.Option Var → Option ℕ
+first_var_meaning (Some v) = some v.0
+first_var_meaning None = none

@@ -1,13 +1,16 @@
 -- What the engine's private functions do to its table: for the contracts between them. A caller of the crate needs none of it.
-use Rattle.std.specs.Prelude.{ℕ, suc, ◌+◌, ◌-◌, ◌*◌, ◌≤◌, ◌<◌, ◌≡◌, Bool, true, false, List, [], ◌∷◌, ltb, length}
+use Rattle.std.specs.Prelude.{ℕ, suc, ◌+◌, ◌-◌, ◌*◌, ◌≤◌, ◌<◌, ◌≡◌, Bool, true, false, List, [], ◌∷◌, ltb, length, Some, None, Option}
 use Rattle.shinri_core.specs.Limits.{max_terms, max_pairs}
 use Rattle.shinri_core.specs.Lists.{In}
 use Rattle.shinri_core.specs.Memory.Words.{at, put, Kept}
 use Rattle.theory.specs.declared.types.EqJust as Given
+use Rattle.theory.specs.declared.eq_engine.EdgeLabel as EdgeLabel
 use Rattle.theory.specs.declared.eq_engine.LabelWords as LabelWords
+use Rattle.theory.specs.declared.eq_engine.Pair as Pair
+use Rattle.theory.specs.Types.{EqJust}
 use Rattle.theory.specs.EqEngine.{Merge, are_equal, pop_merges, pairs_of, pairs_in_force, Step, before, way}
 use Rattle.theory.specs.Memory.Replay.{IsNode, end, On, EqualPairs}
-use Rattle.theory.specs.Memory.Table.{engine_size, PARENT, SIZE, FPARENT, FEDGE, SIDE_A, SIDE_B, LABEL, VALUE, CHILD, FROOT, AFTER, LEFT, RIGHT, HEAD, INDEXED, engine_room, merges#, parent_word, size_word, fparent_word, fedge_word, a_word, b_word, label_word, value_word, child_word, froot_word, after_word, left_word, right_word, first_word, indexed#, is_pair, pair_buckets, pair_bucket, PairsSound, kind_unit, label, begins, merges_below, merges, just_meaning, level, EngineSound, Engine}
+use Rattle.theory.specs.Memory.Table.{engine_size, PARENT, SIZE, FPARENT, FEDGE, SIDE_A, SIDE_B, LABEL, VALUE, CHILD, FROOT, AFTER, LEFT, RIGHT, HEAD, INDEXED, engine_room, merges#, parent_word, size_word, fparent_word, fedge_word, a_word, b_word, label_word, value_word, child_word, froot_word, after_word, left_word, right_word, first_word, indexed#, is_pair, pair_buckets, pair_bucket, PairsSound, kind_unit, label_code, kind_of, theory_of, label, begins, merges_below, merges, just_meaning, level, EngineSound, Engine}
 
 -- ---- the log
 
@@ -116,13 +119,13 @@ separated t child root = put (put t SIZE root (size_word t root - size_word t ch
 -- ---- a new entry of the log
 
 -- the words of a merge
-pub record Entry (i a b w v e : ℕ) : Type 0 where
+pub record Entry (i a b : ℕ) (w : LabelWords.LabelWords) : Type 0 where
   pub entry : i < max_terms
   pub first : IsNode a
   pub second : IsNode b
-  pub label : w < 4294967296
-  pub value : v < 4294967296
-  pub after : e ≤ max_pairs
+  pub code : w.code < 4294967296
+  pub value : w.value < 4294967296
+  pub after : w.after ≤ max_pairs
 
 -- entry i is written but for its roots
 unfoldable pub logged : List ℕ → ℕ → ℕ → ℕ → ℕ → ℕ → ℕ → List ℕ
@@ -142,13 +145,59 @@ pub record Joinable (t : List ℕ) (a b kind h v e : ℕ) : Type 0 where
   pub indexed : e ≤ indexed# t
   pub pairs : EqualPairs (merges t) (pairs_of (label t kind h v e))
 
--- the words of a label without pairs
-pub record HoldsLabel (j : Given.EqJust) (w : LabelWords.LabelWords) : Type 0 where
-  pub known : w.kind < 3
-  pub theory : w.theory < kind_unit
-  pub value : w.value < 4294967296
-  pub no_pairs : (n : ℕ) → begins w.kind w.value n ≡ n
-  pub is : (t : List ℕ) (n : ℕ) → label t w.kind w.theory w.value n ≡ just_meaning j
+-- ---- labels
+
+-- a label's kind, its theory, its value, and the pairs in force after it, n before it
+unfoldable pub label_kind : EdgeLabel.EdgeLabel → ℕ
+label_kind (EdgeLabel.TheVariants.Asserted p) = 0
+label_kind (EdgeLabel.TheVariants.Congruence from to) = 1
+label_kind (EdgeLabel.TheVariants.Interface j) = 2
+
+unfoldable pub label_theory : EdgeLabel.EdgeLabel → ℕ
+label_theory (EdgeLabel.TheVariants.Asserted p) = 0
+label_theory (EdgeLabel.TheVariants.Congruence from to) = 0
+label_theory (EdgeLabel.TheVariants.Interface j) = j.theory
+
+unfoldable pub label_value : EdgeLabel.EdgeLabel → ℕ
+label_value (EdgeLabel.TheVariants.Asserted p) = p.0
+label_value (EdgeLabel.TheVariants.Congruence from to) = from
+label_value (EdgeLabel.TheVariants.Interface j) = j.tag
+
+unfoldable pub label_after : EdgeLabel.EdgeLabel → ℕ → ℕ
+label_after (EdgeLabel.TheVariants.Asserted p) n = n
+label_after (EdgeLabel.TheVariants.Congruence from to) n = to
+label_after (EdgeLabel.TheVariants.Interface j) n = n
+
+-- what it means as that of the next merge
+abbrev pub just_of : List ℕ → EdgeLabel.EdgeLabel → EqJust
+just_of t l = label t (label_kind l) (label_theory l) (label_value l) (label_after l (pairs_in_force (merges t)))
+
+-- a and b are in two classes, and the label may join them
+abbrev pub Joins : List ℕ → ℕ → ℕ → EdgeLabel.EdgeLabel → Type 0
+Joins t a b l = Joinable t a b (label_kind l) (label_theory l) (label_value l) (label_after l (pairs_in_force (merges t)))
+
+-- a label that was given, in the log: it has no pairs
+pub record LabelOf (j : Given.EqJust) (l : EdgeLabel.EdgeLabel) : Type 0 where
+  pub known : label_kind l < 3
+  pub theory : label_theory l < kind_unit
+  pub value : label_value l < 4294967296
+  pub no_pairs : (n : ℕ) → (begins (label_kind l) (label_value l) n ≡ n) × (label_after l n ≡ n)
+  pub is : (t : List ℕ) (n : ℕ) → label t (label_kind l) (label_theory l) (label_value l) n ≡ just_meaning j
+
+-- its words
+pub record HoldsLabel (l : EdgeLabel.EdgeLabel) (level n : ℕ) (w : LabelWords.LabelWords) : Type 0 where
+  pub code : w.code ≡ label_code level (label_kind l) (label_theory l)
+  pub value : w.value ≡ label_value l
+  pub after : w.after ≡ label_after l n
+
+-- the label of merge i by its words
+abbrev pub IsLabel : List ℕ → ℕ → EdgeLabel.EdgeLabel → Type 0
+IsLabel t i (EdgeLabel.TheVariants.Asserted p) = (kind_of (label_word t i) ≡ 0) × (p.0 ≡ value_word t i)
+IsLabel t i (EdgeLabel.TheVariants.Congruence from to) =
+    (kind_of (label_word t i) ≡ 1) × (from ≡ value_word t i) × (to ≡ after_word t i)
+IsLabel t i (EdgeLabel.TheVariants.Interface j) =
+    (kind_of (label_word t i) ≡ 0 → ⊥) × (kind_of (label_word t i) ≡ 1 → ⊥) × (j.theory ≡ theory_of (label_word t i))
+    × (j.tag ≡ value_word t i)
 
 -- ---- argument pairs
 
@@ -182,11 +231,16 @@ pub record PairAsked (t : List ℕ) (x y : ℕ) : Type 0 where
   pub first : IsNode x
   pub second : IsNode y
 
--- r is an indexed pair of the nodes x and y, or the number of indexed pairs if there is none
-pub record FindsPair (t : List ℕ) (x y r : ℕ) : Type 0 where
-  pub within : r ≤ indexed# t
-  pub found : r < indexed# t → is_pair t r (x, y) ≡ true
-  pub missing : r ≡ indexed# t → (j : ℕ) → j < indexed# t → is_pair t j (x, y) ≡ false
+-- the nodes of argument pair j
+pub record IsPairAt (t : List ℕ) (j : ℕ) (p : Pair.Pair) : Type 0 where
+  pub left : p.left ≡ left_word t j
+  pub right : p.right ≡ right_word t j
+  pub nodes : IsNode p.left × IsNode p.right
+
+-- an indexed pair of the nodes x and y, or there is none
+abbrev pub FindsPair : List ℕ → ℕ → ℕ → Option ℕ → Type 0
+FindsPair t x y (Some k) = (k < indexed# t) × (is_pair t k (x, y) ≡ true)
+FindsPair t x y None = (j : ℕ) → j < indexed# t → is_pair t j (x, y) ≡ false
 
 -- f is the number of the first pair of the nodes x and y, if one more is added
 pub record FirstOf (t : List ℕ) (x y f : ℕ) : Type 0 where

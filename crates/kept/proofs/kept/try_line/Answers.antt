@@ -1,10 +1,8 @@
 -- By the length of the output.
-use Rattle.shinri_core.proofs.Kit.{arith}
-use Rattle.kept.proofs.Memory.Keeping.{tried_direct}
+use Rattle.session.proofs.Memory.Keeping.{tried_direct}
 use Rattle.kept.proofs.kept.try_line.Goals as goal
 
-pub returns : goal.returns
-returns c =
-    let long = c.if-output-lt-LONGEST_ANSWER.false in
+pub returns-then-output-ge-LONGEST_ANSWER : goal.returns-then-output-ge-LONGEST_ANSWER
+returns-then-output-ge-LONGEST_ANSWER c =
     let line = c.answer_line.ensures in
-    (tried_direct line.0 (omega arith), line.1.kept)
+    (tried_direct line.0 c.if-output-ge-LONGEST_ANSWER.true, line.1.kept)

@@ -6,5 +6,5 @@ use Rattle.session.proofs.answer.parting_length.Goals as goal
 pub returns-then-i-eq0 : goal.returns-then-i-eq0
 returns-then-i-eq0 c = (omega (arith, ap length (parting_first c.args.i (omega arith))), omega arith)
 
-pub returns : goal.returns
-returns c = (omega (arith, ap length (parting_later c.args.i (omega arith))), omega arith)
+pub returns-else-i-eq0 : goal.returns-else-i-eq0
+returns-else-i-eq0 c = (omega (arith, ap length (parting_later c.args.i (omega arith))), omega arith)

@@ -9,9 +9,9 @@ use Rattle.session.proofs.answer.write_conflict.Goals as goal
 pub write_text-leaves-requires : goal.write_text-leaves-requires
 write_text-leaves-requires c = omega (arith, conflict_length c.args.o.now, c.requires.1)
 
-pub write_leaves-requires : goal.write_leaves-requires
-write_leaves-requires c = (c.requires.0, omega (arith, conflict_length c.args.o.now, c.requires.1))
+pub write_list-requires : goal.write_list-requires
+write_list-requires c = (c.requires.0, omega (arith, conflict_length c.args.o.now, c.requires.1))
 
 pub returns : goal.returns
 unfolding check_text bytes
-returns c = written_more c.write_text-leaves.ensures c.write_leaves.ensures
+returns c = written_more c.write_text-leaves.ensures c.write_list.ensures

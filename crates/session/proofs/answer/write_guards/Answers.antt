@@ -6,11 +6,11 @@ use Rattle.session.proofs.answer.write_guards.Goals as goal
 
 pub write_decimal-requires : goal.write_decimal-requires
 write_decimal-requires c =
-    let one = ap length (one_guard _ c.split_guard.ensures c.in-At.is) in
+    let one = ap length (one_guard _ c.split_guard.ensures c.in-Some.is) in
     omega arith
 
-pub returns-in-At : goal.returns-in-At
-returns-in-At c = written_as c.write_decimal.ensures (one_guard _ c.split_guard.ensures c.in-At.is)
+pub returns-in-Some : goal.returns-in-Some
+returns-in-Some c = written_as c.write_decimal.ensures (one_guard _ c.split_guard.ensures c.in-Some.is)
 
-pub returns-in-Nothing : goal.returns-in-Nothing
-returns-in-Nothing c = written_as (written_nothing _ _ (omega arith)) (no_guard _ c.split_guard.ensures c.in-Nothing.is)
+pub returns-in-None : goal.returns-in-None
+returns-in-None c = written_as (written_nothing _ _ (omega arith)) (no_guard _ c.split_guard.ensures c.in-None.is)

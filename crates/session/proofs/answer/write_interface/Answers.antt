@@ -7,16 +7,16 @@ use Rattle.session.proofs.Memory.Printing.{written_more}
 use Rattle.session.proofs.answer.write_interface.Goals as goal
 
 pub write_byte-first-requires : goal.write_byte-first-requires
-write_byte-first-requires c = omega (arith, interface_length c.args.theory c.args.tag)
+write_byte-first-requires c = omega (arith, interface_length c.args.j.theory c.args.j.tag)
 
 pub write_decimal-dot-requires : goal.write_decimal-dot-requires
-write_decimal-dot-requires c = omega (arith, interface_length c.args.theory c.args.tag)
+write_decimal-dot-requires c = omega (arith, interface_length c.args.j.theory c.args.j.tag)
 
 pub write_byte-second-requires : goal.write_byte-second-requires
-write_byte-second-requires c = omega (arith, interface_length c.args.theory c.args.tag, c.requires)
+write_byte-second-requires c = omega (arith, interface_length c.args.j.theory c.args.j.tag, c.requires)
 
 pub write_decimal-requires : goal.write_decimal-requires
-write_decimal-requires c = omega (arith, interface_length c.args.theory c.args.tag, c.requires)
+write_decimal-requires c = omega (arith, interface_length c.args.j.theory c.args.j.tag, c.requires)
 
 pub returns : goal.returns
 unfolding leaf_text bytes

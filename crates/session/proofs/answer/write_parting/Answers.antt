@@ -9,5 +9,5 @@ returns-then-i-eq0 c = written_as (written_nothing _ _ (omega arith)) (parting_f
 pub write_byte-requires : goal.write_byte-requires
 write_byte-requires c = omega (arith, ap length (parting_later c.args.i (omega arith)))
 
-pub returns : goal.returns
-returns c = written_as c.write_byte.ensures (parting_later _ (omega arith))
+pub returns-else-i-eq0 : goal.returns-else-i-eq0
+returns-else-i-eq0 c = written_as c.write_byte.ensures (parting_later _ (omega arith))

@@ -1,6 +1,6 @@
--- By the length of the tables, by the mark, by whether the answer line fits.
+-- By the length of the tables, then by the mark.
 use Rattle.shinri_core.proofs.Kit.{sym, ◌∙◌, arith}
-use Rattle.session.proofs.Memory.Keeping.{part_long, suffices, too_short, not_open, call_short, call_closed, not_marked, marked_open, holding, full_call, done_call}
+use Rattle.session.proofs.Memory.Keeping.{part_long, suffices, too_short, not_open, call_short, call_closed, not_marked, marked_open, holding, line_called}
 use Rattle.session.proofs.kept.line.Goals as goal
 
 pub returns-then-not-tables_suffice : goal.returns-then-not-tables_suffice
@@ -41,18 +41,13 @@ slice_bounds-answer_open-end-6 c =
     let args = c.args in
     part_long args.solver.now (suffices (sym c.tables_suffice.ensures ∙ c.if-not-tables_suffice.false)).solver
 
-pub answer_open-placed-requires : goal.answer_open-placed-requires
-answer_open-placed-requires c =
+pub answer_open-requires : goal.answer_open-requires
+answer_open-requires c =
     let long = sym c.tables_suffice.ensures ∙ c.if-not-tables_suffice.false in
     holding _ long (marked_open _ c.if-kept-ne-OPEN.false) c.requires
-
-pub returns-in_default : goal.returns-in_default
-returns-in_default c =
-    let long = sym c.tables_suffice.ensures ∙ c.if-not-tables_suffice.false in
-    full_call _ _ long (marked_open _ c.if-kept-ne-OPEN.false) c.requires c.answer_open-placed.ensures c.in_default.is
 
 pub returns : goal.returns
 returns c =
     let long = sym c.tables_suffice.ensures ∙ c.if-not-tables_suffice.false in
-    done_call _ _ long (marked_open _ c.if-kept-ne-OPEN.false) c.requires c.answer_open-placed.ensures c.in-Ends.is
-    c.answer_open-placed.auto.c c.answer_open-placed.auto.e c.answer_open-placed.auto.s c.answer_open-placed.auto.kept
+    line_called _ _ long (marked_open _ c.if-kept-ne-OPEN.false) c.requires c.answer_open.ensures c.answer_open.auto.c
+    c.answer_open.auto.e c.answer_open.auto.s c.answer_open.auto.kept c.ok_or.ensures.value

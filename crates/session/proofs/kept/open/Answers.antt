@@ -1,5 +1,6 @@
 -- Tables that are too short are untouched; else each work table's part is cleared and the fourth table is marked.
 use Rattle.shinri_core.proofs.Kit.{sym, ◌∙◌, arith}
+use Rattle.session.proofs.Memory.Running.{filled_zero}
 use Rattle.session.proofs.Memory.Keeping.{part_long, part_least, suffices, refused, opens}
 use Rattle.session.proofs.kept.open.Goals as goal
 
@@ -43,10 +44,10 @@ clear_all-requires c =
 pub bounds-kept-0 : goal.bounds-kept-0
 bounds-kept-0 c =
     let long = (suffices (sym c.tables_suffice.ensures ∙ c.if-not-tables_suffice.false)).kept in
-    let same = c.zero.auto.t in
+    let same = c.fill.auto.self in
     omega arith
 
 pub returns : goal.returns
 returns c =
     opens _ (sym c.tables_suffice.ensures ∙ c.if-not-tables_suffice.false) c.clear_all.ensures
-    c.zero.ensures c.clear_all.auto.c c.clear_all.auto.e c.clear_all.auto.s
+    (filled_zero c.args.kept.now (c.fill.ensures.after (λ y e. e))) c.clear_all.auto.c c.clear_all.auto.e c.clear_all.auto.s

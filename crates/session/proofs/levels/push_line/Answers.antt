@@ -9,8 +9,8 @@ returns-then-not-closed c = search push_early
 pub returns-then-levels-eq-MAX_LEVELS : goal.returns-then-levels-eq-MAX_LEVELS
 returns-then-levels-eq-MAX_LEVELS c = search push_full
 
-pub pushed-m-requires : goal.pushed-m-requires
-pushed-m-requires c = (c.requires.records.solver, marks_read c.level-levels.ensures.0 c.requires, omega arith)
+pub push-requires-2 : goal.push-requires-2
+push-requires-2 c = (c.requires.records.solver, marks_read c.level-levels.ensures.0 c.requires, omega arith)
 
 pub returns : goal.returns
 returns c = search push_done

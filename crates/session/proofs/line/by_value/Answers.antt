@@ -1,12 +1,19 @@
 -- Only the key of a sort takes a letter.
-use Rattle.session.specs.Line.{known, by_value}
+use Rattle.shinri_core.proofs.Kit.{sym, ◌∙◌}
+use Rattle.session.specs.Line.{by_value}
 use Rattle.session.specs.Memory.Commands.{key_meaning}
-use Rattle.session.proofs.Memory.Keys.{takes_numbers}
+use Rattle.session.proofs.Memory.Keys.{takes_numbers, numbers_read}
 use Rattle.session.proofs.line.by_value.Goals as goal
 
 pub returns-in-Sort : goal.returns-in-Sort
-unfolding key_meaning known by_value
-returns-in-Sort c = rw c.in-Sort.is (c.letter_sort.ensures _)
+unfolding by_value
+returns-in-Sort c = rw c.in-Sort.is c.letter_sort.ensures
 
-pub returns : goal.returns
-returns c = rw (takes_numbers _ _ c.in_default.not-Sort) c.with_numbers.ensures
+pub returns-in_err-read_numbers-in_default : goal.returns-in_err-read_numbers-in_default
+returns-in_err-read_numbers-in_default c =
+    rw c.from_residual.ensures
+    (record { is = sym (takes_numbers _ _ c.in_default.not-Sort ∙ c.in_err-read_numbers-in_default.ensures (key_meaning c.args.k)); fits = tt })
+
+pub returns-in_ok-read_numbers-in_default : goal.returns-in_ok-read_numbers-in_default
+returns-in_ok-read_numbers-in_default c =
+    rw (takes_numbers _ c.args.v.now c.in_default.not-Sort, numbers_read _ c.args.v.now _ c.in_ok-read_numbers-in_default.ensures) c.by_key.ensures

@@ -1,23 +1,26 @@
--- Straight.
-use Rattle.shinri_core.proofs.Kit.{sym, ◌∙◌}
+-- `==` is the definition's test.
 use Rattle.shinri_core.specs.Memory.Codes.{declared_node}
 use Rattle.session.specs.Text.{bytes}
 use Rattle.session.specs.Line.{letter_sort}
-use Rattle.session.specs.Memory.Commands.{command_meaning}
+use Rattle.session.proofs.Memory.Keys.{eq_is}
 use Rattle.session.proofs.line.letter_sort.Goals as goal
 
-pub returns-then-same_text : goal.returns-then-same_text
-unfolding command_meaning declared_node letter_sort bytes
-returns-then-same_text c ns = record { is = rw (sym c.same_text.ensures ∙ c.if-same_text.true); fits = tt }
+pub returns-then-eq : goal.returns-then-eq
+unfolding declared_node letter_sort bytes
+returns-then-eq c = record { is = rw (eq_is _ _ c.eq.ensures c.as_slice.ensures c.if-eq.true); fits = tt }
 
-pub returns-then-same_text-2 : goal.returns-then-same_text-2
-unfolding command_meaning declared_node letter_sort bytes
-returns-then-same_text-2 c ns =
-    let not_d = sym c.same_text.ensures ∙ c.if-same_text.false in
-    record { is = rw (not_d, sym c.same_text-2.ensures ∙ c.if-same_text-2.true); fits = tt }
+pub returns-then-eq-2 : goal.returns-then-eq-2
+unfolding declared_node letter_sort bytes
+returns-then-eq-2 c =
+    record {
+      is = rw (eq_is _ _ c.eq.ensures c.as_slice.ensures c.if-eq.false, eq_is _ _ c.eq-2.ensures c.as_slice-2.ensures c.if-eq-2.true);
+      fits = tt;
+    }
 
 pub returns : goal.returns
-unfolding command_meaning declared_node letter_sort bytes
-returns c ns =
-    let not_d = sym c.same_text.ensures ∙ c.if-same_text.false in
-    record { is = rw (not_d, sym c.same_text-2.ensures ∙ c.if-same_text-2.false); fits = tt }
+unfolding declared_node letter_sort bytes
+returns c =
+    record {
+      is = rw (eq_is _ _ c.eq.ensures c.as_slice.ensures c.if-eq.false, eq_is _ _ c.eq-2.ensures c.as_slice-2.ensures c.if-eq-2.false);
+      fits = tt;
+    }

@@ -1,42 +1,36 @@
-use Rattle.shinri_core.proofs.Kit.{◌≡◌, sym, ◌∙◌, true, arith, get_or}
-use Rattle.session.specs.Text.{is_digit}
+use Rattle.shinri_core.proofs.Kit.{arith}
 use Rattle.session.specs.Memory.Numbers.{number_meaning}
-use Rattle.session.proofs.Memory.Parsing.{digit_range, digits_first, digits_next, digits_other, digits_over, digits_all}
+use Rattle.session.proofs.Memory.Parsing.{ascii_digit, other_ascii, digits_first, digits_next, digits_other, digits_over, digits_all}
 use Rattle.session.proofs.numbers.read_digits.Goals as goal
 
-pub loop-i-init : goal.loop-i-init
-loop-i-init c = digits_first _
+pub loop-d-init : goal.loop-d-init
+loop-d-init c = digits_first _
 
-pub returns-then-not-is_digit : goal.returns-then-not-is_digit
+pub returns-then-not-is_ascii_digit : goal.returns-then-not-is_ascii_digit
 unfolding number_meaning
-returns-then-not-is_digit c = digits_other c.loop-i.invariant c.loop-i-test.true (sym c.is_digit.ensures ∙ c.if-not-is_digit.true)
+returns-then-not-is_ascii_digit c =
+    digits_other c.loop-d.invariant c.loop-d-test.true (other_ascii _ c.if-not-is_ascii_digit.ensures.cases)
 
-pub overflow_sub-n : goal.overflow_sub-n
-overflow_sub-n c =
-    let is_one : is_digit (get_or c.args.ds.now c.loop-i.i 0) ≡ true = sym c.is_digit.ensures ∙ c.if-not-is_digit.false in
-    omega (arith, digit_range _ is_one)
-
-pub overflow_cast-n : goal.overflow_cast-n
-overflow_cast-n c =
-    let is_one : is_digit (get_or c.args.ds.now c.loop-i.i 0) ≡ true = sym c.is_digit.ensures ∙ c.if-not-is_digit.false in
-    omega (arith, digit_range _ is_one)
-
-pub overflow_add-n : goal.overflow_add-n
-overflow_add-n c =
-    let is_one : is_digit (get_or c.args.ds.now c.loop-i.i 0) ≡ true = sym c.is_digit.ensures ∙ c.if-not-is_digit.false in
-    omega (arith, digit_range _ is_one)
-
-pub returns-then-n-gt4294967295 : goal.returns-then-n-gt4294967295
+pub returns-in_err-checked_mul : goal.returns-in_err-checked_mul
 unfolding number_meaning
-returns-then-n-gt4294967295 c =
-    let is_one : is_digit (get_or c.args.ds.now c.loop-i.i 0) ≡ true = sym c.is_digit.ensures ∙ c.if-not-is_digit.false in
-    digits_over c.loop-i.invariant c.loop-i-test.true is_one (omega arith)
+returns-in_err-checked_mul c =
+    let one = ascii_digit _ c.if-not-is_ascii_digit.ensures.cases in
+    rw c.from_residual.ensures
+    (digits_over c.loop-d.invariant c.loop-d-test.true one (omega (arith, c.in_err-checked_mul.ensures)))
 
-pub loop-i-preserved : goal.loop-i-preserved
-loop-i-preserved c =
-    let is_one : is_digit (get_or c.args.ds.now c.loop-i.i 0) ≡ true = sym c.is_digit.ensures ∙ c.if-not-is_digit.false in
-    digits_next c.loop-i.invariant c.loop-i-test.true is_one (omega arith)
+pub returns-in_err-n : goal.returns-in_err-n
+unfolding number_meaning
+returns-in_err-n c =
+    let one = ascii_digit _ c.if-not-is_ascii_digit.ensures.cases in
+    rw c.from_residual-in_err-n.ensures
+    (digits_over c.loop-d.invariant c.loop-d-test.true one (omega (arith, c.in_ok-checked_mul.ensures, c.in_err-n.ensures)))
+
+pub loop-d-preserved : goal.loop-d-preserved
+loop-d-preserved c =
+    let one = ascii_digit _ c.if-not-is_ascii_digit.ensures.cases in
+    digits_next c.loop-d.invariant c.loop-d-test.true one _
+    (omega (arith, c.in_ok-checked_mul.ensures, c.in_ok-n.ensures)) (omega (arith, c.in_ok-n.ensures))
 
 pub returns : goal.returns
 unfolding number_meaning
-returns c = digits_all c.loop-i.invariant c.loop-i-test.false
+returns c = digits_all c.loop-d.invariant c.loop-d-test.false

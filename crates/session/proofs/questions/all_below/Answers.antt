@@ -1,22 +1,7 @@
-use Rattle.shinri_core.proofs.Kit.{arith}
-use Rattle.session.proofs.Memory.Questions.{below_first, below_next, below_done, below_not}
+-- What `all` says of each number.
+use Rattle.std.proofs.Common.{rules}
+use Rattle.session.proofs.Memory.Questions.{below_each}
 use Rattle.session.proofs.questions.all_below.Goals as goal
 
-pub loop-i-init : goal.loop-i-init
-loop-i-init c = search below_first
-
-pub overflow_cast-xs : goal.overflow_cast-xs
-overflow_cast-xs c =
-    omega (
-      arith,
-      c.type_inv.xs c.loop-i.i,
-    )
-
-pub returns-then-xs-i : goal.returns-then-xs-i
-returns-then-xs-i c = search below_not
-
-pub loop-i-preserved : goal.loop-i-preserved
-loop-i-preserved c = search below_next
-
 pub returns : goal.returns
-returns c = search below_done
+returns c = below_each c.args.n c.args.xs.now _ (search rules)

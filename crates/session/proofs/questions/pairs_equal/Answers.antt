@@ -1,17 +1,21 @@
-use Rattle.session.proofs.Memory.Questions.{pairs_first, pairs_next, pairs_done, pairs_not, pair_nodes}
+use Rattle.shinri_core.proofs.Kit.{ap, not}
+use Rattle.std.proofs.lemmas.Slice.Zip.{either_empty_from_Zip}
+use Rattle.session.proofs.Memory.Questions.{pairs_first, pairs_next, pairs_done, pairs_not, turn_nodes}
 use Rattle.session.proofs.questions.pairs_equal.Goals as goal
 
-pub loop-i-init : goal.loop-i-init
-loop-i-init c = search pairs_first
+pub loop-x-init : goal.loop-x-init
+loop-x-init c = pairs_first c.requires (cc) (cc)
 
 pub are_equal-requires : goal.are_equal-requires
-are_equal-requires c = search pair_nodes
+are_equal-requires c = turn_nodes c.loop-x.invariant c.in-Some.ensures.steps.0 c.in-Some.ensures.steps.1
+
+pub loop-x-preserved : goal.loop-x-preserved
+loop-x-preserved c =
+    pairs_next c.loop-x.invariant c.in-Some.ensures.steps.0 c.in-Some.ensures.steps.1 c.are_equal.ensures (ap not c.if-not-are_equal.false)
 
 pub returns-then-not-are_equal : goal.returns-then-not-are_equal
-returns-then-not-are_equal c = search pairs_not
-
-pub loop-i-preserved : goal.loop-i-preserved
-loop-i-preserved c = search pairs_next
+returns-then-not-are_equal c =
+    pairs_not c.loop-x.invariant c.in-Some.ensures.steps.0 c.in-Some.ensures.steps.1 c.are_equal.ensures (ap not c.if-not-are_equal.true)
 
 pub returns : goal.returns
-returns c = search pairs_done
+returns c = pairs_done c.loop-x.invariant (either_empty_from_Zip _ c.next.new.self _ c.in-None.is c.next.ensures.steps)

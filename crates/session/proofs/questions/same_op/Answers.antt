@@ -1,9 +1,6 @@
--- By the first operation.
-use Rattle.session.proofs.Memory.Questions.{both_eq, both_apply}
+-- By the two operations.
+use Rattle.session.proofs.Memory.Questions.{ops_are}
 use Rattle.session.proofs.questions.same_op.Goals as goal
 
-pub returns-in-Eq : goal.returns-in-Eq
-returns-in-Eq c = search both_eq
-
-pub returns-in-Uninterpreted : goal.returns-in-Uninterpreted
-returns-in-Uninterpreted c = search both_apply
+pub returns : goal.returns
+returns c = ops_are c.op.ensures c.op-2.ensures c.eq.ensures

@@ -1,5 +1,4 @@
 -- The arguments up to i have the sorts of the parameters.
-use Rattle.shinri_core.proofs.Kit.{◌-◌, length}
 use Rattle.shinri_core.specs.Context.{symbol}
 use Rattle.shinri_core.specs.Memory.Table.{context}
 use Rattle.session.proofs.Memory.Questions.{SortsTo}
@@ -7,6 +6,3 @@ use Rattle.session.proofs.questions.sorts_agree.Given as goal
 
 abbrev pub invariant-loop-i : goal.invariant-loop-i
 invariant-loop-i l = SortsTo (context l.c) (symbol (context l.c) l.f.0).params l.args l.i
-
-abbrev pub decreases-loop-i : goal.decreases-loop-i
-decreases-loop-i l = length l.args - l.i

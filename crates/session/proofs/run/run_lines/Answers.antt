@@ -6,18 +6,18 @@ use Rattle.session.proofs.run.run_lines.Goals as goal
 pub loop-at-init : goal.loop-at-init
 loop-at-init c = (run_first _ _ c.requires.tables, refl, refl, refl)
 
-pub answer_line-placed-requires : goal.answer_line-placed-requires
-answer_line-placed-requires c =
+pub answer_line-requires : goal.answer_line-requires
+answer_line-requires c =
     let inv = c.loop-at.invariant.0 in
     (inv.answerable, written_within inv.done)
 
 pub shape_of-output-in_default : goal.shape_of-output-in_default
 shape_of-output-in_default c =
-    c.answer_line-placed.auto.output ∙ written_length c.loop-at.invariant.0.done
+    c.answer_line.auto.output ∙ written_length c.loop-at.invariant.0.done
 
 pub returns-in_default : goal.returns-in_default
 returns-in_default c =
-    run_full c.loop-at.invariant.0 c.loop-at-test.true c.line_end-end.ensures c.answer_line-placed.ensures
+    run_full c.loop-at.invariant.0 c.loop-at-test.true c.line_end-end.ensures c.answer_line.ensures
     c.in_default.is
 
 pub overflow_add-answered : goal.overflow_add-answered
@@ -36,11 +36,11 @@ overflow_add-at c =
 pub loop-at-preserved : goal.loop-at-preserved
 loop-at-preserved c =
     let inv = c.loop-at.invariant in (
-      run_next inv.0 c.loop-at-test.true c.line_end-end.ensures c.answer_line-placed.ensures (omega arith)
-          c.in-Ends.is,
-      c.answer_line-placed.auto.c ∙ inv.1,
-      c.answer_line-placed.auto.e ∙ inv.2,
-      c.answer_line-placed.auto.s ∙ inv.3,
+      run_next inv.0 c.loop-at-test.true c.line_end-end.ensures c.answer_line.ensures (omega arith)
+          c.in-Some.is,
+      c.answer_line.auto.c ∙ inv.1,
+      c.answer_line.auto.e ∙ inv.2,
+      c.answer_line.auto.s ∙ inv.3,
     )
 
 pub shape_of-output : goal.shape_of-output

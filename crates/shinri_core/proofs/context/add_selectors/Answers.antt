@@ -1,12 +1,8 @@
-use Rattle.shinri_core.proofs.Kit.{arith}
 use Rattle.shinri_core.proofs.Memory.Declarations.{select_first, selector_room, select_next, select_done}
 use Rattle.shinri_core.proofs.context.add_selectors.Goals as goal
 
 pub loop-i-init : goal.loop-i-init
 loop-i-init c = search select_first
-
-pub overflow_cast-fields : goal.overflow_cast-fields
-overflow_cast-fields c = omega (arith, c.type_inv.fields c.loop-i.i)
 
 pub add_symbol-requires : goal.add_symbol-requires
 add_symbol-requires c = search selector_room

@@ -1,19 +1,21 @@
--- By the words of the symbol, its datatype and its fields.
-use Rattle.shinri_core.proofs.Kit.{rules}
-use Rattle.shinri_core.proofs.Memory.Constructors.{result_declared, other_adds, ready_adds, fields_add}
+-- By its role, its datatype and its fields.
+use Rattle.shinri_core.proofs.Kit.{rules, ◌∙◌, sym, false≢true}
+use Rattle.shinri_core.proofs.Memory.Constructors.{other_adds, ready_adds, fields_add}
 use Rattle.shinri_core.proofs.context.adds.Goals as goal
+use Rattle.shinri_core.proofs.context.adds.Goals.{then-eq, else-eq}
 
-pub returns-then-get_at-c : goal.returns-then-get_at-c
-returns-then-get_at-c c = search other_adds
+pub returns-then-not-is_ready : goal.returns-then-not-is_ready
+returns-then-not-is_ready c =
+    elim c.if-eq.branch [
+      | then-eq w ↦ fields_add _ c.dt_role.ensures (search rules) w.result_sort.ensures.0 w.is_ready.ensures
+          (sym w.value-is ∙ c.if-not-is_ready.true) c.has_ready_fields.ensures
+      | else-eq w ↦ absurd (false≢true (sym w.if-eq.false ∙ sym w.value-is ∙ c.if-not-is_ready.true))
+    ]
 
-pub is_ready-requires : goal.is_ready-requires
-is_ready-requires c = (search rules, search rules, search result_declared)
-
-pub returns-then-is_ready : goal.returns-then-is_ready
-returns-then-is_ready c = search ready_adds
-
-pub has_ready_fields-requires : goal.has_ready_fields-requires
-has_ready_fields-requires c = (search rules, search rules, search rules)
-
-pub returns : goal.returns
-returns c = search fields_add
+pub returns-else-not-is_ready : goal.returns-else-not-is_ready
+returns-else-not-is_ready c =
+    elim c.if-eq.branch [
+      | then-eq w ↦ ready_adds _ c.dt_role.ensures (search rules) w.result_sort.ensures.0 w.is_ready.ensures
+          (sym w.value-is ∙ c.if-not-is_ready.false) c.if-not-is_ready.false
+      | else-eq w ↦ other_adds _ c.dt_role.ensures (search rules) c.if-not-is_ready.false
+    ]

@@ -6,9 +6,6 @@ use Rattle.shinri_core.proofs.context.all_found.Goals as goal
 pub loop-s-init : goal.loop-s-init
 loop-s-init c = search_first _ 0 _ (search rules)
 
-pub is_ready-requires : goal.is_ready-requires
-is_ready-requires c = (search rules, search rules, search rules)
-
 pub returns-then-not-is_ready : goal.returns-then-not-is_ready
 returns-then-not-is_ready c = search one_unready
 

@@ -1,9 +1,11 @@
--- Marked are inhabited datatypes; after a round that adds none they are all marked.
-use Rattle.shinri_core.proofs.Memory.Rounds.{Finding, rounds_left}
+-- Marked are inhabited datatypes; each round but the last marks one more.
+use Rattle.shinri_core.proofs.Kit.{length}
+use Rattle.shinri_core.specs.Memory.Table.{unmarked}
+use Rattle.shinri_core.proofs.Memory.Rounds.{Finding}
 use Rattle.shinri_core.proofs.context.all_grounded.Given as goal
 
-abbrev pub invariant-loop-more : goal.invariant-loop-more
-invariant-loop-more l = Finding l.t l.more l.found
+abbrev pub invariant-loop : goal.invariant-loop
+invariant-loop l = Finding l.t l.found
 
-abbrev pub decreases-loop-more : goal.decreases-loop-more
-decreases-loop-more l = rounds_left l.more l.found
+abbrev pub decreases-loop : goal.decreases-loop
+decreases-loop l = length (unmarked l.found)

@@ -6,12 +6,6 @@ use Rattle.shinri_core.proofs.context.has_ready_fields.Goals as goal
 pub loop-i-init : goal.loop-i-init
 loop-i-init c = search_first _ 0 _ (search rules)
 
-pub param_sort-requires : goal.param_sort-requires
-param_sort-requires c = record { sound = search rules; declared = search rules; within = search rules }
-
-pub is_ready-requires : goal.is_ready-requires
-is_ready-requires c = (search rules, search rules, search rules)
-
 pub returns-then-not-is_ready : goal.returns-then-not-is_ready
 returns-then-not-is_ready c = search field_unready
 

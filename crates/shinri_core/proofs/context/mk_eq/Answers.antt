@@ -1,9 +1,11 @@
--- The code of an equation is 0.
-use Rattle.shinri_core.proofs.Memory.Terms.{may_equate, eq_code}
+-- Equality is an operation.
+use Rattle.shinri_core.specs.Memory.Codes.{op_meaning}
+use Rattle.shinri_core.proofs.Memory.Terms.{may_equate}
 use Rattle.shinri_core.proofs.context.mk_eq.Goals as goal
 
 pub intern-requires : goal.intern-requires
 intern-requires c = search may_equate
 
 pub returns : goal.returns
-returns c = search eq_code
+unfolding op_meaning
+returns c = c.intern.ensures

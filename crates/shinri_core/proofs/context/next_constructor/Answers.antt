@@ -6,9 +6,6 @@ use Rattle.shinri_core.proofs.context.next_constructor.Goals as goal
 pub loop-s-init : goal.loop-s-init
 loop-s-init c = search_first _ _ _ (search rules)
 
-pub builds-requires : goal.builds-requires
-builds-requires c = (search rules, search rules)
-
 pub returns-then-builds : goal.returns-then-builds
 returns-then-builds c = search seek_found
 

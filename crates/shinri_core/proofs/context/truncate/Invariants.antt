@@ -4,6 +4,3 @@ use Rattle.shinri_core.proofs.context.truncate.Given as goal
 
 abbrev pub invariant-loop-i : goal.invariant-loop-i
 invariant-loop-i l = Dropping l.initial.t l.n l.t l.i
-
-abbrev pub decreases-loop-i : goal.decreases-loop-i
-decreases-loop-i l = l.i

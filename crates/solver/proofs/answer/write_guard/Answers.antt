@@ -2,10 +2,10 @@
 use Rattle.solver.specs.Memory.Answer.{guarded}
 use Rattle.solver.proofs.answer.write_guard.Goals as goal
 
-pub returns-in-At : goal.returns-in-At
+pub returns-in-Some : goal.returns-in-Some
 unfolding guarded
-returns-in-At c = rw (c.in-At.is, c.put_at-in-At.ensures, c.put_at.ensures)
+returns-in-Some c = rw (c.in-Some.is, c.put_at-in-Some.ensures, c.put_at.ensures)
 
-pub returns-in-Nothing : goal.returns-in-Nothing
+pub returns-in-None : goal.returns-in-None
 unfolding guarded
-returns-in-Nothing c = rw (c.in-Nothing.is, c.put_at-in-Nothing.ensures)
+returns-in-None c = rw (c.in-None.is, c.put_at-in-None.ensures)

@@ -2,14 +2,16 @@
 use Rattle.shinri_core.proofs.Kit.{refl, arith}
 use Rattle.solver.specs.Memory.Work.{work_size}
 use Rattle.solver.proofs.Memory.Beginning.{fresh}
+use Rattle.solver.proofs.Memory.NoRooms.{no_room}
 use Rattle.solver.proofs.Memory.Checking.{classes_kept, classes_refused}
 use Rattle.solver.proofs.check.check_classes.Goals as goal
 
-pub full_check-r-requires : goal.full_check-r-requires
-full_check-r-requires c = record { state = c.requires.0; blank = fresh work_size (omega arith) refl; long = c.requires.1 }
+pub full_check-requires : goal.full_check-requires
+full_check-requires c = record { state = c.requires.0; blank = fresh work_size (omega arith) refl; long = c.requires.1 }
 
-pub returns-then-has_room : goal.returns-then-has_room
-returns-then-has_room c = classes_kept c.full_check-r.ensures c.has_room.ensures c.if-has_room.true c.keep_marks.ensures
+pub returns-in_err-r : goal.returns-in_err-r
+returns-in_err-r c =
+    rw (no_room c.from_residual.result c.from_residual.ensures.0) (classes_refused c.in_err-r.ensures)
 
-pub returns-else-has_room : goal.returns-else-has_room
-returns-else-has_room c = classes_refused c.full_check-r.ensures c.has_room.ensures c.if-has_room.false
+pub returns : goal.returns
+returns c = classes_kept c.in_ok-r.ensures c.keep_marks.ensures

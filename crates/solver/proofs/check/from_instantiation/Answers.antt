@@ -1,17 +1,23 @@
 -- The next rule is tried if the first passes.
-use Rattle.shinri_core.proofs.Kit.{ap, not}
+use Rattle.shinri_core.proofs.Kit.{refl}
 use Rattle.solver.specs.Rules.{instantiate_constructor}
 use Rattle.solver.specs.Memory.Checks.{from_split}
 use Rattle.solver.proofs.Memory.Unfitting.{from_split_onward}
 use Rattle.solver.proofs.Memory.Checking.{then_on, then_stop}
+use Rattle.solver.proofs.Memory.Trying.{err_not_sat, is_sat, is_answer}
+use Rattle.solver.proofs.Memory.NoRooms.{no_room}
 use Rattle.solver.proofs.check.from_instantiation.Goals as goal
 
-pub returns-then-not-passes : goal.returns-then-not-passes
-returns-then-not-passes c =
-    then_stop instantiate_constructor from_split c.passes.ensures (ap not c.if-not-passes.true) from_split_onward
-    c.instantiate_constructor-r.ensures
+pub returns-in_err-r : goal.returns-in_err-r
+returns-in_err-r c =
+    rw (no_room c.from_residual.result c.from_residual.ensures.0)
+    (then_stop instantiate_constructor from_split (err_not_sat refl) from_split_onward c.in_err-r.ensures)
+
+pub returns-then-ne : goal.returns-then-ne
+returns-then-ne c =
+    then_stop instantiate_constructor from_split (is_answer _ c.ne.ensures c.if-ne.true) from_split_onward c.in_ok-r.ensures
 
 pub returns : goal.returns
 returns c =
-    then_on instantiate_constructor from_split c.passes.ensures (ap not c.if-not-passes.false)
-    c.instantiate_constructor-r.ensures c.exhaustiveness_split.ensures
+    then_on instantiate_constructor from_split (is_sat _ c.ne.ensures c.if-ne.false)
+    c.in_ok-r.ensures c.exhaustiveness_split.ensures

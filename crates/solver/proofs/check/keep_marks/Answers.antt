@@ -9,8 +9,7 @@ loop-x-init c = search copying_first
 pub loop-x-preserved : goal.loop-x-preserved
 loop-x-preserved c =
     let inv = c.loop-x.invariant in
-    let small = c.term_count-n.ensures.1 in
-    let below = c.loop-x-test.true in
+    let small = c.term_count-x-end.ensures.1 in
     let mark = c.get_at-kind.ensures.0 in
     elim c.if-get_at-kind.branch [
       | then-get_at-kind w ↦ rw w.s-is (copying_next inv (omega arith) mark w.put_mark.ensures)
@@ -18,4 +17,4 @@ loop-x-preserved c =
     ]
 
 pub returns : goal.returns
-returns c = copying_done _ c.term_count-n.ensures c.loop-x.invariant c.loop-x-test.false
+returns c = copying_done _ c.term_count-x-end.ensures c.loop-x.invariant (omega arith)

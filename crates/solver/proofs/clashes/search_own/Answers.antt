@@ -11,12 +11,12 @@ is_own-requires c = search own_asked
 
 pub returns-then-is_own : goal.returns-then-is_own
 returns-then-is_own c =
-    own_found _ c.requires c.find-root.ensures.0 refl refl c.term_count-n.ensures.0 c.loop-i.invariant
-    c.loop-i-test.true c.is_own.ensures c.if-is_own.true
+    own_found _ c.requires c.find-root.ensures.0 refl refl c.term_count-i-end.ensures.0 c.loop-i.invariant
+    (omega arith) c.is_own.ensures c.if-is_own.true
 
 pub loop-i-preserved : goal.loop-i-preserved
 loop-i-preserved c =
-    own_passed _ c.requires c.find-root.ensures.0 c.loop-i.invariant c.loop-i-test.true c.is_own.ensures
+    own_passed _ c.requires c.find-root.ensures.0 c.loop-i.invariant (omega arith) c.is_own.ensures
     c.if-is_own.false
 
 pub returns : goal.returns

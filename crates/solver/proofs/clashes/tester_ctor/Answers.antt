@@ -1,7 +1,7 @@
 -- A term of its kind is an application of a tester.
 use Rattle.shinri_core.proofs.Kit.{rules}
 use Rattle.shinri_core.proofs.Memory.Codes.{symbol_below}
-use Rattle.solver.proofs.Memory.Clashing.{term_within, tester_no_equation, tester_no_constructor, tester_no_function, tester_no_selector, tester_is}
+use Rattle.solver.proofs.Memory.Clashing.{term_within, tester_no_equation, tester_no_other, tester_is}
 use Rattle.solver.proofs.clashes.tester_ctor.Goals as goal
 
 pub op-requires : goal.op-requires
@@ -16,11 +16,6 @@ returns-in-Eq c = absurd (search tester_no_equation)
 pub returns-in-Tester : goal.returns-in-Tester
 returns-in-Tester c = search tester_is
 
-pub returns-in-Constructor : goal.returns-in-Constructor
-returns-in-Constructor c = absurd (search tester_no_constructor)
-
-pub returns-in-Selector : goal.returns-in-Selector
-returns-in-Selector c = absurd (search tester_no_selector)
-
-pub returns-in-Function : goal.returns-in-Function
-returns-in-Function c = absurd (search tester_no_function)
+pub returns-in_default : goal.returns-in_default
+returns-in_default c =
+    absurd (tester_no_other c.requires c.op.ensures c.in-Uninterpreted.is c.dt_role.ensures c.in_default.not-Tester)

@@ -1,62 +1,63 @@
-use Rattle.shinri_core.proofs.Kit.{arith, refl, ◌<◌, ◌-◌, ◌∙◌}
+use Rattle.shinri_core.proofs.Kit.{arith, refl, ◌<◌, ◌∙◌, ap}
 use Rattle.shinri_core.specs.Limits.{max_terms}
+use Rattle.solver.specs.Memory.Work.{term_word}
 use Rattle.solver.proofs.Memory.Unfitting.{collapse_at_onward}
 use Rattle.solver.proofs.Memory.Blocks.{check_asked}
 use Rattle.solver.proofs.Memory.Chains.{walk_first, walk_at, walk_next, walk_answer, walk_less, walk_done}
 use Rattle.solver.proofs.Memory.Collapsing.{collapse_others, walk_collapsible}
+use Rattle.solver.proofs.Memory.Trying.{err_not_sat, is_sat, is_answer}
+use Rattle.solver.proofs.Memory.NoRooms.{no_room}
 use Rattle.solver.proofs.collapse.collapse_class.Goals as goal
 
-pub overflow_cast-arg : goal.overflow_cast-arg
-overflow_cast-arg c = record { fits = omega (arith, c.requires.within) }
-
-pub lowest_of_class-k-requires : goal.lowest_of_class-k-requires
-lowest_of_class-k-requires c =
+pub lowest_of_class-next-requires : goal.lowest_of_class-next-requires
+lowest_of_class-next-requires c =
     let pre = c.requires in
     check_asked pre.under.check pre.within
 
-pub loop-k-init : goal.loop-k-init
-loop-k-init c =
+pub loop-next-init : goal.loop-next-init
+loop-next-init c =
     let pre = c.requires in
-    (walk_first _ (collapse_others _ _) pre.under.check c.lowest_of_class-k.ensures, refl, refl, refl)
+    (walk_first _ (collapse_others _ _) pre.under.check c.lowest_of_class-next.ensures, refl, refl, refl)
 
-pub overflow_cast-k : goal.overflow_cast-k
-overflow_cast-k c =
+pub collapse_at-requires : goal.collapse_at-requires
+collapse_at-requires c = walk_collapsible c.requires c.loop-next.invariant.0 (ap term_word c.in-Some.is) c.loop-next.invariant.3
+
+pub returns-in_err-r : goal.returns-in_err-r
+returns-in_err-r c =
+    let walking = c.loop-next.invariant.0 in
+    rw (no_room c.from_residual.result c.from_residual.ensures.0)
+    (walk_answer walking (ap term_word c.in-Some.is)
+    (c.in_err-r.ensures _ (walk_at walking (ap term_word c.in-Some.is)).equal) (err_not_sat refl) (collapse_at_onward _))
+
+pub returns-then-ne : goal.returns-then-ne
+returns-then-ne c =
+    let walking = c.loop-next.invariant.0 in
+    walk_answer walking (ap term_word c.in-Some.is)
+    (c.in_ok-r.ensures _ (walk_at walking (ap term_word c.in-Some.is)).equal)
+    (is_answer _ c.ne.ensures c.if-ne.true) (collapse_at_onward _)
+
+pub next_of_class-next-requires : goal.next_of_class-next-requires
+next_of_class-next-requires c =
     -- the application at hand is a term
-    let within : c.loop-k.k - 1 < max_terms = (walk_at c.loop-k.invariant.0 c.loop-k-test.true).within in
-    record { fits = omega (arith, within) }
-
-pub collapse_at-r-requires : goal.collapse_at-r-requires
-collapse_at-r-requires c = walk_collapsible c.requires c.loop-k.invariant.0 c.loop-k-test.true c.loop-k.invariant.3
-
-pub returns-in_default : goal.returns-in_default
-returns-in_default c =
-    let walking = c.loop-k.invariant.0 in
-    walk_answer walking c.loop-k-test.true
-    (c.collapse_at-r.ensures _ (walk_at walking c.loop-k-test.true).equal)
-    c.in_default.not-Sat (collapse_at_onward _)
-
-pub get_at-k-requires : goal.get_at-k-requires
-get_at-k-requires c =
-    -- the application at hand is a term
-    let within : c.loop-k.k - 1 < max_terms = (walk_at c.loop-k.invariant.0 c.loop-k-test.true).within in
+    let within : c.in-Some.app.0 < max_terms = (walk_at c.loop-next.invariant.0 (ap term_word c.in-Some.is)).within in
     let l = c.requires.under.check.work.long in omega (arith, within)
 
-pub loop-k-smaller : goal.loop-k-smaller
-loop-k-smaller c =
+pub loop-next-smaller : goal.loop-next-smaller
+loop-next-smaller c =
     let pre = c.requires in
-    walk_less c.loop-k.invariant.0 c.loop-k-test.true pre.under.check.work pre.under.chain c.get_at-k.ensures.0
+    walk_less c.loop-next.invariant.0 (ap term_word c.in-Some.is) pre.under.check.work pre.under.chain c.next_of_class-next.ensures
 
-pub loop-k-preserved : goal.loop-k-preserved
-loop-k-preserved c =
-    let walking = c.loop-k.invariant.0 in
+pub loop-next-preserved : goal.loop-next-preserved
+loop-next-preserved c =
+    let walking = c.loop-next.invariant.0 in
     let pre = c.requires in (
-      walk_next walking c.loop-k-test.true
-          (c.collapse_at-r.ensures _ (walk_at walking c.loop-k-test.true).equal)
-          pre.under.check.work pre.under.chain c.in-Sat.is c.get_at-k.ensures.0,
-      c.collapse_at-r.auto.t ∙ c.loop-k.invariant.1,
-      c.collapse_at-r.auto.s ∙ c.loop-k.invariant.2,
-      c.collapse_at-r.auto.out ∙ c.loop-k.invariant.3,
+      walk_next walking (ap term_word c.in-Some.is)
+          (c.in_ok-r.ensures _ (walk_at walking (ap term_word c.in-Some.is)).equal)
+          pre.under.check.work pre.under.chain (is_sat _ c.ne.ensures c.if-ne.false) c.next_of_class-next.ensures,
+      c.collapse_at.auto.t ∙ c.loop-next.invariant.1,
+      c.collapse_at.auto.s ∙ c.loop-next.invariant.2,
+      c.collapse_at.auto.out ∙ c.loop-next.invariant.3,
     )
 
 pub returns : goal.returns
-returns c = walk_done c.loop-k.invariant.0 c.loop-k-test.false
+returns c = walk_done c.loop-next.invariant.0 (ap term_word c.in_default.is)

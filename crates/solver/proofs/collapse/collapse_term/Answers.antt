@@ -1,28 +1,19 @@
 -- The mark tells a selector application from other terms.
-use Rattle.shinri_core.proofs.Kit.{arith}
+use Rattle.shinri_core.proofs.Kit.{◌<◌, arith}
 use Rattle.solver.proofs.Memory.Collapsing.{sel_other, sel_marked}
 use Rattle.solver.proofs.collapse.collapse_term.Goals as goal
+use Rattle.solver.proofs.collapse.collapse_term.Goals.{else-kind-via-then-kind+else-kind-2, else-kind-via-else-kind}
 
 pub get_at-kind-requires : goal.get_at-kind-requires
 get_at-kind-requires c =
     let check = c.requires.0.check in
     omega (arith, check.state.core.term_count, check.state.core.terms_fit, check.work.long)
 
-pub returns-then-kind-lt-SEL_APP : goal.returns-then-kind-lt-SEL_APP
-returns-then-kind-lt-SEL_APP c =
+pub returns-then-kind-2 : goal.returns-then-kind-2
+returns-then-kind-2 c =
     let pre = c.requires in
-    let l = c.if-kind-lt-SEL_APP.true in
     record {
-      tried = sel_other pre.0 pre.2 c.get_at-kind.ensures.0 (λ q. omega arith) (λ q. omega arith);
-      flags = λ q. pre.1;
-    }
-
-pub returns-then-kind-gt-DT_SEL_APP : goal.returns-then-kind-gt-DT_SEL_APP
-returns-then-kind-gt-DT_SEL_APP c =
-    let pre = c.requires in
-    let l = c.if-kind-gt-DT_SEL_APP.true in
-    record {
-      tried = sel_other pre.0 pre.2 c.get_at-kind.ensures.0 (λ q. omega arith) (λ q. omega arith);
+      tried = sel_other pre.0 pre.2 c.get_at-kind.ensures.0 c.if-kind.true c.if-kind-2.true;
       flags = λ q. pre.1;
     }
 
@@ -38,9 +29,12 @@ collapse_selector-requires c = c.requires
 pub returns : goal.returns
 returns c =
     let pre = c.requires in
-    let l = c.if-kind-lt-SEL_APP.false in
     let once = c.collapse_selector.ensures in
+    let marked : 0 < c.get_at-kind.result = elim c.else-kind.branch [
+      | else-kind-via-then-kind+else-kind-2 w ↦ omega (arith, w.if-kind-2.false)
+      | else-kind-via-else-kind w ↦ omega (arith, w.if-kind.false)
+    ] in
     record {
-      tried = sel_marked pre.0 pre.2 c.get_at-kind.ensures.0 (omega arith) once.tried;
+      tried = sel_marked pre.0 pre.2 c.get_at-kind.ensures.0 marked once.tried;
       flags = once.flags;
     }

@@ -1,5 +1,5 @@
 -- Ascending over the terms, what is left of the rule on the present tables is the whole rule; the flags are right.
-use Rattle.shinri_core.proofs.Kit.{◌≡◌, ◌-◌, length}
+use Rattle.shinri_core.proofs.Kit.{◌≡◌, length}
 use Rattle.shinri_core.specs.Limits.{max_terms}
 use Rattle.shinri_core.specs.Context.{tester_app}
 use Rattle.solver.specs.Rules.{tester_lemma_at}
@@ -14,6 +14,3 @@ invariant-loop-x l = Listing tester_lemma_at tester_app l.initial.t l.e l.initia
     × (length l.s ≡ length l.initial.s)
     × (length l.out ≡ length l.initial.out)
     × (length l.done ≡ max_terms)
-
-abbrev pub decreases-loop-x : goal.decreases-loop-x
-decreases-loop-x l = l.n - l.x

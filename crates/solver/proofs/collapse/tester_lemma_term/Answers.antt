@@ -8,11 +8,11 @@ get_at-requires c =
     let check = c.requires.0.check in
     omega (arith, check.state.core.term_count, check.state.core.terms_fit, check.work.long)
 
-pub returns-then-get_at-ne-TESTER_APP : goal.returns-then-get_at-ne-TESTER_APP
-returns-then-get_at-ne-TESTER_APP c =
+pub returns-then-get_at : goal.returns-then-get_at
+returns-then-get_at c =
     let pre = c.requires in
     record {
-      tried = tester_other pre.0 pre.2 c.get_at.ensures.0 c.if-get_at-ne-TESTER_APP.true;
+      tried = tester_other pre.0 pre.2 c.get_at.ensures.0 c.if-get_at.true;
       flags = λ q. pre.1;
     }
 
@@ -28,7 +28,7 @@ tester_lemma_of-requires c = c.requires
 pub returns : goal.returns
 returns c =
     let pre = c.requires in
-    let q = c.if-get_at-ne-TESTER_APP.false in
+    let q = c.if-get_at.false in
     let once = c.tester_lemma_of.ensures in
     record {
       tried = tester_marked pre.0 pre.2 c.get_at.ensures.0 (omega arith) once.tried;

@@ -1,5 +1,6 @@
-use Rattle.shinri_core.proofs.Kit.{rules, arith}
+use Rattle.shinri_core.proofs.Kit.{refl, rules, arith}
 use Rattle.solver.proofs.Memory.Injecting.{applies_declared, applies_small, each_first, each_asked, each_next, each_stop, each_done}
+use Rattle.solver.proofs.Memory.NoRooms.{no_room}
 use Rattle.solver.proofs.injectivity.select_both.Goals as goal
 
 pub overflow_cast-c : goal.overflow_cast-c
@@ -20,12 +21,14 @@ overflow_add-c-in-loop-i c = omega (arith, applies_small c.requires)
 pub mint_on_both-requires : goal.mint_on_both-requires
 mint_on_both-requires c = search each_asked
 
-pub returns-then-not-mint_on_both : goal.returns-then-not-mint_on_both
-returns-then-not-mint_on_both c = each_stop c.loop-i.invariant.0 c.loop-i-test.true c.mint_on_both.ensures c.if-not-mint_on_both.true
+pub returns-in_err-mint_on_both : goal.returns-in_err-mint_on_both
+returns-in_err-mint_on_both c =
+    rw (no_room c.from_residual.result c.from_residual.ensures.0)
+    (each_stop c.loop-i.invariant.0 (omega arith) c.in_err-mint_on_both.ensures refl)
 
 pub loop-i-preserved : goal.loop-i-preserved
 loop-i-preserved c = (
-  each_next c.loop-i.invariant.0 c.loop-i-test.true c.mint_on_both.ensures c.if-not-mint_on_both.false,
+  each_next c.loop-i.invariant.0 (omega arith) c.in_ok-mint_on_both.ensures refl,
   search rules,
   search rules,
 )

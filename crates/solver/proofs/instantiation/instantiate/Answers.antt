@@ -1,32 +1,26 @@
 -- By whether the application and the equation fit.
+use Rattle.shinri_core.proofs.Kit.{refl}
 use Rattle.solver.proofs.Memory.Instantiating.{coverable, over_lacks, may_equate_over, eq_lacks, guardable, guarded}
+use Rattle.solver.proofs.Memory.NoRooms.{no_room}
 use Rattle.solver.proofs.instantiation.instantiate.Goals as goal
 
 pub mint_over-requires : goal.mint_over-requires
 mint_over-requires c = coverable c.requires
 
 pub mk_eq-requires : goal.mk_eq-requires
-mk_eq-requires c =
-    let z = c.requires in
-    may_equate_over z c.mint_over.ensures c.in-At.is
+mk_eq-requires c = may_equate_over c.requires c.in_ok-app.ensures refl
 
 pub guard-requires : goal.guard-requires
-guard-requires c =
-    let z = c.requires in
-    guardable z c.mint_over.ensures c.in-At.is c.mk_eq.ensures c.in-At-mk_eq.is
+guard-requires c = guardable c.requires c.in_ok-app.ensures refl c.in_ok-y.ensures refl
 
-pub returns-in-NoRoom : goal.returns-in-NoRoom
-returns-in-NoRoom c =
-    let z = c.requires in
-    over_lacks z c.mint_over.ensures c.in-NoRoom.is
+pub returns-in_err-app : goal.returns-in_err-app
+returns-in_err-app c =
+    rw (no_room c.from_residual.result c.from_residual.ensures.0) (over_lacks c.requires c.in_err-app.ensures refl)
 
-pub returns-in-NoRoom-mk_eq : goal.returns-in-NoRoom-mk_eq
-returns-in-NoRoom-mk_eq c =
-    let z = c.requires in
-    eq_lacks z c.mint_over.ensures c.in-At.is c.mk_eq.ensures c.in-NoRoom-mk_eq.is
+pub returns-in_err-y : goal.returns-in_err-y
+returns-in_err-y c =
+    rw (no_room c.from_residual-in_err-y.result c.from_residual-in_err-y.ensures.0)
+    (eq_lacks c.requires c.in_ok-app.ensures refl c.in_err-y.ensures refl)
 
-pub returns-in-At-mk_eq : goal.returns-in-At-mk_eq
-returns-in-At-mk_eq c =
-    let z = c.requires in
-    guarded z c.mint_over.ensures c.in-At.is c.mk_eq.ensures
-    c.in-At-mk_eq.is c.guard.ensures
+pub returns : goal.returns
+returns c = guarded c.requires c.in_ok-app.ensures refl c.in_ok-y.ensures refl c.guard.ensures

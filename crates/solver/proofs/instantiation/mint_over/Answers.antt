@@ -1,5 +1,6 @@
 use Rattle.shinri_core.proofs.Kit.{rules, refl, sym, ◌∙◌, arith, length-take-le}
 use Rattle.solver.proofs.Memory.Instantiating.{cover_declared, cover_small, cover_first, field_makeable, field_role, cover_next, cover_lacks, over_makeable, over_role, cover_done}
+use Rattle.solver.proofs.Memory.NoRooms.{no_room}
 use Rattle.solver.proofs.instantiation.mint_over.Goals as goal
 
 pub arity-n-requires : goal.arity-n-requires
@@ -17,26 +18,27 @@ overflow_add-f-in-loop-i c = omega (arith, cover_small c.requires)
 pub mint-requires : goal.mint-requires
 mint-requires c =
     let z = c.requires in (
-      field_makeable z c.arity-n.ensures.0 c.arity-n.ensures.1 c.loop-i.invariant c.loop-i-test.true,
+      field_makeable z c.arity-n.ensures.0 c.arity-n.ensures.1 c.loop-i.invariant (omega arith),
       field_role z
-          c.arity-n.ensures.0 c.arity-n.ensures.1 c.loop-i.invariant c.loop-i-test.true,
+          c.arity-n.ensures.0 c.arity-n.ensures.1 c.loop-i.invariant (omega arith),
     )
 
-pub shape_of-t-in-NoRoom : goal.shape_of-t-in-NoRoom
-shape_of-t-in-NoRoom c = c.mint.auto.t ∙ c.loop-i.invariant.long
+pub shape_of-t-in_err-y : goal.shape_of-t-in_err-y
+shape_of-t-in_err-y c = c.mint.auto.t ∙ c.loop-i.invariant.long
 
-pub shape_of-w-in-NoRoom : goal.shape_of-w-in-NoRoom
-shape_of-w-in-NoRoom c = c.mint.auto.w ∙ c.loop-i.invariant.work_long
+pub shape_of-w-in_err-y : goal.shape_of-w-in_err-y
+shape_of-w-in_err-y c = c.mint.auto.w ∙ c.loop-i.invariant.work_long
 
-pub returns-in-NoRoom : goal.returns-in-NoRoom
-returns-in-NoRoom c =
-    cover_lacks c.requires c.arity-n.ensures.0 c.arity-n.ensures.1
-    c.loop-i.invariant c.loop-i-test.true c.mint.ensures c.in-NoRoom.is
+pub returns-in_err-y : goal.returns-in_err-y
+returns-in_err-y c =
+    rw (no_room c.from_residual.result c.from_residual.ensures.0)
+    (cover_lacks c.requires c.arity-n.ensures.0 c.arity-n.ensures.1
+    c.loop-i.invariant (omega arith) c.in_err-y.ensures refl)
 
 pub loop-i-preserved : goal.loop-i-preserved
 loop-i-preserved c =
     cover_next c.requires c.arity-n.ensures.0 c.arity-n.ensures.1
-    c.loop-i.invariant c.loop-i-test.true c.mint.ensures c.in-At.is c.mint.auto.t
+    c.loop-i.invariant (omega arith) c.in_ok-y.ensures refl c.mint.auto.t
     c.mint.auto.w
 
 pub slice_bounds-ids-end : goal.slice_bounds-ids-end
@@ -51,9 +53,9 @@ slice_bounds-mint-end-2 c =
 pub mint-requires-2 : goal.mint-requires-2
 mint-requires-2 c =
     let z = c.requires in (
-      over_makeable z c.arity-n.ensures.0 c.arity-n.ensures.1 c.loop-i.invariant c.loop-i-test.false,
+      over_makeable z c.arity-n.ensures.0 c.arity-n.ensures.1 c.loop-i.invariant (omega arith),
       over_role z
-          c.arity-n.ensures.0 c.arity-n.ensures.1 c.loop-i.invariant c.loop-i-test.false,
+          c.arity-n.ensures.0 c.arity-n.ensures.1 c.loop-i.invariant (omega arith),
     )
 
 pub shape_of-t : goal.shape_of-t
@@ -65,4 +67,4 @@ shape_of-w c = c.mint-2.auto.w ∙ c.loop-i.invariant.work_long
 pub returns : goal.returns
 returns c =
     cover_done c.requires c.arity-n.ensures.0 c.arity-n.ensures.1
-    c.loop-i.invariant c.loop-i-test.false c.mint-2.ensures
+    c.loop-i.invariant (omega arith) c.mint-2.ensures

@@ -1,10 +1,6 @@
 -- The selectors below i are made and marked, and their numbers are noted.
-use Rattle.shinri_core.proofs.Kit.{◌-◌}
 use Rattle.solver.proofs.Memory.Instantiating.{Covering}
 use Rattle.solver.proofs.instantiation.mint_over.Given as goal
 
 abbrev pub invariant-loop-i : goal.invariant-loop-i
 invariant-loop-i l = Covering l.initial.t l.e l.initial.w l.a.0 l.f.0 l.n l.t l.w l.ids l.i
-
-abbrev pub decreases-loop-i : goal.decreases-loop-i
-decreases-loop-i l = l.n - l.i

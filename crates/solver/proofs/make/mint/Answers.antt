@@ -1,18 +1,19 @@
 -- A term that was made is marked; where it does not fit nothing was done.
+use Rattle.shinri_core.proofs.Kit.{refl}
 use Rattle.solver.proofs.Memory.Minting.{markable, minted, not_minted}
+use Rattle.solver.proofs.Memory.NoRooms.{no_room}
 use Rattle.solver.proofs.make.mint.Goals as goal
 
 pub mark-requires : goal.mark-requires
 mark-requires c =
     let pre = c.requires in
-    markable pre.0 pre.1 c.mk_app.ensures c.in-At.is
+    markable pre.0 pre.1 c.in_ok-x.ensures refl
 
-pub returns-in-NoRoom : goal.returns-in-NoRoom
-returns-in-NoRoom c =
-    let pre = c.requires in
-    not_minted pre.0 c.mk_app.ensures c.in-NoRoom.is
+pub returns-in_err-x : goal.returns-in_err-x
+returns-in_err-x c =
+    rw (no_room c.from_residual.result c.from_residual.ensures.0) (not_minted c.requires.0 c.in_err-x.ensures refl)
 
-pub returns-in-At : goal.returns-in-At
-returns-in-At c =
+pub returns : goal.returns
+returns c =
     let pre = c.requires in
-    minted pre.0 pre.1 c.mk_app.ensures c.in-At.is c.mark.ensures
+    minted pre.0 pre.1 c.in_ok-x.ensures refl c.mark.ensures

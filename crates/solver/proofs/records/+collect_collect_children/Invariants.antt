@@ -1,13 +1,10 @@
 -- The cycle of collection. Children have lower numbers, so twice the term's number is a measure, and one more for the term itself.
-use Rattle.shinri_core.proofs.Kit.{◌+◌, ◌-◌, ◌*◌, length}
+use Rattle.shinri_core.proofs.Kit.{◌+◌, ◌*◌}
 use Rattle.solver.proofs.Memory.Collecting.{Gathering}
 use Rattle.solver.proofs.records.+collect_collect_children.Given as goal
 
-abbrev pub invariant-collect_children-loop-i : goal.invariant-collect_children-loop-i
-invariant-collect_children-loop-i l = Gathering l.t l.x l.initial.s l.s l.i
-
-abbrev pub decreases-collect_children-loop-i : goal.decreases-collect_children-loop-i
-decreases-collect_children-loop-i l = length l.args - l.i
+abbrev pub invariant-collect_children-loop-arg : goal.invariant-collect_children-loop-arg
+invariant-collect_children-loop-arg l = Gathering l.t l.x l.initial.s l.s l.arg-index
 
 abbrev pub decreases-collect : goal.decreases-collect
 decreases-collect l = l.x * 2 + 1

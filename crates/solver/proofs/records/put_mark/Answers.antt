@@ -2,8 +2,8 @@
 use Rattle.solver.proofs.Memory.Announcing.{marked_app, marked_other}
 use Rattle.solver.proofs.records.put_mark.Goals as goal
 
-pub returns-then-kind-eq-CTOR_APP : goal.returns-then-kind-eq-CTOR_APP
-returns-then-kind-eq-CTOR_APP c = search marked_app
+pub returns-then-kind : goal.returns-then-kind
+returns-then-kind c = search marked_app
 
-pub returns-else-kind-eq-CTOR_APP : goal.returns-else-kind-eq-CTOR_APP
-returns-else-kind-eq-CTOR_APP c = search marked_other
+pub returns-else-kind : goal.returns-else-kind
+returns-else-kind c = search marked_other

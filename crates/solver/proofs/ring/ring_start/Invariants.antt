@@ -4,6 +4,3 @@ use Rattle.solver.proofs.ring.ring_start.Given as goal
 
 abbrev pub invariant-loop-k : goal.invariant-loop-k
 invariant-loop-k l = Seeks l.r l.n l.app l.k
-
-abbrev pub decreases-loop-k : goal.decreases-loop-k
-decreases-loop-k l = l.k

@@ -5,7 +5,7 @@ use Rattle.solver.proofs.Memory.RingWalks.{Walks}
 use Rattle.solver.proofs.ring.walk.Given as goal
 
 abbrev pub invariant-loop-n : goal.invariant-loop-n
-invariant-loop-n l = Walks l.t l.e l.w l.initial.r l.initial.n l.r l.n
+invariant-loop-n l = Walks l.t l.e l.w l.initial.r l.from l.r l.n
 
 abbrev pub decreases-loop-n : goal.decreases-loop-n
 decreases-loop-n l = load (context l.t) l.r l.n

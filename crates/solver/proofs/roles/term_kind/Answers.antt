@@ -8,7 +8,7 @@ pub symbol_kind-requires : goal.symbol_kind-requires
 symbol_kind-requires c = (search rules, search symbol_below)
 
 pub returns-in-Eq : goal.returns-in-Eq
-returns-in-Eq c = (search found_equation, search rules)
+returns-in-Eq c = search found_equation
 
 pub returns-in-Uninterpreted : goal.returns-in-Uninterpreted
-returns-in-Uninterpreted c = (search found_symbol, search rules)
+returns-in-Uninterpreted c = search found_symbol

@@ -1,22 +1,22 @@
-use Rattle.shinri_core.proofs.Kit.{◌<◌, arith}
+use Rattle.shinri_core.proofs.Kit.{◌<◌, ap, arith}
 use Rattle.solver.specs.Memory.Table.{blocks}
+use Rattle.solver.specs.Memory.Work.{term_word}
 use Rattle.solver.proofs.Memory.Blocks.{walked_first, walked_empty, walked_next, walked_found, walked_done}
 use Rattle.solver.proofs.work.lowest_marked.Goals as goal
-use Rattle.solver.proofs.work.lowest_marked.Goals.{then-get_at-ne0+else-word-ne0, else-get_at-ne0}
+use Rattle.solver.proofs.work.lowest_marked.Goals.{then-get_at-ne0+in_default, else-get_at-ne0}
 
 pub loop-b-init : goal.loop-b-init
 loop-b-init c = search walked_first
 
-pub returns-then-word-ne0 : goal.returns-then-word-ne0
-returns-then-word-ne0 c =
-    walked_found c.loop-b.invariant (omega (arith, c.loop-b-test.true)) c.lowest_in_block-word.ensures c.if-word-ne0.true
+pub returns-in-Some : goal.returns-in-Some
+returns-in-Some c = walked_found c.loop-b.invariant (omega arith) c.in-Some.ensures (omega arith)
 
 pub loop-b-preserved : goal.loop-b-preserved
 loop-b-preserved c =
     let inv = c.loop-b.invariant in
-    let h : c.loop-b.b < blocks = omega (arith, c.loop-b-test.true) in
+    let h : c.loop-b.b < blocks = omega arith in
     elim c.if-get_at-ne0.branch [
-      | then-get_at-ne0+else-word-ne0 w ↦ walked_next inv h w.lowest_in_block-word.ensures w.if-word-ne0.false
+      | then-get_at-ne0+in_default w ↦ walked_next inv h w.lowest_in_block.ensures (ap term_word w.in_default.is)
       | else-get_at-ne0 w ↦ walked_empty inv h c.requires.1 c.get_at.ensures.0 w.if-get_at-ne0.false
     ]
 

@@ -1,5 +1,5 @@
 -- By the length of the table: a short one is walked, in a whole one the word stands at the root.
-use Rattle.shinri_core.proofs.Kit.{arith}
+use Rattle.shinri_core.proofs.Kit.{arith, ◌∙◌}
 use Rattle.solver.proofs.Memory.Working.{root_word}
 use Rattle.solver.proofs.Memory.Blocks.{short_asked, short_word, whole_asked}
 use Rattle.solver.proofs.work.lowest_of_class.Goals as goal
@@ -15,4 +15,5 @@ root_of-root-requires c = whole_asked c.requires (omega (arith, c.if-w-lt-WORK_S
 
 pub returns : goal.returns
 returns c =
-    root_word (whole_asked c.requires (omega (arith, c.if-w-lt-WORK_SIZE.false))) c.root_of-root.ensures.0 c.get_at.ensures.0
+    c.word_term.ensures
+    ∙ root_word (whole_asked c.requires (omega (arith, c.if-w-lt-WORK_SIZE.false))) c.root_of-root.ensures.0 c.get_at.ensures.0

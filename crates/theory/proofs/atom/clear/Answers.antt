@@ -1,11 +1,6 @@
-use Rattle.theory.proofs.Memory.RegistryStores.{empty_first, empty_next, empty_done}
+-- The words of variables and those of atoms are filled with 0, then the count is set.
+use Rattle.theory.proofs.Memory.RegistryStores.{emptied}
 use Rattle.theory.proofs.atom.clear.Goals as goal
 
-pub loop-k-init : goal.loop-k-init
-loop-k-init c = search empty_first
-
-pub loop-k-preserved : goal.loop-k-preserved
-loop-k-preserved c = empty_next c.loop-k.invariant c.loop-k-test.true c.put_at-in-loop-k.ensures c.put_at-in-loop-k-2.ensures
-
 pub returns : goal.returns
-returns c = empty_done c.loop-k.invariant c.loop-k-test.false
+returns c = emptied _ _ _ _ c.requires (c.fill.ensures.after (λ y q. q)) (c.fill-2.ensures.after (λ y q. q)) c.put_at.ensures

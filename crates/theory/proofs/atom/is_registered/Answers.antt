@@ -1,12 +1,10 @@
 -- A variable is registered where its word is not 0.
-use Rattle.theory.proofs.Memory.RegistryWords.{registered_no, registered_yes, registered_beyond}
+use Rattle.shinri_core.proofs.Kit.{le-ltb}
+use Rattle.theory.proofs.Memory.RegistryWords.{registered_is, registered_beyond}
 use Rattle.theory.proofs.atom.is_registered.Goals as goal
 
-pub returns-then-i-ge-MAX_VARS : goal.returns-then-i-ge-MAX_VARS
-returns-then-i-ge-MAX_VARS c = search registered_beyond
+pub returns-then-i-lt-MAX_VARS : goal.returns-then-i-lt-MAX_VARS
+returns-then-i-lt-MAX_VARS c = search registered_is
 
-pub returns-then-get_at-eq0 : goal.returns-then-get_at-eq0
-returns-then-get_at-eq0 c = search registered_no
-
-pub returns : goal.returns
-returns c = search registered_yes
+pub returns-else-i-lt-MAX_VARS : goal.returns-else-i-lt-MAX_VARS
+returns-else-i-lt-MAX_VARS c = let b = registered_beyond _ _ c.requires c.if-i-lt-MAX_VARS.false in search (le-ltb, b)

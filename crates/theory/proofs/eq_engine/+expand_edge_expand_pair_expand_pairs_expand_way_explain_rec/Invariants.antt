@@ -1,7 +1,7 @@
 -- The cycle of explanation. The measure of each function is five times the age of the part that it is given, and a place in the order
 -- explain_rec, expand_pair, expand_pairs, expand_edge, expand_way: a call for a part that is as old goes down in this order, and the ways
 -- of a pair are less old than the pair.
-use Rattle.shinri_core.proofs.Kit.{◌+◌, ◌-◌, ◌*◌, [], ◌∷◌, length}
+use Rattle.shinri_core.proofs.Kit.{◌+◌, ◌*◌, [], ◌∷◌, length}
 use Rattle.theory.specs.EqEngine.{way}
 use Rattle.theory.specs.Memory.Table.{pair_at, just_at, merges}
 use Rattle.theory.specs.Memory.Explaining.{NewPair, Way, Label, Pairs, part_age, up_to, pairs_from}
@@ -10,9 +10,6 @@ use Rattle.theory.proofs.eq_engine.+expand_edge_expand_pair_expand_pairs_expand_
 
 abbrev pub invariant-expand_pairs-loop-k : goal.invariant-expand_pairs-loop-k
 invariant-expand_pairs-loop-k l = Pairing l.t l.from l.to l.initial.marks l.initial.out l.marks l.out l.k
-
-abbrev pub decreases-expand_pairs-loop-k : goal.decreases-expand_pairs-loop-k
-decreases-expand_pairs-loop-k l = l.to - l.k
 
 abbrev pub invariant-expand_way-loop-n : goal.invariant-expand_way-loop-n
 invariant-expand_way-loop-n l = Walking l.t l.node l.top l.initial.marks l.initial.out l.marks l.out l.n

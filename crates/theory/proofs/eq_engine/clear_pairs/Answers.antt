@@ -1,11 +1,6 @@
-use Rattle.theory.proofs.Memory.PairIndex.{empty_first, empty_next, empty_done}
+-- The heads are filled with 0, then the count is set.
+use Rattle.theory.proofs.Memory.PairIndex.{no_pairs}
 use Rattle.theory.proofs.eq_engine.clear_pairs.Goals as goal
 
-pub loop-h-init : goal.loop-h-init
-loop-h-init c = search empty_first
-
-pub loop-h-preserved : goal.loop-h-preserved
-loop-h-preserved c = search empty_next
-
 pub returns : goal.returns
-returns c = search empty_done
+returns c = no_pairs _ _ _ c.requires (c.fill.ensures.after (λ y q. q)) c.put_at.ensures

@@ -4,6 +4,3 @@ use Rattle.theory.proofs.eq_engine.cut_pairs.Given as goal
 
 abbrev pub invariant-loop-j : goal.invariant-loop-j
 invariant-loop-j l = Cutting l.initial.t l.t l.n l.j
-
-abbrev pub decreases-loop-j : goal.decreases-loop-j
-decreases-loop-j l = l.j

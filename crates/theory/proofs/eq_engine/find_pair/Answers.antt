@@ -1,9 +1,8 @@
-use Rattle.shinri_core.proofs.Kit.{refl}
 use Rattle.theory.proofs.Memory.PairIndex.{seek_first, seek_next, seek_less, seek_found, seek_missing}
 use Rattle.theory.proofs.eq_engine.find_pair.Goals as goal
 
 pub loop-k-init : goal.loop-k-init
-loop-k-init c = search (seek_first, refl)
+loop-k-init c = search seek_first
 
 pub returns-then-is_pair : goal.returns-then-is_pair
 returns-then-is_pair c = search seek_found

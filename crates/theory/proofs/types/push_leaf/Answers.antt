@@ -1,23 +1,21 @@
--- By the kind of the leaf.
-use Rattle.shinri_core.proofs.Kit.{sym, subst, rules}
-use Rattle.theory.specs.Memory.Answer.{HasRoom, Pushed}
-use Rattle.theory.proofs.Memory.Leaves.{asserted_is, interface_is}
+-- A leaf that does not stand there has room; it goes to the head of its bucket, and its words follow.
+use Rattle.shinri_core.proofs.Kit.{sym, subst}
+use Rattle.theory.specs.Memory.Answer.{Pushed}
+use Rattle.theory.proofs.Memory.Leaves.{pushable, linkable, pushed_old, pushed_new}
 use Rattle.theory.proofs.types.push_leaf.Goals as goal
 
-pub push_words-requires : goal.push_words-requires
-push_words-requires c =
-    let z = c.requires in
-    let room = subst (HasRoom _) (asserted_is _ _ c.in-Asserted.is) z.1 in
-    record { sound = z.0; kind_fits = search rules; value_fits = search rules; room = room }
+pub returns-then-has_leaf : goal.returns-then-has_leaf
+returns-then-has_leaf c =
+    let h = c.leaf_words-w.ensures in
+    subst (Pushed _ _) (sym h.is) (pushed_old _ _ _ _ (pushable c.requires h) c.has_leaf.ensures c.if-has_leaf.true)
 
-pub push_words-requires-in-Interface : goal.push_words-requires-in-Interface
-push_words-requires-in-Interface c =
-    let z = c.requires in
-    let room = subst (HasRoom _) (interface_is _ _ c.in-Interface.is) z.1 in
-    record { sound = z.0; kind_fits = search rules; value_fits = search rules; room = room }
+pub link_leaf-requires : goal.link_leaf-requires
+link_leaf-requires c =
+    linkable (pushable c.requires c.leaf_words-w.ensures) c.has_leaf.ensures c.if-has_leaf.false c.get_at-n.ensures.0
 
-pub returns-in-Asserted : goal.returns-in-Asserted
-returns-in-Asserted c = subst (Pushed _ _) (sym (asserted_is _ _ c.in-Asserted.is)) c.push_words.ensures
-
-pub returns-in-Interface : goal.returns-in-Interface
-returns-in-Interface c = subst (Pushed _ _) (sym (interface_is _ _ c.in-Interface.is)) c.push_words-in-Interface.ensures
+pub returns : goal.returns
+returns c =
+    let h = c.leaf_words-w.ensures in
+    subst (Pushed _ _) (sym h.is)
+    (pushed_new (pushable c.requires h) c.has_leaf.ensures c.if-has_leaf.false c.get_at-n.ensures.0 c.link_leaf.ensures c.put_at.ensures
+    c.put_at-2.ensures c.put_at-3.ensures)
