@@ -1,6 +1,6 @@
 // A session kept open between calls as session::kept keeps one, except that the room for a call is lent too, behind what the fourth table
 // keeps (specs/Kept.antt). It is closed by session's `close`, whatever the lengths of its tables.
-ghost use Rattle.std.specs.Prelude.{◌≤◌, length};
+ghost use Rattle.std.specs.Prelude.{◌≡◌, ◌≤◌, length};
 ghost use Rattle.session.specs.Memory.Sessions.{beside};
 ghost use Rattle.session.specs.Memory.Running.{Answerable, AnswersLine};
 ghost use Rattle.session.specs.Memory.Kept.{tables, Exact, TriesLine};
@@ -49,23 +49,33 @@ fn answer_line(
     put_answer(a, &kept[ANSWER..CORE], output, 0)
 }
 
+// One slice over another. (`copy_from_slice` would need C's `memmove`.)
+fn copy(from: &[u32], to: &mut [u32])
+    requires { length from.now ≡ length to.old }
+    ensures { to.new ≡ from.now }
+{
+    for (i, word) in from.iter().enumerate() {
+        to[i] = *word;
+    }
+}
+
 // Copies of the work tables, behind the answer table.
 fn save(c: &[u32], e: &[u32], s: &[u32], kept: &mut [u32])
     requires { Exact c.now e.now s.now × (kept_words ≤ length kept.old) }
     ensures { Saves c.now e.now s.now kept.old kept.new }
 {
-    kept[CORE..THEORY].copy_from_slice(c);
-    kept[THEORY..SOLVER].copy_from_slice(e);
-    kept[SOLVER..KEPT_WORDS].copy_from_slice(s);
+    copy(c, &mut kept[CORE..THEORY]);
+    copy(e, &mut kept[THEORY..SOLVER]);
+    copy(s, &mut kept[SOLVER..KEPT_WORDS]);
 }
 
 fn restore(kept: &[u32], c: &mut [u32], e: &mut [u32], s: &mut [u32])
     requires { Exact c.old e.old s.old × (kept_words ≤ length kept.now) }
     ensures { Saved kept.now c.new e.new s.new }
 {
-    c.copy_from_slice(&kept[CORE..THEORY]);
-    e.copy_from_slice(&kept[THEORY..SOLVER]);
-    s.copy_from_slice(&kept[SOLVER..KEPT_WORDS]);
+    copy(&kept[CORE..THEORY], c);
+    copy(&kept[THEORY..SOLVER], e);
+    copy(&kept[SOLVER..KEPT_WORDS], s);
 }
 
 // A line whose answer line does not fit leaves the work tables as they were. session::kept works on copies in locals instead.

@@ -1,23 +1,24 @@
 // Reading a line: question 3 whole (specs/Line.antt, specs/Memory/Commands.antt).
-ghost use Rattle.std.specs.Prelude.{◌≡◌, [], ◌∷◌, ◌≤◌, ◌<◌, length, Some};
+ghost use Rattle.std.specs.Prelude.{◌≡◌, cond, ℕ, List, [], ◌∷◌, ◌≤◌, length, take, Some};
 ghost use Rattle.shinri_core.specs.Lists.{first, same_list};
 ghost use Rattle.session.specs.Line as Line;
 ghost use Rattle.session.specs.Memory.Lines.{KeyRoom};
-ghost use Rattle.session.specs.Memory.Commands.{max_numbers, list_key, one_key, pair_key, key_meaning, ReadsKey, ReadsAs, ReadsLine};
+ghost use Rattle.session.specs.Memory.Commands.{max_numbers, list_key, one_key, pair_key, key_meaning, others, OthersFit, NumbersStand, ReadsKey, ReadsAs, ReadsAlone, ReadsLine};
 
 use crate::numbers::read_numbers;
 use crate::reader::first_byte;
 use shinri_core::ids::{Lit, SortId, SymbolId, TermId, Var};
 use theory::types::TheoryJust;
 
-// A line that reads. The numbers behind the first of a list stand in the table of numbers.
+// A line that reads. Where it has a list of numbers behind its first, it is held how many: they stand in the table of numbers from its
+// second word on. (A slice of them would borrow the table, and no clause could say what the table holds after the call.)
 #[derive(Clone, Copy)]
-pub enum Command<'a> {
+pub enum Command {
     DeclareSort(bool),
-    DeclareCtor(SortId, &'a [u32]),
-    DeclareFun(SortId, &'a [u32]),
+    DeclareCtor(SortId, usize),
+    DeclareFun(SortId, usize),
     Close,
-    MkTerm(SymbolId, &'a [u32]),
+    MkTerm(SymbolId, usize),
     MkEq(TermId, TermId),
     Register(Var, TermId),
     Equate(Lit),
@@ -73,69 +74,47 @@ pub enum Key {
     Iface,
 }
 
-// In the order in which they are tried.
-const KEYS: [Key; 15] = [
-    Key::Sort,
-    Key::List(ListKey::Ctor),
-    Key::List(ListKey::Fun),
-    Key::One(OneKey::Close),
-    Key::List(ListKey::Term),
-    Key::Pair(PairKey::Eq),
-    Key::Pair(PairKey::Var),
-    Key::One(OneKey::Equate),
-    Key::Pair(PairKey::Cong),
-    Key::Iface,
-    Key::One(OneKey::Assert),
-    Key::One(OneKey::Differ),
-    Key::One(OneKey::Push),
-    Key::One(OneKey::Pop),
-    Key::One(OneKey::Check),
-];
-
-impl Key {
-    #[tactic(auto, unfolding(crate::specs::Line::key_text, crate::specs::Text::bytes))]
-    fn text(self) -> &'static [u8]
-        ensures { result.now ≡ Line.key_text (key_meaning self) }
-    {
-        match self {
-            Key::Sort => b"sort",
-            Key::List(ListKey::Ctor) => b"ctor",
-            Key::List(ListKey::Fun) => b"fun",
-            Key::One(OneKey::Close) => b"close",
-            Key::List(ListKey::Term) => b"term",
-            Key::Pair(PairKey::Eq) => b"eq",
-            Key::Pair(PairKey::Var) => b"var",
-            Key::One(OneKey::Equate) => b"equate",
-            Key::Pair(PairKey::Cong) => b"cong",
-            Key::Iface => b"iface",
-            Key::One(OneKey::Assert) => b"assert",
-            Key::One(OneKey::Differ) => b"differ",
-            Key::One(OneKey::Push) => b"push",
-            Key::One(OneKey::Pop) => b"pop",
-            Key::One(OneKey::Check) => b"check",
-        }
-    }
+// Is it this text? Texts of keys are short and known, so the comparison is spelled out for each: `==` of slices would call a function.
+fn same_text(k: &[u8], text: &[u8]) -> bool
+    ensures { result ≡ same_list k.now text.now }
+{
+    k.len() == text.len() && k.iter().zip(text).all(|(a, b)| a == b)
 }
 
-// The key of a text. A `match` on the byte strings tests byte by byte, and its proof has 55 cases in which no key fits.
+// The key if k is its text, else what the keys behind it are found to be.
+fn key_or(k: &[u8], text: &[u8], key: Key, other: Option<Key>) -> Option<Key>
+    ensures { result ≡ cond (same_list k.now text.now) (Some key) other }
+{
+    if same_text(k, text) { Some(key) } else { other }
+}
+
+// The keys in the order of the definition, tried from the last to the first: an earlier one takes the place of a later one.
 fn read_key(k: &[u8]) -> Option<Key>
     ensures { ReadsKey (first (λ x. same_list k.now (Line.key_text x)) Line.keys) result }
 {
-    for key in &KEYS {
-        if k == key.text() {
-            return Some(*key);
-        }
-    }
-    None
+    let check = key_or(k, b"check", Key::One(OneKey::Check), None);
+    let pop = key_or(k, b"pop", Key::One(OneKey::Pop), check);
+    let push = key_or(k, b"push", Key::One(OneKey::Push), pop);
+    let differ = key_or(k, b"differ", Key::One(OneKey::Differ), push);
+    let assert = key_or(k, b"assert", Key::One(OneKey::Assert), differ);
+    let iface = key_or(k, b"iface", Key::Iface, assert);
+    let cong = key_or(k, b"cong", Key::Pair(PairKey::Cong), iface);
+    let equate = key_or(k, b"equate", Key::One(OneKey::Equate), cong);
+    let var = key_or(k, b"var", Key::Pair(PairKey::Var), equate);
+    let eq = key_or(k, b"eq", Key::Pair(PairKey::Eq), var);
+    let term = key_or(k, b"term", Key::List(ListKey::Term), eq);
+    let close = key_or(k, b"close", Key::One(OneKey::Close), term);
+    let fun = key_or(k, b"fun", Key::List(ListKey::Fun), close);
+    let ctor = key_or(k, b"ctor", Key::List(ListKey::Ctor), fun);
+    key_or(k, b"sort", Key::Sort, ctor)
 }
 
 // ---- the numbers of a key
 
-// A first number and those behind it.
+// A first number, and how many stand behind it.
 #[tactic(auto, unfolding(crate::specs::Line::by_key, crate::specs::Line::some_or_more))]
-fn by_list(k: ListKey, x: u32, more: &[u32]) -> Command<'_>
-    requires { length more.now < max_numbers }
-    ensures { ReadsAs (Line.by_key (list_key k) (x ∷ more.now)) (Some result) }
+fn by_list(k: ListKey, x: u32, more: usize) -> Command
+    ensures { (ns : List ℕ) → OthersFit more (length ns) → ReadsAs (Line.by_key (list_key k) (x ∷ others more ns)) (Some result) ns }
 {
     match k {
         ListKey::Ctor => Command::DeclareCtor(SortId(x), more),
@@ -146,8 +125,8 @@ fn by_list(k: ListKey, x: u32, more: &[u32]) -> Command<'_>
 
 // 0 or 1 after `check`.
 #[tactic(auto, unfolding(crate::specs::Line::effort))]
-fn effort<'a>(x: u32) -> Option<Command<'a>>
-    ensures { ReadsAs (Line.effort x) result }
+fn effort(x: u32) -> Option<Command>
+    ensures { ReadsAlone (Line.effort x) result }
 {
     match x {
         1 => Some(Command::Check(true)),
@@ -158,8 +137,8 @@ fn effort<'a>(x: u32) -> Option<Command<'a>>
 
 // `close` and `push` are written only with 1.
 #[tactic(auto, unfolding(crate::specs::Line::by_key, crate::specs::Line::just_one, crate::specs::Line::only_one))]
-fn by_one<'a>(k: OneKey, x: u32) -> Option<Command<'a>>
-    ensures { ReadsAs (Line.by_key (one_key k) (x ∷ [])) result }
+fn by_one(k: OneKey, x: u32) -> Option<Command>
+    ensures { ReadsAlone (Line.by_key (one_key k) (x ∷ [])) result }
 {
     match k {
         OneKey::Close => (x == 1).then_some(Command::Close),
@@ -173,8 +152,8 @@ fn by_one<'a>(k: OneKey, x: u32) -> Option<Command<'a>>
 }
 
 #[tactic(auto, unfolding(crate::specs::Line::by_key, crate::specs::Line::just_two))]
-fn by_pair<'a>(k: PairKey, x: u32, y: u32) -> Command<'a>
-    ensures { ReadsAs (Line.by_key (pair_key k) (x ∷ y ∷ [])) (Some result) }
+fn by_pair(k: PairKey, x: u32, y: u32) -> Command
+    ensures { ReadsAlone (Line.by_key (pair_key k) (x ∷ y ∷ [])) (Some result) }
 {
     match k {
         PairKey::Eq => Command::MkEq(TermId(x), TermId(y)),
@@ -185,8 +164,8 @@ fn by_pair<'a>(k: PairKey, x: u32, y: u32) -> Command<'a>
 
 // H at most 65,535.
 #[tactic(auto, unfolding(crate::specs::Line::iface))]
-fn iface<'a>(t: u32, u: u32, h: u32, g: u32) -> Option<Command<'a>>
-    ensures { ReadsAs (Line.iface t u h g) result }
+fn iface(t: u32, u: u32, h: u32, g: u32) -> Option<Command>
+    ensures { ReadsAlone (Line.iface t u h g) result }
 {
     let just = TheoryJust {
         theory: u16::try_from(h).ok()?,
@@ -195,32 +174,28 @@ fn iface<'a>(t: u32, u: u32, h: u32, g: u32) -> Option<Command<'a>>
     Some(Command::Iface(TermId(t), TermId(u), just))
 }
 
-// The numbers after a key: each asks for its count of them. The counts are tested by length, since a proof knows no length where
-// a slice's pattern of so many fails.
-fn by_key(k: Key, numbers: &[u32]) -> Option<Command<'_>>
-    requires { length numbers.now ≤ max_numbers }
-    ensures { ReadsAs (Line.by_key (key_meaning k) numbers.now) result }
+// The first n numbers of the table, after a key: each asks for its count of them.
+fn by_key(k: Key, n: usize, numbers: &[u32]) -> Option<Command>
+    requires { NumbersStand n numbers.now }
+    ensures { ReadsAs (Line.by_key (key_meaning k) (take n numbers.now)) result numbers.now }
 {
     match k {
         Key::Sort => None,
-        Key::List(l) => match numbers {
-            [x, more @ ..] => Some(by_list(l, *x, more)),
-            [] => None,
-        },
+        Key::List(l) => Some(by_list(l, numbers[0], n - 1)),
         Key::One(o) => {
-            if numbers.len() != 1 {
+            if n != 1 {
                 return None;
             }
             by_one(o, numbers[0])
         }
         Key::Pair(p) => {
-            if numbers.len() != 2 {
+            if n != 2 {
                 return None;
             }
             Some(by_pair(p, numbers[0], numbers[1]))
         }
         Key::Iface => {
-            if numbers.len() != 4 {
+            if n != 4 {
                 return None;
             }
             iface(numbers[0], numbers[1], numbers[2], numbers[3])
@@ -231,8 +206,8 @@ fn by_key(k: Key, numbers: &[u32]) -> Option<Command<'_>>
 // ---- the value
 
 // The letter of a sort.
-fn letter_sort<'a>(v: &[u8]) -> Option<Command<'a>>
-    ensures { ReadsAs (Line.letter_sort v.now) result }
+fn letter_sort(v: &[u8]) -> Option<Command>
+    ensures { ReadsAlone (Line.letter_sort v.now) result }
 {
     if v == b"d".as_slice() {
         return Some(Command::DeclareSort(true));
@@ -244,13 +219,16 @@ fn letter_sort<'a>(v: &[u8]) -> Option<Command<'a>>
 }
 
 // Only the key of a sort takes a letter.
-fn by_value<'a>(k: Key, v: &[u8], numbers: &'a mut [u32]) -> Option<Command<'a>>
+fn by_value(k: Key, v: &[u8], numbers: &mut [u32]) -> Option<Command>
     requires { max_numbers ≤ length numbers.old }
-    ensures { ReadsAs (Line.by_value (key_meaning k) v.now) result }
+    ensures { ReadsAs (Line.by_value (key_meaning k) v.now) result numbers.new }
 {
     match k {
         Key::Sort => letter_sort(v),
-        _ => by_key(k, read_numbers(v, numbers)?),
+        _ => {
+            let n = read_numbers(v, numbers)?;
+            by_key(k, n, numbers)
+        }
     }
 }
 
@@ -264,9 +242,9 @@ fn key_room(line: &[u8]) -> usize
 }
 
 // Question 3: does a line read? Its numbers go to the table.
-pub fn read_line<'a>(line: &[u8], numbers: &'a mut [u32]) -> Option<Command<'a>>
+pub fn read_line(line: &[u8], numbers: &mut [u32]) -> Option<Command>
     requires { max_numbers ≤ length numbers.old }
-    ensures { ReadsLine line.now result }
+    ensures { ReadsLine line.now result numbers.new }
 {
     let at = first_byte(&line[..key_room(line)], 0, b'=')?;
     let k = read_key(&line[..at])?;

@@ -11,14 +11,18 @@ use crate::run::MAX_NUMBERS;
 fn read_digits(ds: &[u8]) -> Option<u32>
     ensures { number_meaning result ≡ digits_from 0 ds.now }
 {
-    let mut n: u32 = 0;
+    // in 64 bits no product or sum is too large, so that one test says whether the number is
+    let mut n: u64 = 0;
     for d in ds {
         if !d.is_ascii_digit() {
             return None;
         }
-        n = n.checked_mul(10)?.checked_add((*d - b'0') as u32)?;
+        n = n * 10 + (*d - b'0') as u64;
+        if n > u32::MAX as u64 {
+            return None;
+        }
     }
-    Some(n)
+    Some(n as u32)
 }
 
 // A decimal number up to 4,294,967,295 without leading zeros.
@@ -34,18 +38,18 @@ pub fn read_number(ds: &[u8]) -> Option<u32>
     read_digits(ds)
 }
 
-// The numbers between the commas of a value, put to the start of a table; none if one does not read or there are more than 17.
-pub fn read_numbers<'a>(v: &[u8], numbers: &'a mut [u32]) -> Option<&'a [u32]>
+// The numbers between the commas of a value go to the start of a table. Given is how many they are; none if one does not read or there
+// are more than 17.
+pub fn read_numbers(v: &[u8], numbers: &mut [u32]) -> Option<usize>
     requires { max_numbers ≤ length numbers.old }
-    ensures { ReadsNumbers v.now result }
+    ensures { ReadsNumbers v.now result numbers.new }
 {
     let mut from = 0;
     for n in 0..MAX_NUMBERS {
-        let comma = first_byte(v, from, b',');
-        let end = comma.unwrap_or(v.len());
+        let end = first_byte(v, from, b',').unwrap_or(v.len());
         numbers[n] = read_number(&v[from..end])?;
-        if comma.is_none() {
-            return Some(&numbers[..n + 1]);
+        if end == v.len() {
+            return Some(n + 1);
         }
         from = end + 1;
     }

@@ -23,11 +23,12 @@ fn perform(
     e: &mut [u32],
     s: &mut [u32],
     kept: &mut Beside,
-    k: Command<'_>,
+    k: Command,
+    numbers: &[u32],
     out: &mut [u32],
 ) -> Result<Answer, Refusal>
-    requires { Performable c.old e.old s.old (beside e.old kept.old.counts kept.old.closed) k out.old }
-    ensures { Performs k.entry c.old e.old s.old
+    requires { Performable c.old e.old s.old (beside e.old kept.old.counts kept.old.closed) k numbers.now out.old }
+    ensures { Performs k numbers.now c.old e.old s.old
         (beside e.old kept.old.counts kept.old.closed) result c.new e.new s.new
         (beside e.new kept.new.counts kept.new.closed) out.new }
 {
@@ -35,10 +36,10 @@ fn perform(
     let late = kept.closed;
     match k {
         Command::DeclareSort(datatype) => sort_line(c, late, datatype),
-        Command::DeclareCtor(dt, fields) => ctor_line(c, late, dt, fields),
-        Command::DeclareFun(result, args) => fun_line(c, late, result, args),
+        Command::DeclareCtor(dt, n) => ctor_line(c, late, dt, &numbers[1..n + 1]),
+        Command::DeclareFun(result, n) => fun_line(c, late, result, &numbers[1..n + 1]),
         Command::Close => close_line(c, &mut kept.closed),
-        Command::MkTerm(f, args) => term_line(c, late, f, args),
+        Command::MkTerm(f, n) => term_line(c, late, f, &numbers[1..n + 1]),
         Command::MkEq(t, u) => eq_line(c, late, t, u),
         Command::Register(v, x) => var_line(c, s, late, v, x),
         Command::Equate(l) => equate_line(c, e, s, late, l),
@@ -67,6 +68,8 @@ pub fn step(
         (beside e.old kept.old.counts kept.old.closed) result c.new e.new s.new
         (beside e.new kept.new.counts kept.new.closed) out.new }
 {
-    let k = read_line(line, numbers).ok_or(Refusal::Unreadable)?;
-    perform(c, e, s, kept, k, out)
+    match read_line(line, numbers) {
+        Some(k) => perform(c, e, s, kept, k, numbers, out),
+        None => Err(Refusal::Unreadable),
+    }
 }

@@ -25,6 +25,10 @@ pub fn write_text(buf: &mut [u8], at: usize, text: &[u8]) -> usize
 pub fn decimal_length(n: u32) -> usize
     ensures { (result ≡ length (decimal n)) × (result ≤ 10) }
 {
+    // most numbers of an answer have one digit, which takes no logarithm
+    if n < 10 {
+        return 1;
+    }
     n.checked_ilog10().unwrap_or(0) as usize + 1
 }
 
@@ -33,6 +37,9 @@ pub fn write_decimal(buf: &mut [u8], at: usize, n: u32) -> usize
     requires { Room buf.old at (decimal n) }
     ensures { Written buf.old at (decimal n) buf.new result }
 {
+    if n < 10 {
+        return write_byte(buf, at, b'0' + n as u8);
+    }
     let end = at + decimal_length(n);
     let mut rest = n;
     for place in (at..end).rev() {

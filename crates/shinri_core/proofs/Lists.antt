@@ -1,10 +1,8 @@
 -- Laws of the list functions that the definitions share.
-use Rattle.shinri_core.proofs.Kit.{ℕ, zero, suc, ◌+◌, ◌≤◌, ◌<◌, ◌≡◌, refl, sym, subst, subst⁻¹, ap, ap₂, ◌∙◌, ◌⊎◌, inl, inr, Bool, true, false, cond, not, ◌&&◌, ◌||◌, false≢true, List, [], ◌∷◌, ◌++◌, map, le_antisymm, add-zero, add-suc, suc-add, dec_le, arith, T, eqb, eqb→eq, eqb_refl, eq-eqb, length, get_or, take, drop, replicate, set, length-set, drop_of_length-le, sets, get_or-set_same, get_or-set_other, drop-cons}
+use Rattle.shinri_core.proofs.Kit.{ℕ, zero, suc, ◌+◌, ◌≤◌, ◌<◌, ◌≡◌, refl, sym, subst, subst⁻¹, ap, ap₂, ◌∙◌, ◌⊎◌, inl, inr, Bool, true, false, cond, not, ◌&&◌, ◌||◌, false≢true, List, [], ◌∷◌, ◌++◌, map, le_antisymm, add-zero, add-suc, suc-add, dec_le, arith, T, eqb, eqb→eq, eqb_refl, eq-eqb, ne_eqb, length, get_or, take, drop, replicate, set, length-set, drop_of_length-le, sets, get_or-set_same, get_or-set_other, drop-cons}
 pub use Rattle.shinri_core.specs.Lists.{In}
-use lib.Pointwise.{pointwise}
 use Rattle.std.specs.Bool.{Decides}
-use Rattle.std.proofs.lemmas.Bool.Decides.{Decides-eqb, same_from_decides}
-use Rattle.std.proofs.lemmas.Slice.Eq.{slice_eq-Decides}
+use Rattle.std.proofs.lemmas.Bool.Decides.{same_from_decides}
 use Rattle.shinri_core.specs.Lists.{keep, every, any, range, same_list, mem}
 
 -- ---- tests
@@ -269,12 +267,15 @@ same_list_same (x ∷ xs) = rw (eq-eqb x x refl, same_list_same xs)
 pub same_list_not : (xs ys : List ℕ) → (xs ≡ ys → ⊥) → same_list xs ys ≡ false
 same_list_not xs ys n = not_true_false (same_list xs ys) (λ e. n (same_list_eq xs ys (true_T (same_list xs ys) e)))
 
--- what `==` says of two slices
-pub slices_same : (xs ys : List ℕ) (r : Bool) → r ≡ pointwise eqb xs ys → r ≡ same_list ys xs
-slices_same xs ys r e = same_from_decides r (same_list ys xs) (slice_eq-Decides Decides-eqb xs ys r e) both
+-- what a comparison of two slices says, by their lengths and their elements
+pub slices_same : (xs ys : List ℕ) (r : Bool) → Decides r (xs ≡ ys) → r ≡ same_list xs ys
+slices_same xs ys r d = same_from_decides r (same_list xs ys) d both
   where
-    both : Decides (same_list ys xs) (xs ≡ ys)
-    both = (λ q. sym (same_list_eq ys xs (true_T (same_list ys xs) q)), λ q. rw q (same_list_same ys))
+    both : Decides (same_list xs ys) (xs ≡ ys)
+    both = (λ q. same_list_eq xs ys (true_T (same_list xs ys) q), λ q. rw (sym q) (same_list_same xs))
+
+pub lengths_differ : (xs ys : List ℕ) → (length xs ≡ length ys → ⊥) → eqb (length xs) (length ys) ≡ same_list xs ys
+lengths_differ xs ys n = ne_eqb (length xs) (length ys) n ∙ sym (same_list_not xs ys (λ e. n (ap length e)))
 
 -- ---- a loop that copies vs into t₀ from a place on
 

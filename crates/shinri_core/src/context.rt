@@ -4,14 +4,14 @@ ghost use Rattle.shinri_core.specs.Limits.{max_sorts, max_symbols, max_terms, ma
 ghost use Rattle.shinri_core.specs.Context.{empty_context, cut_terms, declare_sort, declare_fun, selectors_from, dt_add_constructor, builds, dt_tester, datatypes, ready, has_ready_fields, all_grounded, places, is_datatype_sort, symbol, children, sort_of};
 ghost use Rattle.shinri_core.specs.Memory.Words.{put_all};
 ghost use Rattle.shinri_core.specs.Memory.Table.{symbols#, terms#, digit, packed, term_at, context, buckets, bucket, AllBelow, ContextSound, HasParam, FindsApp, MayIntern, MayApply, MayEquate, Appendable, Appended, MayDeclare, SymbolRoom, SymbolAdded, SelectorRoom, SymbolsAdded, NoTerms, NextConstructor, marked, adds, Marks, MarkRound};
-ghost use Rattle.shinri_core.specs.Lists.{every};
+ghost use Rattle.shinri_core.specs.Lists.{every, same_list};
 ghost use Rattle.shinri_core.specs.Term.{same_term};
 ghost use Rattle.shinri_core.specs.Memory.Codes.{op_code, op_meaning, owner_code, OpAt, RoleAt, MkApp, Declares, declared_node};
 ghost use Rattle.shinri_core.specs.Term as Term;
 
 use crate::ids::{SortId, SymbolId, TermId};
 use crate::limits::{MAX_PLACES, MAX_SORTS, MAX_SYMBOLS, MAX_TERMS, NoRoom};
-use crate::table::{get_at, put_at};
+use crate::table::{clear_at, get_at, put_at, words_at};
 use crate::term::{DtRole, Op, role_from};
 
 // ---- the layout of the table (specs/Memory/Table.antt)
@@ -71,7 +71,7 @@ fn clear_buckets(t: &mut [u32])
     requires { table_words ≤ length t.old }
     ensures { NoTerms t.new }
 {
-    t[BUCKET..BUCKET + BUCKETS].fill(0);
+    clear_at(t, BUCKET, BUCKETS);
 }
 
 // Whatever the table held, it is now that of an empty session.
@@ -137,12 +137,17 @@ pub fn arity(t: &[u32], f: SymbolId) -> usize
     get_at(t, ARITY, i)
 }
 
-// Digit d of a word.
+// Digit d of a word. The place is a constant in each arm, so that no arm divides.
 fn digit(w: usize, d: usize) -> usize
     requires { d < 4 }
     ensures { result ≡ digit w d }
 {
-    w / PLACES[d] % RADIX
+    match d {
+        0 => w % RADIX,
+        1 => w / PLACES[1] % RADIX,
+        2 => w / PLACES[2] % RADIX,
+        _ => w / PLACES[3] % RADIX,
+    }
 }
 
 // Parameter i of a symbol.
@@ -178,9 +183,7 @@ pub fn children(t: &[u32], x: TermId) -> &[u32]
     ensures { result.now ≡ children (context t.now) x.0 }
 {
     let i = x.0 as usize;
-    let start = POOL + get_at(t, OFFSET, i);
-    let end = POOL + get_at(t, OFFSET, i + 1);
-    &t[start..end]
+    words_at(t, POOL, get_at(t, OFFSET, i), get_at(t, OFFSET, i + 1))
 }
 
 pub fn sort_of(t: &[u32], x: TermId) -> SortId
@@ -195,12 +198,19 @@ pub fn sort_of(t: &[u32], x: TermId) -> SortId
 
 // ---- making terms
 
+// Are the given arguments a term's own? They are few, and mostly the same: `==` of slices would call a function for them.
+fn same_args(args: &[u32], own: &[u32]) -> bool
+    ensures { result ≡ same_list args.now own.now }
+{
+    args.len() == own.len() && args.iter().zip(own).all(|(a, b)| a == b)
+}
+
 // Is a term the operation over the given arguments? The operation is compared first.
 fn is_app(t: &[u32], x: TermId, operation: Op, args: &[u32]) -> bool
     requires { ContextSound t.now × (x.0 < terms# t.now) }
     ensures { result ≡ same_term (op_meaning operation) args.now (term_at t.now x.0) }
 {
-    get_at(t, OP, x.0 as usize) == usize::from(operation) && children(t, x) == args
+    get_at(t, OP, x.0 as usize) == usize::from(operation) && same_args(args, children(t, x))
 }
 
 // The bucket of an operation over the given arguments.
@@ -232,13 +242,16 @@ fn find_app(t: &[u32], operation: Op, args: &[u32]) -> Option<TermId>
     None
 }
 
-// The words are copied to a region, from a place of it on.
-fn copy_words(t: &mut [u32], base: usize, at: usize, words: &[u32])
+// The words are copied to a region, from a place of it on. (They are few. `copy_from_slice` would need C's `memmove`, and the library
+// calls nothing but `memcpy` and `memset`.)
+pub fn copy_words(t: &mut [u32], base: usize, at: usize, words: &[u32])
     requires { base + at + length words.now ≤ length t.old }
     ensures { t.new ≡ put_all t.old base at words.now }
 {
     let from = base + at;
-    t[from..from + words.len()].copy_from_slice(words);
+    for (i, word) in words.iter().enumerate() {
+        t[from + i] = *word;
+    }
 }
 
 // One more term, the n-th, whose arguments go to a place of the pool.

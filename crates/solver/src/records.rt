@@ -13,7 +13,7 @@ use crate::layout::{
 use crate::roles::term_kind;
 use shinri_core::context::{children, term_count};
 use shinri_core::ids::{TermId, Var};
-use shinri_core::table::{get_at, put_at};
+use shinri_core::table::{clear_at, get_at, put_at, words_at};
 use theory::atom;
 
 // The count of the records, the marks, the words of the blocks and the flags of all terms and keys stand side by side, from COUNTS on.
@@ -25,7 +25,7 @@ fn wipe(s: &mut [u32])
     requires { table_words ≤ length s.old }
     ensures { Wiped s.old s.new }
 {
-    s[COUNTS..COUNTS + FLAG_WORDS].fill(0);
+    clear_at(s, COUNTS, FLAG_WORDS);
 }
 
 // Whatever the table held, it is now that of an empty session.
@@ -80,7 +80,7 @@ pub fn has_app(s: &[u32]) -> bool
     requires { table_words ≤ length s.now }
     ensures { result ≡ false → NoneAnnounced s.now }
 {
-    s[BLOCK..BLOCK + BLOCKS].iter().any(|word| *word != 0)
+    words_at(s, BLOCK, 0, BLOCKS).iter().any(|word| *word != 0)
 }
 
 // Does a term stand in the lasting record?
@@ -88,7 +88,7 @@ pub fn has_lasting(t: &[u32], s: &[u32]) -> bool
     requires { ContextSound t.now × (table_words ≤ length s.now) }
     ensures { result ≡ false → NoneLasting t.now s.now }
 {
-    s[LASTING..LASTING + term_count(t)]
+    words_at(s, LASTING, 0, term_count(t))
         .iter()
         .any(|word| *word != 0)
 }

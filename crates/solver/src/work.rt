@@ -9,9 +9,9 @@ ghost use Rattle.solver.specs.Memory.Work.{W_MARK, W_BLOCK, ClassAsked, CtorAske
 
 use crate::layout::{BLOCK_TERMS, BLOCKS, Kind, MARK, mark_word};
 use crate::roles::term_kind;
-use shinri_core::context::{op, term_count};
+use shinri_core::context::{copy_words, op, term_count};
 use shinri_core::ids::{SymbolId, TermId};
-use shinri_core::table::{get_at, put_at};
+use shinri_core::table::{get_at, put_at, words_at};
 use shinri_core::term::Op;
 use theory::eq_engine::find;
 
@@ -160,7 +160,7 @@ fn copy_marks(t: &[u32], s: &[u32], w: &mut [u32])
     ensures { MarksCopied t.now s.now w.old w.new }
 {
     let n = term_count(t);
-    w[W_MARK..W_MARK + n].copy_from_slice(&s[MARK..MARK + n]);
+    copy_words(w, W_MARK, 0, words_at(s, MARK, 0, n));
 }
 
 // A constructor application goes before those of its class that stand there.

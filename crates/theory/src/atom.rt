@@ -6,7 +6,7 @@ ghost use Rattle.theory.specs.Memory.Registry.{registry_size, atoms, RegistrySou
 
 use shinri_core::ids::{TermId, Var};
 use shinri_core::limits::{MAX_TERMS, MAX_VARS};
-use shinri_core::table::{get_at, put_at};
+use shinri_core::table::{clear_at, get_at, put_at};
 
 // The regions of the table (specs/Memory/Registry.antt): how many variables, the variables as registered, for each variable one more
 // than its atom, for each atom one more than its first variable. A word of lent memory has no other way to say none than 0.
@@ -58,8 +58,8 @@ pub fn clear(t: &mut [u32])
     requires { registry_size ≤ length t.old }
     ensures { RegistrySound t.new × (atoms t.new ≡ []) }
 {
-    t[ATOM..ATOM + MAX_VARS].fill(0);
-    t[FIRST..FIRST + MAX_TERMS].fill(0);
+    clear_at(t, ATOM, MAX_VARS);
+    clear_at(t, FIRST, MAX_TERMS);
     put_at(t, COUNTS, VARS, 0);
 }
 

@@ -14,7 +14,7 @@ ghost use Rattle.theory.specs.Memory.Explaining.{NewPair, Way, Label, Pairs, up_
 use crate::types::{EqJust, EqLeaf, TheoryJust, push_leaf};
 use shinri_core::ids::{Lit, TermId};
 use shinri_core::limits::{MAX_PAIRS, MAX_TERMS};
-use shinri_core::table::{get_at, put_at};
+use shinri_core::table::{clear_at, get_at, put_at};
 
 // ---- the layout of the table (specs/Memory/Table.antt)
 
@@ -126,7 +126,7 @@ fn clear_pairs(t: &mut [u32])
     requires { engine_size ≤ length t.old }
     ensures { NoPairs t.new }
 {
-    t[HEAD..HEAD + BUCKETS].fill(0);
+    clear_at(t, HEAD, BUCKETS);
     put_at(t, INDEXED, 0, 0);
 }
 
@@ -250,7 +250,11 @@ impl From<EqJust> for EdgeLabel {
     fn from(j: EqJust) -> EdgeLabel {
         match j {
             EqJust::Asserted(p) => EdgeLabel::Asserted(p),
-            EqJust::Interface(k) => EdgeLabel::Interface(k),
+            // field by field: copied whole, the leaf would pass through the stack
+            EqJust::Interface(k) => EdgeLabel::Interface(TheoryJust {
+                theory: k.theory,
+                tag: k.tag,
+            }),
         }
     }
 }
@@ -659,7 +663,14 @@ fn expand_edge(t: &[u32], i: usize, marks: &mut [u8], out: &mut [u32])
     match label_at(t, i) {
         EdgeLabel::Asserted(p) => push_leaf(out, EqLeaf::Asserted(p)),
         EdgeLabel::Congruence { from, to } => expand_pairs(t, from, to, marks, out),
-        EdgeLabel::Interface(j) => push_leaf(out, EqLeaf::Interface(j)),
+        // field by field: copied whole, the leaf would pass through the stack, and a nested congruence take 32 bytes more
+        EdgeLabel::Interface(j) => push_leaf(
+            out,
+            EqLeaf::Interface(TheoryJust {
+                theory: j.theory,
+                tag: j.tag,
+            }),
+        ),
     }
 }
 

@@ -6,7 +6,7 @@ ghost use Rattle.theory.specs.Types.{AssertedLeaf};
 ghost use Rattle.theory.specs.Memory.Answer.{LEAF_KIND, LEAF_VALUE, answer_size, buckets, bucket, leaf_of, leaves, leaf_meaning, has_leaf, LeavesSound, HasRoom, LeafFits, HoldsLeaf, Linkable, linked, Pushed, Cleared};
 
 use shinri_core::ids::Lit;
-use shinri_core::table::{get_at, put_at};
+use shinri_core::table::{clear_at, get_at, put_at};
 
 // The leaf of another theory: which one, and a tag of its own.
 #[derive(Clone, Copy, PartialEq, Eq)]
@@ -53,7 +53,7 @@ pub fn clear_leaves(out: &mut [u32])
     requires { answer_size ≤ length out.old }
     ensures { Cleared out.new }
 {
-    out[BUCKET..BUCKET + BUCKETS].fill(0);
+    clear_at(out, BUCKET, BUCKETS);
     put_at(out, COUNTS, LEAVES, 0);
 }
 

@@ -3,7 +3,7 @@
 use Rattle.std.specs.Prelude.{Option, None, Some, is_some, Result, Ok, Err}
 use Rattle.std.specs.Option.{ok_or}
 use Rattle.std.proofs.lemmas.Option.{none-some}
-use Rattle.shinri_core.proofs.Kit.{ℕ, ◌+◌, ◌-◌, ◌≤◌, ◌<◌, ◌≡◌, refl, sym, ap, subst⁻¹, ◌∙◌, ◌⊎◌, inl, inr, Bool, true, false, false≢true, ◌&&◌, eqb, leb, List, ◌++◌, arith, le-leb, lt-leb, length, get_or, take, drop, length-take-le, length-drop, get_or-take, take-take, not}
+use Rattle.shinri_core.proofs.Kit.{ℕ, ◌+◌, ◌-◌, ◌≤◌, ◌<◌, ◌≡◌, refl, sym, ap, subst⁻¹, ◌∙◌, ◌⊎◌, inl, inr, Bool, true, false, false≢true, ◌&&◌, eqb, leb, List, ◌++◌, below_more, arith, le-leb, lt-leb, length, get_or, set, length-set, get_or-set_same, get_or-set_other, ext_get_or, take, drop, length-take-le, length-drop, get_or-take, take-take, not}
 use lib.ListN.{take-append-drop}
 use lib.Seq.{take_at, drop_at, drop-drop, take-add}
 use borrow.Rule.Slice.PartMut.{put_mid, mid_len, take_put, drop_put, same_len_mid}
@@ -25,6 +25,28 @@ use Rattle.session.proofs.Memory.Keeping as OwnKeeping
 use Rattle.session.proofs.Memory.Keeping.{suffices, all_same, same_behind, is_full, call_closed, call_full, done_call}
 use Rattle.kept.specs.Kept.{answer_in, Opens, OpensBy, Answered, AnswersHeld, Replies}
 use Rattle.kept.specs.Memory.Kept.{SameSession, ANSWER, CORE, THEORY, SOLVER, kept_words, suffice, KeptSound, SameKept, AnswerRoom, Saved, Saves, Triable, Holding, TriedOpen, AnswersOpen}
+
+-- ---- words copied
+
+-- the words below i are those of the other table, which is as long
+pub record CopyingWhole (from to : List ℕ) (i : ℕ) : Type 0 where
+  pub long : length from ≡ length to
+  pub done : (j : ℕ) → j < i → get_or to j 0 ≡ get_or from j 0
+
+pub whole_first : {from to : List ℕ} → length from ≡ length to → CopyingWhole from to 0
+whole_first e = record { long = e; done = λ j h. absurd (omega arith) }
+
+pub whole_next : {from to : List ℕ} {i : ℕ} → CopyingWhole from to i → i < length to → CopyingWhole from (set to i (get_or from i 0)) (i + 1)
+whole_next {from} {to} {i} z h = record {
+  long = z.long ∙ sym (length-set to i (get_or from i 0));
+  done =
+      below_more (λ (j : ℕ). get_or (set to i (get_or from i 0)) j 0 ≡ get_or from j 0) i
+      (λ j l. get_or-set_other to i j (get_or from i 0) 0 (omega arith) ∙ z.done j l)
+      (get_or-set_same to i (get_or from i 0) 0 h);
+}
+
+pub whole_done : {from to : List ℕ} {i : ℕ} → CopyingWhole from to i → length to ≤ i → to ≡ from
+whole_done {from} {to} z h = ext_get_or 0 to from (sym z.long) (λ j l. z.done j (omega arith))
 
 -- ---- parts of the fourth table
 

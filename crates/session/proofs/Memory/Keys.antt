@@ -1,11 +1,13 @@
 -- What a key asks of its numbers, and the numbers at the start of a table.
-use Rattle.shinri_core.proofs.Kit.{ℕ, suc, ◌+◌, ◌-◌, ◌≤◌, ◌<◌, ◌≡◌, refl, sym, ap, ◌∙◌, Bool, true, false, cond, ◌&&◌, List, [], ◌∷◌, map, Option, none, some, add-one, arith, le-leb, eqb, length, get_or, take, drop, take_all, drop-cons, drop_of_length-le}
+use Rattle.shinri_core.proofs.Kit.{ℕ, zero, suc, ◌-◌, ◌≤◌, ◌≡◌, refl, sym, ap, ◌∙◌, subst⁻¹, Bool, true, false, cond, ◌&&◌, List, [], ◌∷◌, Option, none, some, arith, le-leb, eqb, length, get_or, take, length-take-le}
 use lib.Pointwise.{pointwise}
+use Rattle.std.specs.Prelude.{Some, None}
+use Rattle.std.specs.declared.option.Option as GivenOption
 use Rattle.shinri_core.specs.Lists.{first, same_list}
 use Rattle.session.specs.Text.{comma, parts}
-use Rattle.session.specs.Line.{Key, Command, IfaceKey, some_or_more, just_one, just_two, just_four, by_key, numbers, at_most_17, by_value}
-use Rattle.session.specs.Memory.Numbers.{Read}
-use Rattle.session.specs.Memory.Commands.{list_key, one_key, pair_key, key_meaning}
+use Rattle.session.specs.Line.{Key, Command, IfaceKey, key_text, just_one, just_two, just_four, by_key, numbers, at_most_17, by_value}
+use Rattle.session.specs.Memory.Numbers.{ReadTo}
+use Rattle.session.specs.Memory.Commands.{one_key, pair_key, key_meaning, others, ReadsKey}
 use Rattle.session.specs.declared.line.Key as GivenKey
 use Rattle.session.specs.declared.line.ListKey as GivenList
 use Rattle.session.specs.declared.line.OneKey as GivenOne
@@ -26,27 +28,24 @@ eq_same (x ∷ xs) (y ∷ ys) = rw (eq_same xs ys) (go (eqb x y) (same_list xs y
 pub eq_is : (a b : List ℕ) {text : List ℕ} {r s : Bool} → r ≡ pointwise eqb a b → b ≡ text → r ≡ s → same_list a text ≡ s
 eq_is a b e t f = ap (same_list a) (sym t) ∙ sym (eq_same a b) ∙ sym e ∙ f
 
--- ---- the first of the keys with a text
+-- ---- the first of some keys that has this text
 
-module _ (p : Key → Bool) (ks : List GivenKey.Key) (i : ℕ) (d : GivenKey.Key) (h : i < length ks) where
-  -- those from place i on
-  abbrev rest : List Key
-  rest = map key_meaning (drop i ks)
+pub record Tried (text : List ℕ) (ks : List Key) (r : GivenOption.Option GivenKey.Key) : Type 0 where
+  pub is : ReadsKey (first (λ x. same_list text (key_text x)) ks) r
 
-  at_place : rest ≡ key_meaning (get_or ks i d) ∷ map key_meaning (drop (i + 1) ks)
-  at_place = rw (add-one, drop-cons ks i d h)
-
-  pub first_here : p (key_meaning (get_or ks i d)) ≡ true → first p rest ≡ some (key_meaning (get_or ks i d))
-  unfolding first
-  first_here e = rw (at_place, e)
-
-  pub first_later : p (key_meaning (get_or ks i d)) ≡ false → first p (map key_meaning (drop (i + 1) ks)) ≡ first p rest
-  unfolding first
-  first_later e = rw (at_place, e)
-
-pub first_none : (p : Key → Bool) (ks : List GivenKey.Key) (i : ℕ) → length ks ≤ i → first p (map key_meaning (drop i ks)) ≡ none
+pub none_tried : (text : List ℕ) → Tried text [] None
 unfolding first
-first_none p ks i h = rw (drop_of_length-le ks h)
+none_tried text = record { is = refl }
+
+pub one_tried : {text : List ℕ} {ks : List Key} {other r : GivenOption.Option GivenKey.Key} (k : Key) (g : GivenKey.Key) →
+    r ≡ cond (same_list text (key_text k)) (Some g) other → key_meaning g ≡ k → Tried text ks other → Tried text (k ∷ ks) r
+unfolding first
+one_tried {text} {ks} {other} k g e m h =
+    record { is = subst⁻¹ (ReadsKey (first (λ x. same_list text (key_text x)) (k ∷ ks))) e (go (same_list text (key_text k))) }
+  where
+    go : (b : Bool) → ReadsKey (cond b (some k) (first (λ x. same_list text (key_text x)) ks)) (cond b (Some g) other)
+    go true = ap some (sym m)
+    go false = h.is
 
 -- ---- another count of numbers
 
@@ -88,54 +87,39 @@ by_not_two GivenPair.TheVariants.Eq xs h = not_two _ xs h
 by_not_two GivenPair.TheVariants.Var xs h = not_two _ xs h
 by_not_two GivenPair.TheVariants.Cong xs h = not_two _ xs h
 
-no_number : (ns : List ℕ) → length ns < 1 → ns ≡ []
-no_number [] h = refl
-no_number (x ∷ ns) h = absurd (omega arith)
+-- ---- the first n words of a table
 
-by_none : (k : GivenList.ListKey) → by_key (list_key k) [] ≡ none
-unfolding by_key some_or_more
-by_none GivenList.TheVariants.Ctor = refl
-by_none GivenList.TheVariants.Fun = refl
-by_none GivenList.TheVariants.Term = refl
+module _ (ns : List ℕ) (n : ℕ) (h : n ≤ length ns) where
+  pub other_one : (k : GivenOne.OneKey) → (n ≡ 1 → ⊥) → none ≡ by_key (one_key k) (take n ns)
+  other_one k f = sym (by_not_one k (take n ns) (λ e. f (sym (length-take-le n ns h) ∙ e)))
 
-module _ (ns : List ℕ) where
-  pub other_some : (k : GivenList.ListKey) → length ns < 1 → none ≡ by_key (list_key k) ns
-  other_some k h = let e = no_number ns h in rw e (sym (by_none k))
+  pub other_two : (k : GivenPair.PairKey) → (n ≡ 2 → ⊥) → none ≡ by_key (pair_key k) (take n ns)
+  other_two k f = sym (by_not_two k (take n ns) (λ e. f (sym (length-take-le n ns h) ∙ e)))
 
-  pub other_one : (k : GivenOne.OneKey) → (length ns ≡ 1 → ⊥) → none ≡ by_key (one_key k) ns
-  other_one k f = sym (by_not_one k ns f)
-
-  pub other_two : (k : GivenPair.PairKey) → (length ns ≡ 2 → ⊥) → none ≡ by_key (pair_key k) ns
-  other_two k f = sym (by_not_two k ns f)
-
-  pub other_four : (length ns ≡ 4 → ⊥) → none ≡ by_key IfaceKey ns
+  pub other_four : (n ≡ 4 → ⊥) → none ≡ by_key IfaceKey (take n ns)
   unfolding by_key
-  other_four f = sym (not_four _ ns f)
+  other_four f = sym (not_four _ (take n ns) (λ e. f (sym (length-take-le n ns h) ∙ e)))
 
--- ---- few numbers
+pub take_some : (ns : List ℕ) (n : ℕ) → n ≤ length ns → 1 ≤ n → take n ns ≡ get_or ns 0 0 ∷ others (n - 1) ns
+take_some ns zero h l = absurd (omega arith)
+take_some [] (suc n) h l = absurd (omega arith)
+take_some (x ∷ ns) (suc n) h l = let e : suc n - 1 ≡ n = omega arith in rw e
 
-pub one_or_more : (ns : List ℕ) → 1 ≤ length ns → ns ≡ get_or ns 0 0 ∷ take (length ns - 1) (drop 1 ns)
-one_or_more [] h = absurd (omega arith)
-one_or_more (x ∷ ns) h = sym (ap (λ (ys : List ℕ). x ∷ ys) (take_all (suc (length ns) - 1) ns (omega arith)))
+pub take_one : (ns : List ℕ) (n : ℕ) → n ≤ length ns → n ≡ 1 → take n ns ≡ get_or ns 0 0 ∷ []
+take_one [] n h e = absurd (omega arith)
+take_one (x ∷ ns) n h e = rw e
 
-pub one_number : (ns : List ℕ) → length ns ≡ 1 → ns ≡ get_or ns 0 0 ∷ []
-one_number [] h = absurd (omega arith)
-one_number (x ∷ []) h = refl
-one_number (x ∷ y ∷ ns) h = absurd (omega arith)
+pub take_two : (ns : List ℕ) (n : ℕ) → n ≤ length ns → n ≡ 2 → take n ns ≡ get_or ns 0 0 ∷ get_or ns 1 0 ∷ []
+take_two [] n h e = absurd (omega arith)
+take_two (x ∷ []) n h e = absurd (omega arith)
+take_two (x ∷ y ∷ ns) n h e = rw e
 
-pub two_numbers : (ns : List ℕ) → length ns ≡ 2 → ns ≡ get_or ns 0 0 ∷ get_or ns 1 0 ∷ []
-two_numbers [] h = absurd (omega arith)
-two_numbers (x ∷ []) h = absurd (omega arith)
-two_numbers (x ∷ y ∷ []) h = refl
-two_numbers (x ∷ y ∷ z ∷ ns) h = absurd (omega arith)
-
-pub four_numbers : (ns : List ℕ) → length ns ≡ 4 → ns ≡ get_or ns 0 0 ∷ get_or ns 1 0 ∷ get_or ns 2 0 ∷ get_or ns 3 0 ∷ []
-four_numbers [] h = absurd (omega arith)
-four_numbers (x ∷ []) h = absurd (omega arith)
-four_numbers (x ∷ y ∷ []) h = absurd (omega arith)
-four_numbers (x ∷ y ∷ z ∷ []) h = absurd (omega arith)
-four_numbers (x ∷ y ∷ z ∷ w ∷ []) h = refl
-four_numbers (x ∷ y ∷ z ∷ w ∷ v ∷ ns) h = absurd (omega arith)
+pub take_four : (ns : List ℕ) (n : ℕ) → n ≤ length ns → n ≡ 4 → take n ns ≡ get_or ns 0 0 ∷ get_or ns 1 0 ∷ get_or ns 2 0 ∷ get_or ns 3 0 ∷ []
+take_four [] n h e = absurd (omega arith)
+take_four (x ∷ []) n h e = absurd (omega arith)
+take_four (x ∷ y ∷ []) n h e = absurd (omega arith)
+take_four (x ∷ y ∷ z ∷ []) n h e = absurd (omega arith)
+take_four (x ∷ y ∷ z ∷ w ∷ ns) n h e = rw e
 
 -- ---- the value
 
@@ -159,7 +143,11 @@ takes_numbers (GivenKey.TheVariants.Pair GivenPair.TheVariants.Var) v h = refl
 takes_numbers (GivenKey.TheVariants.Pair GivenPair.TheVariants.Cong) v h = refl
 takes_numbers GivenKey.TheVariants.Iface v h = refl
 
--- 1 to 17 numbers
-pub numbers_read : (k : Key) (v ns : List ℕ) → Read v ns → at_most_17 k (numbers (parts comma v)) ≡ by_key k ns
+-- 1 to 17 numbers at the start of a table
+pub numbers_read : (k : Key) (v ns : List ℕ) {n : ℕ} → ReadTo v n ns → n ≤ length ns →
+    at_most_17 k (numbers (parts comma v)) ≡ by_key k (take n ns)
 unfolding at_most_17
-numbers_read k v ns w = let few = w.most in ap (at_most_17 k) w.is ∙ rw (le-leb (length ns) 17 (omega arith))
+numbers_read k v ns {n} w h =
+    let m = w.most in
+    let l = length-take-le n ns h in
+    ap (at_most_17 k) w.is ∙ rw (le-leb (length (take n ns)) 17 (omega arith))

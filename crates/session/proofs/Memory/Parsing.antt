@@ -8,7 +8,7 @@ use Rattle.session.specs.Text.{comma, parts, is_digit, value, well_written, numb
 use Rattle.session.specs.Line.{Key, add_number, numbers, at_most_17}
 use Rattle.session.specs.Memory.Lines.{FirstByte}
 use Rattle.session.specs.Memory.Commands.{max_numbers}
-use Rattle.session.specs.Memory.Numbers.{value_from, digits_from, Unread, Read}
+use Rattle.session.specs.Memory.Numbers.{value_from, digits_from, Unread, ReadTo}
 use Rattle.session.proofs.Memory.Splitting.{some_part, first_part, part_from, last_from}
 
 -- ---- digits
@@ -211,10 +211,11 @@ module _ {v start ns : List ℕ} {from n end : ℕ} (w : Taken v start ns from n
     with_one ps q =
         part_read (some x) ps e q ∙ one_before (take n ns) x (numbers ps) ∙ ap (λ (xs : List ℕ). with_behind xs (numbers ps)) one_more
 
-    pub taken_last : end ≡ length v → Read v (take (n + 1) (set ns n x))
+    pub taken_last : end ≡ length v → ReadTo v (n + 1) (set ns n x)
     unfolding with_behind numbers
     taken_last g = record {
-      most = let s = w.same in let a = length-set ns n x in let t = length-take-le (n + 1) (set ns n x) (omega arith) in omega arith;
+      any = omega arith;
+      most = omega arith;
       is = with_one [] (last_from comma v from end f g) ∙ ap some (append-nil (take (n + 1) (set ns n x)));
     }
 

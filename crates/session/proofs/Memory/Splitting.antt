@@ -1,6 +1,6 @@
 -- The first of a byte in a text: what lines, parts and key=value are before and behind it.
-use Rattle.shinri_core.proofs.Kit.{ℕ, zero, suc, ◌+◌, ◌-◌, ◌≤◌, ◌<◌, ◌≡◌, refl, sym, ap, ap₂, ◌∙◌, subst, subst⁻¹, Bool, true, false, false≢true, cond, List, [], ◌∷◌, Option, none, some, add-one, arith, dec_lt, eq-eqb, eqb, length, get_or, take, drop, length-drop, drop_of_length-le, get_or-take, get_or-drop, length-take-le, take_all}
-use Rattle.std.specs.Prelude.{None, Some, is_some, IfSome, unwrap_or}
+use Rattle.shinri_core.proofs.Kit.{ℕ, zero, suc, ◌+◌, ◌-◌, ◌≤◌, ◌<◌, ◌≡◌, refl, sym, ap, ap₂, ◌∙◌, subst, subst⁻¹, Bool, true, false, cond, List, [], ◌∷◌, Option, none, some, add-one, arith, dec_lt, eq-eqb, eqb, length, get_or, take, drop, length-drop, drop_of_length-le, get_or-take, get_or-drop, length-take-le, take_all}
+use Rattle.std.specs.Prelude.{None, Some, unwrap_or}
 use Rattle.std.specs.declared.option.Option as GivenOption
 use lib.Seq.{drop-drop, take-nil, drop-nil}
 use Rattle.shinri_core.proofs.Memory.Searching.{Searched}
@@ -26,20 +26,6 @@ module _ {b : ℕ} {s : List ℕ} {start i : ℕ} (w : Searched (λ k. eqb (get_
 module _ {b : ℕ} {s : List ℕ} {start : ℕ} {r : GivenOption.Option ℕ} (f : FindsByte b s start r) {n : ℕ} (e : n ≡ unwrap_or r (length s)) where
   pub found_end : FirstByte b s start n
   found_end = subst⁻¹ (λ (k : ℕ). FirstByte b s start k) e f.ends
-
-  pub found_last : is_some r ≡ false → n ≡ length s
-  found_last g = e ∙ go r g
-    where
-      go : (o : GivenOption.Option ℕ) → is_some o ≡ false → unwrap_or o (length s) ≡ length s
-      go None h = refl
-      go (Some i) h = absurd (false≢true (sym h))
-
-  pub found_before : is_some r ≡ true → n < length s
-  found_before g = subst⁻¹ (λ (k : ℕ). k < length s) e (go r f.within g)
-    where
-      go : (o : GivenOption.Option ℕ) → IfSome o (λ i. i < length s) → is_some o ≡ true → unwrap_or o (length s) < length s
-      go None l h = absurd (false≢true h)
-      go (Some i) l h = l
 
 -- ---- in a text's rest
 

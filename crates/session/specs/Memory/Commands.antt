@@ -1,5 +1,5 @@
--- What the code's commands mean, and what reading a line promises.
-use Rattle.std.specs.Prelude.{ℕ, ◌<◌, ◌≡◌, List, length, None, Some, IfSome}
+-- What the code's commands mean, beside the table of numbers, and what reading a line promises.
+use Rattle.std.specs.Prelude.{ℕ, ◌≤◌, ◌<◌, ◌≡◌, List, length, take, drop, None, Some, IfSome}
 use Rattle.std.proofs.Math.Option.{Option, none, some}
 use Rattle.shinri_core.specs.Memory.Codes.{declared_node}
 use Rattle.session.specs.Line.{Key, SortKey, CtorKey, FunKey, CloseKey, TermKey, EqKey, VarKey, EquateKey, CongKey, IfaceKey, AssertKey, DifferKey, PushKey, PopKey, CheckKey}
@@ -15,54 +15,72 @@ use Rattle.session.specs.declared.line.Key as GivenKey
 abbrev pub max_numbers : ℕ
 max_numbers = 17
 
-abbrev pub command_meaning : Given.Command → Command
-command_meaning (Given.TheVariants.DeclareSort d) = DeclareSort (declared_node d)
-command_meaning (Given.TheVariants.DeclareCtor dt ns) = DeclareCtor dt.0 ns.now
-command_meaning (Given.TheVariants.DeclareFun r ns) = DeclareFun r.0 ns.now
-command_meaning Given.TheVariants.Close = Close
-command_meaning (Given.TheVariants.MkTerm f ns) = MkTerm f.0 ns.now
-command_meaning (Given.TheVariants.MkEq t u) = MkEq t.0 u.0
-command_meaning (Given.TheVariants.Register v t) = Register v.0 t.0
-command_meaning (Given.TheVariants.Equate l) = Equate l.0
-command_meaning (Given.TheVariants.Cong t u) = Cong t.0 u.0
-command_meaning (Given.TheVariants.Iface t u j) = Iface t.0 u.0 j.theory j.tag
-command_meaning (Given.TheVariants.Assert l) = Assert l.0
-command_meaning (Given.TheVariants.Differ l) = Differ l.0
-command_meaning Given.TheVariants.Push = Push
-command_meaning (Given.TheVariants.Pop k) = Pop k
-command_meaning (Given.TheVariants.Check full) = Check full
+-- n numbers behind the first
+abbrev pub others : ℕ → List ℕ → List ℕ
+others n ns = take n (drop 1 ns)
+
+abbrev pub command_meaning : Given.Command → List ℕ → Command
+command_meaning (Given.TheVariants.DeclareSort d) ns = DeclareSort (declared_node d)
+command_meaning (Given.TheVariants.DeclareCtor dt n) ns = DeclareCtor dt.0 (others n ns)
+command_meaning (Given.TheVariants.DeclareFun r n) ns = DeclareFun r.0 (others n ns)
+command_meaning Given.TheVariants.Close ns = Close
+command_meaning (Given.TheVariants.MkTerm f n) ns = MkTerm f.0 (others n ns)
+command_meaning (Given.TheVariants.MkEq t u) ns = MkEq t.0 u.0
+command_meaning (Given.TheVariants.Register v t) ns = Register v.0 t.0
+command_meaning (Given.TheVariants.Equate l) ns = Equate l.0
+command_meaning (Given.TheVariants.Cong t u) ns = Cong t.0 u.0
+command_meaning (Given.TheVariants.Iface t u j) ns = Iface t.0 u.0 j.theory j.tag
+command_meaning (Given.TheVariants.Assert l) ns = Assert l.0
+command_meaning (Given.TheVariants.Differ l) ns = Differ l.0
+command_meaning Given.TheVariants.Push ns = Push
+command_meaning (Given.TheVariants.Pop k) ns = Pop k
+command_meaning (Given.TheVariants.Check full) ns = Check full
 
 -- a command that was read, or none
-abbrev pub read_meaning : GivenOption.Option Given.Command → Option Command
-read_meaning None = none
-read_meaning (Some k) = some (command_meaning k)
+abbrev pub read_meaning : GivenOption.Option Given.Command → List ℕ → Option Command
+read_meaning None ns = none
+read_meaning (Some k) ns = some (command_meaning k ns)
 
--- the list that a command holds stands behind a first number
-abbrev pub ListFits : Given.Command → Type 0
-ListFits (Given.TheVariants.DeclareSort d) = Unit {0}
-ListFits (Given.TheVariants.DeclareCtor dt ns) = length ns.now < max_numbers
-ListFits (Given.TheVariants.DeclareFun r ns) = length ns.now < max_numbers
-ListFits Given.TheVariants.Close = Unit {0}
-ListFits (Given.TheVariants.MkTerm f ns) = length ns.now < max_numbers
-ListFits (Given.TheVariants.MkEq t u) = Unit {0}
-ListFits (Given.TheVariants.Register v t) = Unit {0}
-ListFits (Given.TheVariants.Equate l) = Unit {0}
-ListFits (Given.TheVariants.Cong t u) = Unit {0}
-ListFits (Given.TheVariants.Iface t u j) = Unit {0}
-ListFits (Given.TheVariants.Assert l) = Unit {0}
-ListFits (Given.TheVariants.Differ l) = Unit {0}
-ListFits Given.TheVariants.Push = Unit {0}
-ListFits (Given.TheVariants.Pop p) = Unit {0}
-ListFits (Given.TheVariants.Check full) = Unit {0}
+-- n numbers stand in a table of this length behind its first, which are no more than a line may have
+abbrev pub OthersFit : ℕ → ℕ → Type 0
+OthersFit n k = (n < max_numbers) × (n < k)
 
--- what o says is what was read
-pub record ReadsAs (o : Option Command) (r : GivenOption.Option Given.Command) : Type 0 where
-  pub is : read_meaning r ≡ o
-  pub fits : IfSome r ListFits
+-- the list that a command names stands in a table of numbers of this length
+abbrev pub ListFits : Given.Command → ℕ → Type 0
+ListFits (Given.TheVariants.DeclareSort d) k = Unit {0}
+ListFits (Given.TheVariants.DeclareCtor dt n) k = OthersFit n k
+ListFits (Given.TheVariants.DeclareFun r n) k = OthersFit n k
+ListFits Given.TheVariants.Close k = Unit {0}
+ListFits (Given.TheVariants.MkTerm f n) k = OthersFit n k
+ListFits (Given.TheVariants.MkEq t u) k = Unit {0}
+ListFits (Given.TheVariants.Register v t) k = Unit {0}
+ListFits (Given.TheVariants.Equate l) k = Unit {0}
+ListFits (Given.TheVariants.Cong t u) k = Unit {0}
+ListFits (Given.TheVariants.Iface t u j) k = Unit {0}
+ListFits (Given.TheVariants.Assert l) k = Unit {0}
+ListFits (Given.TheVariants.Differ l) k = Unit {0}
+ListFits Given.TheVariants.Push k = Unit {0}
+ListFits (Given.TheVariants.Pop p) k = Unit {0}
+ListFits (Given.TheVariants.Check full) k = Unit {0}
 
--- a line was read
-abbrev pub ReadsLine : List ℕ → GivenOption.Option Given.Command → Type 0
-ReadsLine line r = ReadsAs (read_line line) r
+-- what o says is what was read, beside ns
+pub record ReadsAs (o : Option Command) (r : GivenOption.Option Given.Command) (ns : List ℕ) : Type 0 where
+  pub is : read_meaning r ns ≡ o
+  pub fits : IfSome r (λ k. ListFits k (length ns))
+
+-- the same beside any numbers: no list is named
+abbrev pub ReadsAlone : Option Command → GivenOption.Option Given.Command → Type 0
+ReadsAlone o r = (ns : List ℕ) → ReadsAs o r ns
+
+-- a line was read; its numbers stand in ns
+abbrev pub ReadsLine : List ℕ → GivenOption.Option Given.Command → List ℕ → Type 0
+ReadsLine line r ns = ReadsAs (read_line line) r ns
+
+-- n numbers, one or more, stand at the start of a table
+pub record NumbersStand (n : ℕ) (ns : List ℕ) : Type 0 where
+  pub any : 1 ≤ n
+  pub most : n ≤ max_numbers
+  pub within : n ≤ length ns
 
 -- ---- keys
 

@@ -1,6 +1,5 @@
 -- What reading decimal numbers promises.
-use Rattle.std.specs.Prelude.{ℕ, ◌+◌, ◌-◌, ◌*◌, ◌≤◌, ◌≡◌, cond, ◌&&◌, leb, length, None, Some, MatchOption}
-use Rattle.std.specs.Borrow.{Bor}
+use Rattle.std.specs.Prelude.{ℕ, ◌+◌, ◌-◌, ◌*◌, ◌≤◌, ◌≡◌, cond, ◌&&◌, leb, None, Some, MatchOption, take}
 use mathlib.Core.List.{List, foldl}
 use Rattle.std.proofs.Math.Option.{Option, none, some}
 use Rattle.shinri_core.specs.Lists.{every}
@@ -25,11 +24,12 @@ digits_from n ds = cond (every is_digit ds && leb (value_from n ds) 4294967295) 
 abbrev pub Unread : List ℕ → Type 0
 Unread v = (k : Key) → at_most_17 k (numbers (parts comma v)) ≡ none
 
--- the numbers of a value are ns, at most 17
-pub record Read (v ns : List ℕ) : Type 0 where
-  pub most : length ns ≤ max_numbers
-  pub is : numbers (parts comma v) ≡ some ns
+-- the numbers of a value stand at the start of a table: n of them, at most 17
+pub record ReadTo (v : List ℕ) (n : ℕ) (ns : List ℕ) : Type 0 where
+  pub any : 1 ≤ n
+  pub most : n ≤ max_numbers
+  pub is : numbers (parts comma v) ≡ some (take n ns)
 
--- the numbers of a value were read, or none if they do not read
-abbrev pub ReadsNumbers : List ℕ → Given.Option (Bor (List ℕ)) → Type 0
-ReadsNumbers v r = MatchOption r (Unread v) (λ ns. Read v ns.now)
+-- the numbers of a value were read to the start of ns, so many, or none if they do not read
+abbrev pub ReadsNumbers : List ℕ → Given.Option ℕ → List ℕ → Type 0
+ReadsNumbers v r ns = MatchOption r (Unread v) (λ n. ReadTo v n ns)

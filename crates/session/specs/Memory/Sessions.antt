@@ -142,19 +142,19 @@ pub record LevelsSound (e s n : List ℕ) : Type 0 where
 -- ---- any line
 
 -- a command may be answered
-pub record Performable (c e s : List ℕ) (m : Beside) (k : GivenCommand.Command) (o : List ℕ) : Type 0 where
+pub record Performable (c e s : List ℕ) (m : Beside) (k : GivenCommand.Command) (ns o : List ℕ) : Type 0 where
   pub sound : SessionSound c e s m
   pub reached : Reached (session c e s m)
-  pub fits : ListFits k
+  pub fits : ListFits k (length ns)
   pub long : answer_size ≤ length o
 
 -- it was: a is the answer, m' what the session keeps after it
-pub record Performs (k : GivenCommand.Command) (c e s : List ℕ) (m : Beside) (a : LineAnswer) (c' e' s' : List ℕ) (m' : Beside)
+pub record Performs (k : GivenCommand.Command) (ns c e s : List ℕ) (m : Beside) (a : LineAnswer) (c' e' s' : List ℕ) (m' : Beside)
     (o : List ℕ) : Type 0 where
   pub sound : SessionSound c' e' s' m'
   pub printable : Printable a o
   pub performed :
-      answer_read (session c e s m) (some (command_meaning k))
+      answer_read (session c e s m) (some (command_meaning k ns))
       ≡ record { answer = answer_meaning a o; session = session c' e' s' m' }
 
 -- a line may be answered

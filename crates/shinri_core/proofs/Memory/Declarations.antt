@@ -1,6 +1,5 @@
 -- Declarations: an empty table, terms given back, one more sort, one more symbol, a function, a constructor.
-use Rattle.shinri_core.proofs.Kit.{ℕ, zero, suc, ◌+◌, ◌-◌, ◌*◌, ◌/◌, ◌%◌, ◌≤◌, ◌<◌, ◌≡◌, refl, sym, subst, ap, ◌∙◌, true, false, true≢false, List, [], ◌∷◌, ◌++◌, append_assoc, append-nil, add-one, zero-add, replicate, arith, le-leb, lt-leb, leb, length, get_or, take, drop, length-append, length-drop, drop_of_length-le, drop-cons, take_all, take-take, length-take-le}
-use borrow.Rule.Slice.PartMut.{put_mid}
+use Rattle.shinri_core.proofs.Kit.{ℕ, zero, suc, ◌+◌, ◌-◌, ◌*◌, ◌/◌, ◌%◌, ◌≤◌, ◌<◌, ◌≡◌, refl, sym, subst, ap, ◌∙◌, true, false, true≢false, List, [], ◌∷◌, ◌++◌, append_assoc, append-nil, add-one, zero-add, replicate, arith, le-leb, lt-leb, leb, length, get_or, take, drop, length-append, drop_of_length-le, drop-cons, take_all, take-take, length-take-le}
 use lib.ListN.{length-replicate}
 use Rattle.shinri_core.specs.Limits.{max_sorts, max_symbols, table_words}
 use Rattle.shinri_core.specs.Lists.{range}
@@ -14,7 +13,7 @@ use Rattle.std.specs.Prelude.{Ok, Err}
 use Rattle.shinri_core.proofs.Lists.{and_no, zeros}
 use Rattle.shinri_core.proofs.Symbols.{constructor_count}
 use Rattle.shinri_core.proofs.Memory.Counted.{counted_same, counted_cut, counted_grown, counted_list}
-use Rattle.shinri_core.proofs.Memory.Stores.{other_place, part_stored}
+use Rattle.shinri_core.proofs.Memory.Stores.{other_place}
 use Rattle.shinri_core.proofs.Memory.Regions.{stores, all_long, all_same}
 use Rattle.shinri_core.proofs.Memory.Index.{indexed_less, found}
 use Rattle.shinri_core.proofs.Memory.Codes.{digit_packed, ctor_role, tester_role, selector_role}
@@ -71,17 +70,12 @@ cleared {t} {u} a e₁ e₂ e₃ e₄ e₅ =
     let c : Cleared u = search (e₅, e₄, e₃, e₂, e₁, stores, a.heads) depth 9 in
     (cleared_sound u c, cleared_view u c)
 
--- each bucket is written over by 0
-pub buckets_cleared : (t ws : List ℕ) → ws ≡ replicate (length (take buckets (drop BUCKET t))) 0 → table_words ≤ length t →
-    NoTerms (put_mid BUCKET buckets t ws)
-buckets_cleared t ws e l =
-    let d = length-drop BUCKET t in
-    let k : length (take buckets (drop BUCKET t)) ≡ buckets = length-take-le buckets (drop BUCKET t) (omega arith) in
+-- each bucket is set to 0
+pub buckets_cleared : (t u : List ℕ) → u ≡ put_all t BUCKET 0 (replicate buckets 0) → table_words ≤ length t → NoTerms u
+buckets_cleared t u e l =
     let n = length-replicate {A = ℕ} buckets 0 in
     let m : buckets ≤ 1024 = omega arith in
-    let c : put_mid BUCKET buckets t ws ≡ put_all t BUCKET 0 (replicate buckets 0) =
-    part_stored t BUCKET 0 buckets (replicate buckets 0) ws (e ∙ ap (λ (j : ℕ). replicate j 0) k) (sym n) (omega arith) in
-    rw c (record { long = all_long t BUCKET 0 (replicate buckets 0) l; heads = λ h g. zero_there h g })
+    rw e (record { long = all_long t BUCKET 0 (replicate buckets 0) l; heads = λ h g. zero_there h g })
   where
     zero_there : (h : ℕ) → h < buckets → at (put_all t BUCKET 0 (replicate buckets 0)) BUCKET h ≡ 0
     zero_there h g =

@@ -1,6 +1,6 @@
 -- Stores by region: what stands in a table after words of a region were written. `room` gives the room of each region, `size` is
 -- how many words the table has at least. Whether two regions lie apart is computed, so at named regions `tt` proves it.
-use Rattle.shinri_core.proofs.Kit.{ℕ, ◌+◌, ◌≤◌, ◌<◌, ◌≡◌, refl, sym, ap, ◌∙◌, subst, ◌⊎◌, inl, inr, Bool, true, false, cond, ◌||◌, List, [], ◌∷◌, ℕ_discrete, arith, eq-eqb, ne_eqb, eqb-true, T, eqb, leb, leb→le, length, get_or, length-set, get_or-set_same, get_or-set_other, length-sets, sets, append_assoc, take, drop}
+use Rattle.shinri_core.proofs.Kit.{ℕ, ◌+◌, ◌≤◌, ◌<◌, ◌≡◌, refl, sym, add-zero, ap, ◌∙◌, subst, ◌⊎◌, inl, inr, Bool, true, false, cond, ◌||◌, List, [], ◌∷◌, ℕ_discrete, arith, eq-eqb, ne_eqb, eqb-true, T, eqb, leb, leb→le, length, get_or, length-set, get_or-set_same, get_or-set_other, length-sets, sets, append_assoc, take, drop}
 use borrow.Rule.Slice.PartMut.{put_mid}
 use Rattle.std.proofs.lemmas.List.Edits.{sets-eq, paste_all}
 use Rattle.std.proofs.lemmas.Slice.{put_mid-paste}
@@ -39,6 +39,10 @@ part_stored t b x n vs ws e q h =
     ∙ paste_all t (b + x) vs (length vs) refl
     ∙ sym (append_assoc (take (b + x) t) vs (drop (b + x + length vs) t))
     ∙ sym (sets-eq vs t (b + x) h)
+
+pub start_stored : (t : List ℕ) (b n : ℕ) (vs ws : List ℕ) → ws ≡ vs → n ≡ length vs → b + length vs ≤ length t →
+    put_mid b n t ws ≡ put_all t b 0 vs
+start_stored t b n vs ws e q h = ap (λ (j : ℕ). put_mid j n t ws) (sym (add-zero b)) ∙ part_stored t b 0 n vs ws e q (omega arith)
 
 module _ (room : ℕ → ℕ) where
   -- the places of regions that lie apart are ordered

@@ -1,6 +1,5 @@
 -- Terms: an application looked up among them, one more at their end, and making one.
 use Rattle.shinri_core.proofs.Kit.{ℕ, zero, suc, ◌+◌, ◌-◌, ◌≤◌, ◌<◌, ◌≡◌, refl, sym, ap, ap₂, ◌∙◌, subst, Bool, true, false, ◌&&◌, true≢false, List, [], ◌∷◌, ◌++◌, map, map-append, none, zero-add, add_assoc, add-one, ℕ_discrete, arith, eq-eqb, ne_eqb, le-leb, lt-leb, T, eqb, leb, eqb→eq, eqb_suc_suc, length, get_or, length-append}
-use lib.Pointwise.{pointwise}
 use Rattle.shinri_core.specs.Limits.{max_terms, max_places, table_words}
 use Rattle.shinri_core.specs.Lists.{same_list, range, total}
 use Rattle.shinri_core.specs.Term as Term
@@ -14,7 +13,7 @@ use Rattle.shinri_core.specs.declared.ids.TermId as TermId
 use Rattle.shinri_core.specs.declared.ids.SymbolId.{SymbolId}
 use Rattle.shinri_core.specs.declared.term.Op as Op
 use Rattle.shinri_core.specs.declared.limits.NoRoom as NoRoom
-use Rattle.shinri_core.proofs.Lists.{T_and, slices_same, true_T, and_no, not_true_false, same_list_eq, same_list_same}
+use Rattle.shinri_core.proofs.Lists.{T_and, true_T, and_no, not_true_false, same_list_eq, same_list_same}
 use Rattle.shinri_core.proofs.Memory.Codes.{code_means}
 use Rattle.shinri_core.proofs.Memory.Counted.{counted_more, counted_grown, counted_list, stretch_length}
 use Rattle.shinri_core.proofs.Memory.Searching.{NoneFrom, first_found, first_missing}
@@ -57,12 +56,12 @@ module _ (t : List ℕ) (code : ℕ) (args : List ℕ) where
     unfolding same_term term_at
     other_code n = rw (ne_eqb w code n, same_op_codes code (at t OP i), ne_eqb code (at t OP i) (λ q. n (o ∙ sym q)))
 
-    same_code : (xs : List ℕ) (r : Bool) → i < terms# t → w ≡ code → xs ≡ children (context t) i → r ≡ pointwise eqb xs args →
+    same_code : (xs : List ℕ) (r : Bool) → i < terms# t → w ≡ code → xs ≡ children (context t) i → r ≡ same_list args xs →
         r ≡ Fits t code args i
     unfolding same_term term_at children
     same_code xs r h c e q =
         let l : same_list args xs ≡ same_list args (args_at t i) = ap (same_list args) (e ∙ ap (λ (y : Term). y.args) (term_is t i h)) in
-        rw (same_op_codes code (at t OP i), eq-eqb code (at t OP i) (sym c ∙ o)) (slices_same xs args r q ∙ l)
+        rw (same_op_codes code (at t OP i), eq-eqb code (at t OP i) (sym c ∙ o)) (q ∙ l)
 
   -- a term that fits is the application, and the other way round
   fits_words : (i : ℕ) → Fits t code args i ≡ true → (code ≡ at t OP i) × (args ≡ args_at t i)
@@ -91,7 +90,7 @@ module _ (t : List ℕ) (o : Op.Op) (args : List ℕ) (i : ℕ) {w v : ℕ} (e :
   pub app_other_op : (w ≡ v → ⊥) → eqb w v ≡ same_term (op_meaning o) args (term_at t i)
   app_other_op n = ap (eqb w) f ∙ other_code t (op_code o) args i w e (λ q. n (q ∙ sym f)) ∙ sym (fits_meant t o args i)
 
-  pub app_same : {xs : List ℕ} {r : Bool} → i < terms# t → w ≡ v → xs ≡ children (context t) i → r ≡ pointwise eqb xs args →
+  pub app_same : {xs : List ℕ} {r : Bool} → i < terms# t → w ≡ v → xs ≡ children (context t) i → r ≡ same_list args xs →
       r ≡ same_term (op_meaning o) args (term_at t i)
   app_same {xs} {r} h c k q = same_code t (op_code o) args i w e xs r h (c ∙ f) k q ∙ sym (fits_meant t o args i)
 

@@ -160,19 +160,17 @@ module _ (t : List ℕ) where
     args_fit n h l = let b = bounds h in omega arith
 
     module _ (h : x < length (context t).terms) where
-      pub part_ordered : POOL + a ≤ POOL + e
+      pub part_ordered : a ≤ e
       part_ordered = let b = bounds (terms_below x h) in omega arith
 
       pub part_within : POOL + e ≤ length t
       part_within = let b = bounds (terms_below x h) in let l = z.long in omega arith
 
-      pub part_is : take ((POOL + e) - (POOL + a)) (drop (POOL + a) t) ≡ children (context t) x
+      pub part_is : take (e - a) (drop (POOL + a) t) ≡ children (context t) x
       unfolding args_at children term_at
       part_is =
           let l = part_within in
           let o = part_ordered in
-          let n : (POOL + e) - (POOL + a) ≡ e - a = omega arith in
-          ap (λ (k : ℕ). take k (drop (POOL + a) t)) n
-          ∙ part_is_stretch t POOL a (e - a) (omega arith)
+          part_is_stretch t POOL a (e - a) (omega arith)
           ∙ ap₂ (λ (j k : ℕ). stretch t POOL j (k - j)) p q
           ∙ sym (ap (λ (y : Term). y.args) (term_is x (terms_below x h)))

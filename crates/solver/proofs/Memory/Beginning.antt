@@ -2,7 +2,6 @@
 -- those of its class that stand there. At term i the words of each class are those of the applications from i on.
 use Rattle.shinri_core.proofs.Kit.{ℕ, suc, ◌+◌, ◌-◌, ◌≤◌, ◌<◌, ◌≡◌, refl, sym, ap, ap₂, ◌∙◌, subst, subst⁻¹, ◌⊎◌, inl, inr, Bool, true, false, cond, ◌&&◌, true≢false, List, [], ◌∷◌, arith, add-one, ℕ_discrete, dec_lt, eqb, length, get_or, replicate, take, drop, length-take-le, length-drop}
 use lib.ListN.{length-replicate}
-use borrow.Rule.Slice.PartMut.{put_mid}
 use Rattle.shinri_core.proofs.Lists.{zeros, getD_sets_in, getD_sets_out}
 use Rattle.shinri_core.specs.Limits.{max_terms}
 use Rattle.shinri_core.specs.Context.{Context, ctor_app}
@@ -14,32 +13,31 @@ use Rattle.theory.specs.Memory.Table.{merges}
 use Rattle.solver.specs.Memory.Table.{MARK, is_set, term_kind, MarksAre, state_with, StateSound}
 use Rattle.solver.specs.Memory.Work.{W_MARK, ROOT, LOWEST, NEXT, work_room, work_size, Blank, Begins, Copyable, MarksCopied, linked, Linkable, Linked}
 use Rattle.solver.proofs.Memory.Flags.{has, flagged_same}
-use Rattle.solver.proofs.Memory.Parts.{part_stored, part_word}
+use Rattle.solver.proofs.Memory.Parts.{part_word}
 use Rattle.solver.proofs.Memory.WorkStores.{other, kept_none, stores}
 use Rattle.solver.proofs.Memory.Working.{listed, matches, class_word, class_same, class_step, class_none, no_kind, kind_matches, kind_no_match, node_root}
 
 -- ---- copying the marks
 
--- the marks written over those of the work table at once
-pub copied : {c s w u : List ℕ} {n k m : ℕ} → Copyable c s w → (n ≡ length (context c).terms) × (n ≤ max_terms) →
-    u ≡ take k (drop MARK s) → k ≡ n → m ≡ n → MarksCopied c s w (put_mid W_MARK m w u)
+-- the marks are copied over those of the work table at once
+pub copied : {c s w t vs : List ℕ} {n k : ℕ} → Copyable c s w → (n ≡ length (context c).terms) × (n ≤ max_terms) →
+    vs ≡ take k (drop MARK s) → k ≡ n → t ≡ put_all w W_MARK 0 vs → MarksCopied c s w t
 unfolding put_all at
-copied {c} {s} {w} {u} {n} {k} {m} z (f, l) e p q =
+copied {c} {s} {w} {t} {vs} {n} {k} z (f, l) e p stored =
     let long = z.long in
     let table = z.table in
-    let size : length u ≡ n = ap length e ∙ length-take-le k (drop MARK s) (let d = length-drop MARK s in omega arith) ∙ p in
-    let stored : put_mid W_MARK m w u ≡ put_all w W_MARK 0 u = part_stored w W_MARK m u (size ∙ sym q) (omega arith) in
+    let size : length vs ≡ n = ap length e ∙ length-take-le k (drop MARK s) (let d = length-drop MARK s in omega arith) ∙ p in
     record {
       copied = λ x h.
-          ap (λ (t : List ℕ). at t W_MARK x) stored
-          ∙ getD_sets_in w W_MARK u x 0 (omega arith) (omega arith)
-          ∙ ap (λ (t : List ℕ). get_or t x 0) e
+          ap (λ (u : List ℕ). at u W_MARK x) stored
+          ∙ getD_sets_in w W_MARK vs x 0 (omega arith) (omega arith)
+          ∙ ap (λ (u : List ℕ). get_or u x 0) e
           ∙ part_word s MARK k x (omega arith);
       behind = λ x h.
-          ap (λ (t : List ℕ). at t W_MARK x) stored ∙ getD_sets_out w W_MARK u (W_MARK + x) 0 (inr (omega arith));
+          ap (λ (u : List ℕ). at u W_MARK x) stored ∙ getD_sets_out w W_MARK vs (W_MARK + x) 0 (inr (omega arith));
       kept =
           subst⁻¹ (Kept work_room (W_MARK ∷ []) w) stored
-          (kept_put_all work_room (W_MARK ∷ []) w w W_MARK 0 u tt (omega arith) (kept_none (W_MARK ∷ []) w));
+          (kept_put_all work_room (W_MARK ∷ []) w w W_MARK 0 vs tt (omega arith) (kept_none (W_MARK ∷ []) w));
     }
 
 -- ---- the pass down

@@ -1,21 +1,10 @@
--- A part of a table at once: words written over it are a run of stores, and what is asked of each of its words.
-use Rattle.shinri_core.proofs.Kit.{ℕ, ◌+◌, ◌≤◌, ◌<◌, ◌≡◌, sym, ap, ◌∙◌, Bool, true, false, true≢false, List, ◌++◌, arith, add-zero, append_assoc, length, get_or, take, drop, get_or-take, get_or-drop, length-take-le, length-drop, sets}
-use Rattle.std.proofs.lemmas.List.{drop-drop}
-use Rattle.std.proofs.lemmas.List.Edits.{sets-eq}
+-- A part of a table at once: what is asked of each of its words.
+use Rattle.shinri_core.proofs.Kit.{ℕ, ◌+◌, ◌≤◌, ◌<◌, ◌≡◌, sym, ap, ◌∙◌, Bool, true, false, true≢false, List, arith, length, get_or, take, drop, get_or-take, get_or-drop, length-take-le, length-drop}
 use Rattle.std.specs.Bool.{MatchBool}
 use Rattle.std.specs.List.{AllWithin}
-use borrow.Rule.Slice.PartMut.{put_mid}
-use Rattle.shinri_core.specs.Memory.Words.{at, put_all}
+use Rattle.shinri_core.specs.Memory.Words.{at}
 use Rattle.solver.specs.Memory.Table.{is_set}
 use Rattle.solver.proofs.Memory.Flags.{unset_by}
-
--- the words vs written over the first of a region
-pub part_stored : (t : List ℕ) (b k : ℕ) (vs : List ℕ) → length vs ≡ k → b + k ≤ length t → put_mid b k t vs ≡ put_all t b 0 vs
-unfolding put_all
-part_stored t b k vs e l =
-    ap (λ (r : List ℕ). take b t ++ (vs ++ r)) (drop-drop k b t ∙ ap (λ (n : ℕ). drop (b + n) t) (sym e))
-    ∙ sym (append_assoc (take b t) vs (drop (b + length vs) t))
-    ∙ sym (ap (λ (i : ℕ). sets t i vs) (add-zero b) ∙ sets-eq vs t b (omega arith))
 
 -- a word of a part
 pub part_word : (t : List ℕ) (b n i : ℕ) → i < n → get_or (take n (drop b t)) i 0 ≡ at t b i

@@ -3,7 +3,6 @@
 use Rattle.shinri_core.proofs.Kit.{ℕ, zero, suc, ◌+◌, ◌-◌, ◌≤◌, ◌<◌, ◌≡◌, refl, sym, ap, ◌∙◌, subst, subst⁻¹, ◌⊎◌, inl, inr, Bool, true, false, ◌||◌, true≢false, List, [], ◌∷◌, ◌++◌, arith, T, eqb, leb, leb→le, length, get_or, take, drop, length-append, length-drop, get_or-drop, length-take-le, replicate}
 use lib.Seq.{get_or-append-add, take_at}
 use lib.ListN.{length-replicate}
-use borrow.Rule.Slice.PartMut.{put_mid}
 use Rattle.shinri_core.specs.Limits.{max_terms, table_words}
 use Rattle.shinri_core.specs.Lists.{In, Apart, any, range, gather}
 use Rattle.shinri_core.specs.Context.{empty_context}
@@ -21,7 +20,6 @@ use Rattle.solver.specs.Memory.Table.{REGISTRY, COUNTS, RECORDS, MARK, BLOCK, CO
 use Rattle.solver.specs.Memory.Recording.{flag_words, Wiped, SolverCleared, MayRegister, Registers}
 use Rattle.solver.proofs.Signature.{empty_signed}
 use Rattle.solver.proofs.Memory.Flags.{has, in_flagged, flagged_none}
-use Rattle.solver.proofs.Memory.Parts.{part_stored}
 use Rattle.solver.proofs.Memory.Frames.{flagged_kept, record_kept, announced_kept, keys_kept}
 
 -- ---- the registry's part put back
@@ -157,20 +155,15 @@ registers {s} {r} {v} {x} m n g a =
 
 -- ---- an empty table
 
--- zeros written over the words from COUNTS on
-pub wiped : {s u : List ℕ} (k : ℕ) → table_words ≤ length s → u ≡ replicate k 0 → k ≡ flag_words →
-    Wiped s (put_mid COUNTS flag_words s u)
+-- the words from COUNTS on are cleared
+pub wiped : {s t : List ℕ} → table_words ≤ length s → t ≡ put_all s COUNTS 0 (replicate flag_words 0) → Wiped s t
 unfolding at put_all
-wiped {s} {u} k l e f =
-    let n : length u ≡ flag_words = ap length e ∙ length-replicate {A = ℕ} k 0 ∙ f in
-    let stored : put_mid COUNTS flag_words s u ≡ put_all s COUNTS 0 u = part_stored s COUNTS flag_words u n (omega arith) in
+wiped {s} l e =
+    let z : List ℕ = replicate flag_words 0 in
+    let n = length-replicate {A = ℕ} flag_words 0 in
     record {
-      long = ap length stored ∙ length_put_all s COUNTS 0 u;
-      zero = λ i h.
-          ap (λ (t : List ℕ). at t COUNTS i) stored
-          ∙ getD_sets_in s COUNTS u i 0 (omega arith) (omega arith)
-          ∙ ap (λ (t : List ℕ). get_or t i 0) e
-          ∙ zeros k i;
+      long = ap length e ∙ length_put_all s COUNTS 0 z;
+      zero = λ i h. ap (λ (t : List ℕ). at t COUNTS i) e ∙ getD_sets_in s COUNTS z i 0 (omega arith) (omega arith) ∙ zeros flag_words i;
     }
 
 wiped_long : {s t : List ℕ} → table_words ≤ length s → Wiped s t → table_words ≤ length t

@@ -140,9 +140,9 @@ fields_fit t x z h =
     let within = part_within t x a e z refl refl h in
     let ordered = part_ordered t x a e z refl refl h in
     let fits = args_fit t x a e z refl refl (e - a) (omega (arith, z.term_count)) refl in
-    let n : (POOL + e) - (POOL + a) ≤ length (drop (POOL + a) t) = rw length-drop (omega arith) in
+    let n : e - a ≤ length (drop (POOL + a) t) = rw length-drop (omega arith) in
     let l = ap length (part_is t x a e z refl refl h) in
-    let k = length-take-le ((POOL + e) - (POOL + a)) (drop (POOL + a) t) n in
+    let k = length-take-le (e - a) (drop (POOL + a) t) n in
     omega arith
 
 -- ---- colours

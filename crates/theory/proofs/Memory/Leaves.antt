@@ -1,8 +1,8 @@
 -- The answer table: asking for a leaf, appending one, and what that does to the list of leaves.
-use Rattle.shinri_core.proofs.Kit.{ℕ, zero, suc, ◌+◌, ◌-◌, ◌≤◌, ◌<◌, ◌≡◌, refl, sym, subst, ap, ap₂, ◌∙◌, ◌⊎◌, inl, inr, Bool, true, false, cond, ◌&&◌, true≢false, false≢true, List, [], ◌∷◌, ◌++◌, ℕ_discrete, add-one, arith, ne_eqb, eqb-true, T, eqb, eqb_suc_suc, leb, lit<, length, get_or, take, drop, replicate}
+use Rattle.shinri_core.proofs.Kit.{ℕ, zero, suc, ◌+◌, ◌-◌, ◌≤◌, ◌<◌, ◌≡◌, refl, sym, subst, ap, ap₂, ◌∙◌, ◌⊎◌, inl, inr, Bool, true, false, cond, ◌&&◌, true≢false, false≢true, List, [], ◌∷◌, ◌++◌, ℕ_discrete, add-one, arith, ne_eqb, eqb-true, T, eqb, eqb_suc_suc, leb, lit<, length, get_or, replicate}
 use Rattle.shinri_core.specs.Limits.{max_terms, max_theories}
 use Rattle.shinri_core.specs.Lists.{range}
-use Rattle.shinri_core.specs.Memory.Words.{at, put, apart, counted}
+use Rattle.shinri_core.specs.Memory.Words.{at, put, put_all, apart, counted}
 use Rattle.shinri_core.specs.Memory.Table.{newest, Indexed}
 use Rattle.shinri_core.proofs.Lists.{In}
 use Rattle.shinri_core.proofs.Memory.Counted.{counted_length, counted_at, counted_grown}
@@ -15,7 +15,7 @@ use Rattle.theory.specs.declared.types.EqLeaf as Given
 use Rattle.theory.specs.declared.types.LeafWords as LeafWords
 use Rattle.theory.specs.Memory.Answer.{COUNTS, LEAVES, LEAF_KIND, LEAF_VALUE, BUCKET, LINK, answer_room, answer_size, leaves#, buckets, bucket, bucket_of, leaf_of, leaf_at, leaves, leaf_meaning, has_leaf, LeavesSound, HasRoom, Pushed, HoldsLeaf, Linkable, linked, Cites, Cited, AnswerSound, Cleared}
 use Rattle.theory.proofs.Members.{Apart, apart_last, in_either}
-use Rattle.theory.proofs.Memory.Filling.{put_mid, filled}
+use Rattle.theory.proofs.Memory.Filling.{filled}
 use Rattle.theory.proofs.Explain.{in_seen, few_leaves}
 
 -- ---- stores
@@ -34,13 +34,13 @@ ruleset stores = (tt, lit<, other, same, long, Stores.other_place)
 
 -- ---- an empty table
 
--- the buckets are filled with 0, then the count is set
-pub cleared : (o ys u : List ℕ) → answer_size ≤ length o → ys ≡ replicate (length (take buckets (drop BUCKET o))) 0 →
-    u ≡ put (put_mid BUCKET buckets o ys) COUNTS LEAVES 0 → Cleared u
+-- the buckets are cleared, then the count is set
+pub cleared : (o o₁ u : List ℕ) → answer_size ≤ length o → o₁ ≡ put_all o BUCKET 0 (replicate buckets 0) →
+    u ≡ put o₁ COUNTS LEAVES 0 → Cleared u
 unfolding leaves counted range newest
-cleared o ys u k q e =
-    let z = filled BUCKET buckets 0 o ys (omega arith) q in
-    let l : answer_size ≤ length (put_mid BUCKET buckets o ys) = let s = z.long in omega arith in
+cleared o o₁ u k q e =
+    let z = filled BUCKET buckets (omega arith) q in
+    let l : answer_size ≤ length o₁ = let s = z.long in omega arith in
     let c : leaves# u ≡ 0 = search (e, stores) in
     let n : leaves u ≡ [] = ap (counted (leaf_at u)) c in
     let heads : (h : ℕ) → h < buckets → at u BUCKET h ≡ 0 = search (e, stores, z.own) in

@@ -1,15 +1,15 @@
 -- The index of argument pairs: pairs of the same nodes in either order, looking for one, one more, the newest taken back.
-use Rattle.shinri_core.proofs.Kit.{ℕ, suc, ◌+◌, ◌-◌, ◌*◌, ◌/◌, ◌%◌, ◌≤◌, ◌<◌, ◌≡◌, refl, sym, subst, ap, ap₂, ◌∙◌, ◌⊎◌, inl, inr, Bool, true, false, ◌&&◌, ◌||◌, true≢false, false≢true, List, arith, ℕ_discrete, le_antisymm, below_more, add-one, eq-eqb, eqb-true, eqb, lit<, length, take, drop, replicate}
+use Rattle.shinri_core.proofs.Kit.{ℕ, suc, ◌+◌, ◌-◌, ◌*◌, ◌/◌, ◌%◌, ◌≤◌, ◌<◌, ◌≡◌, refl, sym, subst, ap, ap₂, ◌∙◌, ◌⊎◌, inl, inr, Bool, true, false, ◌&&◌, ◌||◌, true≢false, false≢true, List, arith, ℕ_discrete, le_antisymm, below_more, add-one, eq-eqb, eqb-true, eqb, lit<, length, replicate}
 use Rattle.std.proofs.Common.{Some, None}
 use Rattle.shinri_core.specs.Limits.{max_terms, max_pairs}
-use Rattle.shinri_core.specs.Memory.Words.{at, put, Kept}
+use Rattle.shinri_core.specs.Memory.Words.{at, put, put_all, Kept}
 use Rattle.shinri_core.specs.Memory.Table.{newest, Indexed}
 use Rattle.shinri_core.proofs.Memory.Stores.{kept_none, kept_put, other_place, length_put}
 use Rattle.shinri_core.proofs.Memory.Index.{newest_found, indexed_more, indexed_less, indexed_same, Asking, ask_first, ask_next, ask_less}
 use Rattle.theory.specs.EqEngine.{same_pair}
 use Rattle.theory.specs.Memory.Table.{engine_size, LEFT, RIGHT, HEAD, INDEXED, engine_room, left_word, right_word, first_word, link_word, indexed#, pair_at, is_pair, pair_buckets, pair_bucket, pair_bucket_of, FirstsSound, PairsSound, EngineSound}
 use Rattle.theory.specs.Memory.Steps.{pair_regions, SamePairs, NoPairs, PairAsked, FindsPair, FirstOf, PairLinkable, pair_linked, Addable, PairAdded, LastPair, Cuttable, PairsAddable, PairsCut, PairRoom, Copied}
-use Rattle.theory.proofs.Memory.Filling.{put_mid, filled}
+use Rattle.theory.proofs.Memory.Filling.{filled}
 use Rattle.theory.proofs.Memory.EngineStores as Engine
 use Rattle.theory.proofs.Memory.EngineStores.{stores}
 
@@ -602,12 +602,12 @@ module _ {t : List ℕ} {start : ℕ} {xs ys : List ℕ} (r : PairRoom t start x
 
 -- ---- an empty index
 
--- the heads are filled with 0, then the count is set
-pub no_pairs : (t ys u : List ℕ) → engine_size ≤ length t → ys ≡ replicate (length (take pair_buckets (drop HEAD t))) 0 →
-    u ≡ put (put_mid HEAD pair_buckets t ys) INDEXED 0 0 → NoPairs u
-no_pairs t ys u k q e =
-    let z = filled HEAD pair_buckets 0 t ys (omega arith) q in
-    let l : engine_size ≤ length (put_mid HEAD pair_buckets t ys) = let s = z.long in omega arith in
+-- the heads are cleared, then the count is set
+pub no_pairs : (t t₁ u : List ℕ) → engine_size ≤ length t → t₁ ≡ put_all t HEAD 0 (replicate pair_buckets 0) → u ≡ put t₁ INDEXED 0 0 →
+    NoPairs u
+no_pairs t t₁ u k q e =
+    let z = filled HEAD pair_buckets (omega arith) q in
+    let l : engine_size ≤ length t₁ = let s = z.long in omega arith in
     record { long = search (e, writes); none = search (e, writes); heads = λ h g. search (e, writes, z.own) }
 
 pub empty_sound : {t : List ℕ} → NoPairs t → PairsSound t (indexed# t)

@@ -1,8 +1,8 @@
 -- An empty registry, and one more registration: the table that its stores leave is sound and means the list with it at the end.
-use Rattle.shinri_core.proofs.Kit.{ℕ, zero, suc, ◌+◌, ◌-◌, ◌≤◌, ◌<◌, ◌≡◌, refl, sym, subst, ap, ◌∙◌, inl, inr, Bool, true, false, cond, true≢false, List, [], ◌∷◌, ◌++◌, Option, none, some, ℕ_discrete, add-one, arith, eq-eqb, ne_eqb, T, eqb, leb, lit<, length, take, drop, replicate}
+use Rattle.shinri_core.proofs.Kit.{ℕ, zero, suc, ◌+◌, ◌-◌, ◌≤◌, ◌<◌, ◌≡◌, refl, sym, subst, ap, ◌∙◌, inl, inr, Bool, true, false, cond, true≢false, List, [], ◌∷◌, ◌++◌, Option, none, some, ℕ_discrete, add-one, arith, eq-eqb, ne_eqb, T, eqb, leb, lit<, length, replicate}
 use Rattle.shinri_core.specs.Limits.{max_vars, max_terms}
 use Rattle.shinri_core.specs.Lists.{first, range}
-use Rattle.shinri_core.specs.Memory.Words.{at, put, apart, counted}
+use Rattle.shinri_core.specs.Memory.Words.{at, put, put_all, apart, counted}
 use Rattle.shinri_core.proofs.Lists.{In, in_range, length_range}
 use Rattle.shinri_core.proofs.Memory.Counted.{counted_length, counted_in, counted_grown}
 use Rattle.shinri_core.proofs.Memory.Searching.{any_found}
@@ -10,7 +10,7 @@ use Rattle.shinri_core.proofs.Memory.Stores as Stores
 use Rattle.theory.specs.Atom.{Registered, register, is_registered}
 use Rattle.theory.specs.Memory.Registry.{COUNTS, VARS, VAR, ATOM, FIRST, registry_room, registry_size, vars#, registered_at, atoms, of_var, of_atom, word_for, or_else, atom_word, first_word, first_with, RegistrySound, Registrable}
 use Rattle.theory.proofs.Members.{Apart, apart_length, apart_last}
-use Rattle.theory.proofs.Memory.Filling.{put_mid, filled}
+use Rattle.theory.proofs.Memory.Filling.{filled}
 use Rattle.theory.proofs.Memory.RegistryWords.{registered_yes}
 
 -- ---- stores
@@ -184,17 +184,14 @@ registers {t} {t₁} {t₂} {t₃} {u} {n} {v} {x} {w} z e q e₁ e₂ e₃ e₄
 
 -- ---- an empty registry
 
--- the words of variables and those of atoms are filled with 0, then the count is set
-pub emptied : (t ys zs u : List ℕ) → registry_size ≤ length t → ys ≡ replicate (length (take max_vars (drop ATOM t))) 0 →
-    zs ≡ replicate (length (take max_terms (drop FIRST (put_mid ATOM max_vars t ys)))) 0 →
-    u ≡ put (put_mid FIRST max_terms (put_mid ATOM max_vars t ys) zs) COUNTS VARS 0 → RegistrySound u × (atoms u ≡ [])
+-- the words of variables and those of atoms are cleared, then the count is set
+pub emptied : (t t₁ t₂ u : List ℕ) → registry_size ≤ length t → t₁ ≡ put_all t ATOM 0 (replicate max_vars 0) →
+    t₂ ≡ put_all t₁ FIRST 0 (replicate max_terms 0) → u ≡ put t₂ COUNTS VARS 0 → RegistrySound u × (atoms u ≡ [])
 unfolding atoms counted range word_for first
-emptied t ys zs u l p q e =
-    let t₁ = put_mid ATOM max_vars t ys in
-    let t₂ = put_mid FIRST max_terms t₁ zs in
-    let v = filled ATOM max_vars 0 t ys (omega arith) p in
+emptied t t₁ t₂ u l p q e =
+    let v = filled ATOM max_vars (omega arith) p in
     let m = v.long in
-    let x = filled FIRST max_terms 0 t₁ zs (omega arith) q in
+    let x = filled FIRST max_terms (omega arith) q in
     let l₂ : registry_size ≤ length t₂ = let n = x.long in omega arith in
     let z : vars# u ≡ 0 = search (e, stores) in
     let a : atoms u ≡ [] = ap (counted (registered_at u)) z in

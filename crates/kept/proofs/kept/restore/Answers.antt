@@ -4,7 +4,7 @@ use Rattle.kept.proofs.kept.restore.Goals as goal
 pub returns : goal.returns
 returns c =
     record {
-      core = c.copy_from_slice.ensures.after;
-      theory = c.copy_from_slice-2.ensures.after;
-      solver = c.copy_from_slice-3.ensures.after;
+      core = c.copy.ensures;
+      theory = c.copy-2.ensures;
+      solver = c.copy-3.ensures;
     }

@@ -4,5 +4,5 @@ use Rattle.kept.proofs.kept.save.Goals as goal
 
 pub returns : goal.returns
 returns c =
-    saves c.args.kept.now c.copy_from_slice.new.self c.copy_from_slice-2.new.self c.copy_from_slice-3.new.self
-    c.requires.1 c.requires.0 c.copy_from_slice.ensures.after c.copy_from_slice-2.ensures.after c.copy_from_slice-3.ensures.after
+    saves c.args.kept.now c.copy.new.to c.copy-2.new.to c.copy-3.new.to
+    c.requires.1 c.requires.0 c.copy.ensures c.copy-2.ensures c.copy-3.ensures

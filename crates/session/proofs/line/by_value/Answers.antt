@@ -1,19 +1,23 @@
 -- Only the key of a sort takes a letter.
-use Rattle.shinri_core.proofs.Kit.{sym, ◌∙◌}
+use Rattle.shinri_core.proofs.Kit.{◌≤◌, sym, ◌∙◌, arith, length}
 use Rattle.session.specs.Line.{by_value}
-use Rattle.session.specs.Memory.Commands.{key_meaning}
+use Rattle.session.specs.Memory.Commands.{max_numbers, key_meaning}
 use Rattle.session.proofs.Memory.Keys.{takes_numbers, numbers_read}
 use Rattle.session.proofs.line.by_value.Goals as goal
 
 pub returns-in-Sort : goal.returns-in-Sort
 unfolding by_value
-returns-in-Sort c = rw c.in-Sort.is c.letter_sort.ensures
+returns-in-Sort c = rw c.in-Sort.is (c.letter_sort.ensures _)
 
-pub returns-in_err-read_numbers-in_default : goal.returns-in_err-read_numbers-in_default
-returns-in_err-read_numbers-in_default c =
+pub returns-in_err-n-in_default : goal.returns-in_err-n-in_default
+returns-in_err-n-in_default c =
     rw c.from_residual.ensures
-    (record { is = sym (takes_numbers _ _ c.in_default.not-Sort ∙ c.in_err-read_numbers-in_default.ensures (key_meaning c.args.k)); fits = tt })
+    (record { is = sym (takes_numbers _ _ c.in_default.not-Sort ∙ c.in_err-n-in_default.ensures (key_meaning c.args.k)); fits = tt })
 
-pub returns-in_ok-read_numbers-in_default : goal.returns-in_ok-read_numbers-in_default
-returns-in_ok-read_numbers-in_default c =
-    rw (takes_numbers _ c.args.v.now c.in_default.not-Sort, numbers_read _ c.args.v.now _ c.in_ok-read_numbers-in_default.ensures) c.by_key.ensures
+pub returns-in_ok-n-in_default : goal.returns-in_ok-n-in_default
+returns-in_ok-n-in_default c =
+    let ns = c.read_numbers.new.numbers in
+    let kept = c.read_numbers.auto.numbers in
+    let long : max_numbers ≤ length ns = omega (arith, c.requires) in
+    let to = c.in_ok-n-in_default.ensures in
+    rw (takes_numbers _ c.args.v.now c.in_default.not-Sort, numbers_read _ c.args.v.now ns to (omega (arith, to.most, long))) c.by_key.ensures

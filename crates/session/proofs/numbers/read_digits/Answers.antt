@@ -1,4 +1,4 @@
-use Rattle.shinri_core.proofs.Kit.{arith}
+use Rattle.shinri_core.proofs.Kit.{refl, arith}
 use Rattle.session.specs.Memory.Numbers.{number_meaning}
 use Rattle.session.proofs.Memory.Parsing.{ascii_digit, other_ascii, digits_first, digits_next, digits_other, digits_over, digits_all}
 use Rattle.session.proofs.numbers.read_digits.Goals as goal
@@ -11,25 +11,15 @@ unfolding number_meaning
 returns-then-not-is_ascii_digit c =
     digits_other c.loop-d.invariant c.loop-d-test.true (other_ascii _ c.if-not-is_ascii_digit.ensures.cases)
 
-pub returns-in_err-checked_mul : goal.returns-in_err-checked_mul
+pub returns-then-n : goal.returns-then-n
 unfolding number_meaning
-returns-in_err-checked_mul c =
-    let one = ascii_digit _ c.if-not-is_ascii_digit.ensures.cases in
-    rw c.from_residual.ensures
-    (digits_over c.loop-d.invariant c.loop-d-test.true one (omega (arith, c.in_err-checked_mul.ensures)))
-
-pub returns-in_err-n : goal.returns-in_err-n
-unfolding number_meaning
-returns-in_err-n c =
-    let one = ascii_digit _ c.if-not-is_ascii_digit.ensures.cases in
-    rw c.from_residual-in_err-n.ensures
-    (digits_over c.loop-d.invariant c.loop-d-test.true one (omega (arith, c.in_ok-checked_mul.ensures, c.in_err-n.ensures)))
+returns-then-n c =
+    digits_over c.loop-d.invariant c.loop-d-test.true (ascii_digit _ c.if-not-is_ascii_digit.ensures.cases) (omega (arith, c.if-n.true))
 
 pub loop-d-preserved : goal.loop-d-preserved
 loop-d-preserved c =
     let one = ascii_digit _ c.if-not-is_ascii_digit.ensures.cases in
-    digits_next c.loop-d.invariant c.loop-d-test.true one _
-    (omega (arith, c.in_ok-checked_mul.ensures, c.in_ok-n.ensures)) (omega (arith, c.in_ok-n.ensures))
+    digits_next c.loop-d.invariant c.loop-d-test.true one _ refl (omega (arith, c.if-n.false))
 
 pub returns : goal.returns
 unfolding number_meaning

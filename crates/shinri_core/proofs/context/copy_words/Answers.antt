@@ -1,7 +1,10 @@
--- What a part of the table holds is replaced.
-use Rattle.shinri_core.proofs.Kit.{arith}
-use Rattle.shinri_core.proofs.Memory.Stores.{part_stored}
+use Rattle.shinri_core.specs.Memory.Words.{put_all}
+use Rattle.shinri_core.proofs.Lists.{copy_first, copy_done}
 use Rattle.shinri_core.proofs.context.copy_words.Goals as goal
 
+pub loop-i-init : goal.loop-i-init
+loop-i-init c = copy_first _ _ _
+
 pub returns : goal.returns
-returns c = part_stored _ _ _ _ _ _ c.copy_from_slice.ensures.after (omega arith) (omega arith)
+unfolding put_all
+returns c = copy_done c.loop-i.invariant c.loop-i-test.false

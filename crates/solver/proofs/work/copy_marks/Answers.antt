@@ -3,4 +3,4 @@ use Rattle.solver.proofs.Memory.Beginning.{copied}
 use Rattle.solver.proofs.work.copy_marks.Goals as goal
 
 pub returns : goal.returns
-returns c = copied c.requires c.term_count-n.ensures c.copy_from_slice.ensures.after (omega arith) (omega arith)
+returns c = copied c.requires c.term_count-n.ensures c.words_at.ensures (omega arith) c.copy_words.ensures

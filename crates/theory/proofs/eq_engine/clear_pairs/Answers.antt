@@ -1,6 +1,6 @@
--- The heads are filled with 0, then the count is set.
+-- The heads are cleared, then the count is set.
 use Rattle.theory.proofs.Memory.PairIndex.{no_pairs}
 use Rattle.theory.proofs.eq_engine.clear_pairs.Goals as goal
 
 pub returns : goal.returns
-returns c = no_pairs _ _ _ c.requires (c.fill.ensures.after (λ y q. q)) c.put_at.ensures
+returns c = no_pairs _ _ _ c.requires c.clear_at.ensures c.put_at.ensures
