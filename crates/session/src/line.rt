@@ -1,5 +1,5 @@
 // Reading a line: question 3 whole (specs/Line.antt, specs/Memory/Commands.antt).
-ghost use Rattle.std.specs.Prelude.{◌≡◌, cond, ℕ, List, [], ◌∷◌, ◌≤◌, length, take, Some};
+ghost use Rattle.std.specs.Prelude.{◌≡◌, cond, ℕ, List, [], ◌∷◌, ◌≤◌, length, take, eqb, Some};
 ghost use Rattle.shinri_core.specs.Lists.{first, same_list};
 ghost use Rattle.session.specs.Line as Line;
 ghost use Rattle.session.specs.Memory.Lines.{KeyRoom};
@@ -10,10 +10,11 @@ use crate::reader::first_byte;
 use shinri_core::ids::{Lit, SortId, SymbolId, TermId, Var};
 use theory::types::TheoryJust;
 
-// A line that reads. Where it has a list of numbers behind its first, it is held how many: they stand in the table of numbers from its
+// A line that reads, or that does not. Where it has a list of numbers behind its first, it is held how many: they stand in the table of numbers from its
 // second word on. (A slice of them would borrow the table, and no clause could say what the table holds after the call.)
 #[derive(Clone, Copy)]
 pub enum Command {
+    Unreadable,
     DeclareSort(bool),
     DeclareCtor(SortId, usize),
     DeclareFun(SortId, usize),
@@ -114,7 +115,7 @@ fn read_key(k: &[u8]) -> Option<Key>
 // A first number, and how many stand behind it.
 #[tactic(auto, unfolding(crate::specs::Line::by_key, crate::specs::Line::some_or_more))]
 fn by_list(k: ListKey, x: u32, more: usize) -> Command
-    ensures { (ns : List ℕ) → OthersFit more (length ns) → ReadsAs (Line.by_key (list_key k) (x ∷ others more ns)) (Some result) ns }
+    ensures { (ns : List ℕ) → OthersFit more (length ns) → ReadsAs (Line.by_key (list_key k) (x ∷ others more ns)) result ns }
 {
     match k {
         ListKey::Ctor => Command::DeclareCtor(SortId(x), more),
@@ -125,35 +126,42 @@ fn by_list(k: ListKey, x: u32, more: usize) -> Command
 
 // 0 or 1 after `check`.
 #[tactic(auto, unfolding(crate::specs::Line::effort))]
-fn effort(x: u32) -> Option<Command>
+fn effort(x: u32) -> Command
     ensures { ReadsAlone (Line.effort x) result }
 {
     match x {
-        1 => Some(Command::Check(true)),
-        0 => Some(Command::Check(false)),
-        _ => None,
+        1 => Command::Check(true),
+        0 => Command::Check(false),
+        _ => Command::Unreadable,
     }
+}
+
+// A command if the number is 1.
+fn only_one(c: Command, x: u32) -> Command
+    ensures { result ≡ cond (eqb x 1) c Command.Unreadable }
+{
+    if x == 1 { c } else { Command::Unreadable }
 }
 
 // `close` and `push` are written only with 1.
 #[tactic(auto, unfolding(crate::specs::Line::by_key, crate::specs::Line::just_one, crate::specs::Line::only_one))]
-fn by_one(k: OneKey, x: u32) -> Option<Command>
+fn by_one(k: OneKey, x: u32) -> Command
     ensures { ReadsAlone (Line.by_key (one_key k) (x ∷ [])) result }
 {
     match k {
-        OneKey::Close => (x == 1).then_some(Command::Close),
-        OneKey::Equate => Some(Command::Equate(Lit(x))),
-        OneKey::Assert => Some(Command::Assert(Lit(x))),
-        OneKey::Differ => Some(Command::Differ(Lit(x))),
-        OneKey::Push => (x == 1).then_some(Command::Push),
-        OneKey::Pop => Some(Command::Pop(x)),
+        OneKey::Close => only_one(Command::Close, x),
+        OneKey::Equate => Command::Equate(Lit(x)),
+        OneKey::Assert => Command::Assert(Lit(x)),
+        OneKey::Differ => Command::Differ(Lit(x)),
+        OneKey::Push => only_one(Command::Push, x),
+        OneKey::Pop => Command::Pop(x),
         OneKey::Check => effort(x),
     }
 }
 
 #[tactic(auto, unfolding(crate::specs::Line::by_key, crate::specs::Line::just_two))]
 fn by_pair(k: PairKey, x: u32, y: u32) -> Command
-    ensures { ReadsAlone (Line.by_key (pair_key k) (x ∷ y ∷ [])) (Some result) }
+    ensures { ReadsAlone (Line.by_key (pair_key k) (x ∷ y ∷ [])) result }
 {
     match k {
         PairKey::Eq => Command::MkEq(TermId(x), TermId(y)),
@@ -164,39 +172,42 @@ fn by_pair(k: PairKey, x: u32, y: u32) -> Command
 
 // H at most 65,535.
 #[tactic(auto, unfolding(crate::specs::Line::iface))]
-fn iface(t: u32, u: u32, h: u32, g: u32) -> Option<Command>
+fn iface(t: u32, u: u32, h: u32, g: u32) -> Command
     ensures { ReadsAlone (Line.iface t u h g) result }
 {
+    if h > 65535 {
+        return Command::Unreadable;
+    }
     let just = TheoryJust {
-        theory: u16::try_from(h).ok()?,
+        theory: h as u16,
         tag: g,
     };
-    Some(Command::Iface(TermId(t), TermId(u), just))
+    Command::Iface(TermId(t), TermId(u), just)
 }
 
 // The first n numbers of the table, after a key: each asks for its count of them.
-fn by_key(k: Key, n: usize, numbers: &[u32]) -> Option<Command>
+fn by_key(k: Key, n: usize, numbers: &[u32]) -> Command
     requires { NumbersStand n numbers.now }
     ensures { ReadsAs (Line.by_key (key_meaning k) (take n numbers.now)) result numbers.now }
 {
     match k {
-        Key::Sort => None,
-        Key::List(l) => Some(by_list(l, numbers[0], n - 1)),
+        Key::Sort => Command::Unreadable,
+        Key::List(l) => by_list(l, numbers[0], n - 1),
         Key::One(o) => {
             if n != 1 {
-                return None;
+                return Command::Unreadable;
             }
             by_one(o, numbers[0])
         }
         Key::Pair(p) => {
             if n != 2 {
-                return None;
+                return Command::Unreadable;
             }
-            Some(by_pair(p, numbers[0], numbers[1]))
+            by_pair(p, numbers[0], numbers[1])
         }
         Key::Iface => {
             if n != 4 {
-                return None;
+                return Command::Unreadable;
             }
             iface(numbers[0], numbers[1], numbers[2], numbers[3])
         }
@@ -206,27 +217,29 @@ fn by_key(k: Key, n: usize, numbers: &[u32]) -> Option<Command>
 // ---- the value
 
 // The letter of a sort.
-fn letter_sort(v: &[u8]) -> Option<Command>
+fn letter_sort(v: &[u8]) -> Command
     ensures { ReadsAlone (Line.letter_sort v.now) result }
 {
     if v == b"d".as_slice() {
-        return Some(Command::DeclareSort(true));
+        return Command::DeclareSort(true);
     }
     if v == b"u".as_slice() {
-        return Some(Command::DeclareSort(false));
+        return Command::DeclareSort(false);
     }
-    None
+    Command::Unreadable
 }
 
 // Only the key of a sort takes a letter.
-fn by_value(k: Key, v: &[u8], numbers: &mut [u32]) -> Option<Command>
+fn by_value(k: Key, v: &[u8], numbers: &mut [u32]) -> Command
     requires { max_numbers ≤ length numbers.old }
     ensures { ReadsAs (Line.by_value (key_meaning k) v.now) result numbers.new }
 {
     match k {
         Key::Sort => letter_sort(v),
         _ => {
-            let n = read_numbers(v, numbers)?;
+            let Some(n) = read_numbers(v, numbers) else {
+                return Command::Unreadable;
+            };
             by_key(k, n, numbers)
         }
     }
@@ -242,11 +255,15 @@ fn key_room(line: &[u8]) -> usize
 }
 
 // Question 3: does a line read? Its numbers go to the table.
-pub fn read_line(line: &[u8], numbers: &mut [u32]) -> Option<Command>
+pub fn read_line(line: &[u8], numbers: &mut [u32]) -> Command
     requires { max_numbers ≤ length numbers.old }
     ensures { ReadsLine line.now result numbers.new }
 {
-    let at = first_byte(&line[..key_room(line)], 0, b'=')?;
-    let k = read_key(&line[..at])?;
+    let Some(at) = first_byte(&line[..key_room(line)], 0, b'=') else {
+        return Command::Unreadable;
+    };
+    let Some(k) = read_key(&line[..at]) else {
+        return Command::Unreadable;
+    };
     by_value(k, &line[at + 1..], numbers)
 }

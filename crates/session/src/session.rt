@@ -35,6 +35,7 @@ fn perform(
     // whether the line stands behind a `close`
     let late = kept.closed;
     match k {
+        Command::Unreadable => Err(Refusal::Unreadable),
         Command::DeclareSort(datatype) => sort_line(c, late, datatype),
         Command::DeclareCtor(dt, n) => ctor_line(c, late, dt, &numbers[1..n + 1]),
         Command::DeclareFun(result, n) => fun_line(c, late, result, &numbers[1..n + 1]),
@@ -68,8 +69,6 @@ pub fn step(
         (beside e.old kept.old.counts kept.old.closed) result c.new e.new s.new
         (beside e.new kept.new.counts kept.new.closed) out.new }
 {
-    match read_line(line, numbers) {
-        Some(k) => perform(c, e, s, kept, k, numbers, out),
-        None => Err(Refusal::Unreadable),
-    }
+    let k = read_line(line, numbers);
+    perform(c, e, s, kept, k, numbers, out)
 }

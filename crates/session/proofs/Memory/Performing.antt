@@ -1,6 +1,6 @@
 -- Any line: what was promised of each kind, put together by the command that was read.
-use Rattle.std.specs.Prelude.{Err, None, Some}
-use Rattle.shinri_core.proofs.Kit.{ℕ, ◌+◌, ◌-◌, ◌≤◌, ◌≡◌, refl, sym, ap, ◌∙◌, subst, Bool, List, [], ◌∷◌, ◌++◌, some, arith, length, take, drop, length-take-le, length-drop}
+use Rattle.std.specs.Prelude.{Err}
+use Rattle.shinri_core.proofs.Kit.{ℕ, ◌+◌, ◌-◌, ◌≤◌, ◌≡◌, refl, sym, ap, ◌∙◌, subst, Bool, List, [], ◌∷◌, ◌++◌, none, some, arith, length, take, drop, length-take-le, length-drop}
 use Rattle.solver.proofs.Memory.Entries.{records_sound}
 use Rattle.shinri_core.specs.Limits.{max_params}
 use Rattle.shinri_core.specs.declared.ids.SortId.{SortId}
@@ -35,21 +35,21 @@ module _ {k : GivenCommand.Command} (ns : List ℕ) {n : ℕ} {x : SortId} where
   pub ctor_room : k ≡ GivenCommand.TheVariants.DeclareCtor x n → ListFits k (length ns) → OthersFit n (length ns)
   ctor_room e f = subst (λ (j : GivenCommand.Command). ListFits j (length ns)) e f
 
-  pub ctor_read : k ≡ GivenCommand.TheVariants.DeclareCtor x n → command_meaning k ns ≡ DeclareCtor x.0 (list ns n)
-  ctor_read e = ap (λ (j : GivenCommand.Command). command_meaning j ns) e ∙ ap (λ (l : List ℕ). DeclareCtor x.0 l) (behind ns n)
+  pub ctor_read : k ≡ GivenCommand.TheVariants.DeclareCtor x n → command_meaning k ns ≡ some (DeclareCtor x.0 (list ns n))
+  ctor_read e = ap (λ (j : GivenCommand.Command). command_meaning j ns) e ∙ ap (λ (l : List ℕ). some (DeclareCtor x.0 l)) (behind ns n)
 
   pub fun_room : k ≡ GivenCommand.TheVariants.DeclareFun x n → ListFits k (length ns) → OthersFit n (length ns)
   fun_room e f = subst (λ (j : GivenCommand.Command). ListFits j (length ns)) e f
 
-  pub fun_read : k ≡ GivenCommand.TheVariants.DeclareFun x n → command_meaning k ns ≡ DeclareFun x.0 (list ns n)
-  fun_read e = ap (λ (j : GivenCommand.Command). command_meaning j ns) e ∙ ap (λ (l : List ℕ). DeclareFun x.0 l) (behind ns n)
+  pub fun_read : k ≡ GivenCommand.TheVariants.DeclareFun x n → command_meaning k ns ≡ some (DeclareFun x.0 (list ns n))
+  fun_read e = ap (λ (j : GivenCommand.Command). command_meaning j ns) e ∙ ap (λ (l : List ℕ). some (DeclareFun x.0 l)) (behind ns n)
 
 module _ {k : GivenCommand.Command} (ns : List ℕ) {n : ℕ} {x : SymbolId} where
   pub term_room : k ≡ GivenCommand.TheVariants.MkTerm x n → ListFits k (length ns) → OthersFit n (length ns)
   term_room e f = subst (λ (j : GivenCommand.Command). ListFits j (length ns)) e f
 
-  pub term_read : k ≡ GivenCommand.TheVariants.MkTerm x n → command_meaning k ns ≡ MkTerm x.0 (list ns n)
-  term_read e = ap (λ (j : GivenCommand.Command). command_meaning j ns) e ∙ ap (λ (l : List ℕ). MkTerm x.0 l) (behind ns n)
+  pub term_read : k ≡ GivenCommand.TheVariants.MkTerm x n → command_meaning k ns ≡ some (MkTerm x.0 (list ns n))
+  term_read e = ap (λ (j : GivenCommand.Command). command_meaning j ns) e ∙ ap (λ (l : List ℕ). some (MkTerm x.0 l)) (behind ns n)
 
 -- ---- a command that was answered
 
@@ -57,13 +57,13 @@ pub levels_sound : {c e s n : List ℕ} {b : Bool} → SessionSound c e s (besid
 levels_sound z = record { engine = z.state.engine; records = records_sound z.state; marks = z.marks }
 
 module _ {k : GivenCommand.Command} {ns c e s n : List ℕ} {b : Bool} {o₀ : List ℕ} (P : Performable c e s (beside e n b) k ns o₀)
-    (k' : Command) (is : command_meaning k ns ≡ k') where
+    (k' : Command) (is : command_meaning k ns ≡ some k') where
   performs : {a : LineAnswer} {c' e' s' : List ℕ} {m : Beside} {o : List ℕ} → Answers k' c e s (beside e n b) a c' e' s' m o →
       Performs k ns c e s (beside e n b) a c' e' s' (beside e' m.marks.counts m.closed) o
   unfolding answer_read
   performs A =
       let K = as_beside A in
-      record { sound = K.sound; printable = K.printable; performed = ap (answer_read (session c e s (beside e n b))) (ap some is) ∙ K.performed }
+      record { sound = K.sound; printable = K.printable; performed = ap (answer_read (session c e s (beside e n b))) is ∙ K.performed }
 
   pub by_core : {a : LineAnswer} {c' : List ℕ} → AnswersCore b k' c a c' →
       Performs k ns c e s (beside e n b) a c' e s (beside e n b) o₀
@@ -90,13 +90,19 @@ module _ {k : GivenCommand.Command} {ns c e s n : List ℕ} {b : Bool} {o₀ : L
   by_levels A = performs (A c o₀ P.sound)
 
 module _ {k : GivenCommand.Command} {ns c e s n : List ℕ} {b : Bool} {o₀ : List ℕ} (P : Performable c e s (beside e n b) k ns o₀) where
-  pub by_close : {a : LineAnswer} {b' : Bool} → command_meaning k ns ≡ Close → AnswersClose c b a b' →
+  pub by_close : {a : LineAnswer} {b' : Bool} → command_meaning k ns ≡ some Close → AnswersClose c b a b' →
       Performs k ns c e s (beside e n b) a c e s (beside e n b') o₀
   by_close is A = performs P Close is (A e s n o₀ P.sound)
 
-  pub by_check : {a : LineAnswer} {full : Bool} {c' s' o : List ℕ} → command_meaning k ns ≡ Check full →
+  pub by_check : {a : LineAnswer} {full : Bool} {c' s' o : List ℕ} → command_meaning k ns ≡ some (Check full) →
       AnswersCheck b full c e s a c' s' o → Performs k ns c e s (beside e n b) a c' e s' (beside e n b) o
   by_check {full = full} is A = performs P (Check full) is (A (beside e n b) P.sound P.reached refl)
+
+module _ {k : GivenCommand.Command} {ns c e s n : List ℕ} {b : Bool} {o₀ : List ℕ} (P : Performable c e s (beside e n b) k ns o₀) where
+  pub by_none : command_meaning k ns ≡ none →
+      Performs k ns c e s (beside e n b) (Err GivenRefusal.TheVariants.Unreadable) c e s (beside e n b) o₀
+  unfolding answer_read refused answer_meaning refusal_meaning
+  by_none is = record { sound = P.sound; printable = tt; performed = ap (answer_read (session c e s (beside e n b))) is }
 
 -- ---- a line
 
@@ -123,15 +129,11 @@ module _ {line c e s : List ℕ} {m : Beside} {ns₀ o₀ : List ℕ} (Q : Stepp
         stepped = does;
       }
 
-  pub steps : {ns : List ℕ} {k : GivenCommand.Command} {a : LineAnswer} {c' e' s' : List ℕ} {m' : Beside} {o : List ℕ} → ReadsLine line (Some k) ns →
+  pub steps : {ns : List ℕ} {k : GivenCommand.Command} {a : LineAnswer} {c' e' s' : List ℕ} {m' : Beside} {o : List ℕ} → ReadsLine line k ns →
       Performs k ns c e s m a c' e' s' m' o → Steps line c e s m a c' e' s' m' o
   unfolding step
   steps R P = stepped P.sound P.printable (ap (answer_read (session c e s m)) (sym R.is) ∙ P.performed)
 
-  pub refuses : {ns : List ℕ} → ReadsLine line None ns → Steps line c e s m (Err GivenRefusal.TheVariants.Unreadable) c e s m o₀
-  unfolding step answer_read refused answer_meaning refusal_meaning
-  refuses R = stepped Q.sound tt (ap (answer_read (session c e s m)) (sym R.is))
-
 pub performable : {c e s : List ℕ} {m : Beside} {ns₀ ns o : List ℕ} (line : List ℕ) {k : GivenCommand.Command} → Steppable c e s m ns₀ o →
-    ReadsLine line (Some k) ns → Performable c e s m k ns o
+    ReadsLine line k ns → Performable c e s m k ns o
 performable line Q R = record { sound = Q.sound; reached = Q.reached; fits = R.fits; long = Q.long }

@@ -1,5 +1,5 @@
 -- What the code's commands mean, beside the table of numbers, and what reading a line promises.
-use Rattle.std.specs.Prelude.{ℕ, ◌≤◌, ◌<◌, ◌≡◌, List, length, take, drop, None, Some, IfSome}
+use Rattle.std.specs.Prelude.{ℕ, ◌≤◌, ◌<◌, ◌≡◌, List, length, take, drop, None, Some}
 use Rattle.std.proofs.Math.Option.{Option, none, some}
 use Rattle.shinri_core.specs.Memory.Codes.{declared_node}
 use Rattle.session.specs.Line.{Key, SortKey, CtorKey, FunKey, CloseKey, TermKey, EqKey, VarKey, EquateKey, CongKey, IfaceKey, AssertKey, DifferKey, PushKey, PopKey, CheckKey}
@@ -19,27 +19,23 @@ max_numbers = 17
 abbrev pub others : ℕ → List ℕ → List ℕ
 others n ns = take n (drop 1 ns)
 
-abbrev pub command_meaning : Given.Command → List ℕ → Command
-command_meaning (Given.TheVariants.DeclareSort d) ns = DeclareSort (declared_node d)
-command_meaning (Given.TheVariants.DeclareCtor dt n) ns = DeclareCtor dt.0 (others n ns)
-command_meaning (Given.TheVariants.DeclareFun r n) ns = DeclareFun r.0 (others n ns)
-command_meaning Given.TheVariants.Close ns = Close
-command_meaning (Given.TheVariants.MkTerm f n) ns = MkTerm f.0 (others n ns)
-command_meaning (Given.TheVariants.MkEq t u) ns = MkEq t.0 u.0
-command_meaning (Given.TheVariants.Register v t) ns = Register v.0 t.0
-command_meaning (Given.TheVariants.Equate l) ns = Equate l.0
-command_meaning (Given.TheVariants.Cong t u) ns = Cong t.0 u.0
-command_meaning (Given.TheVariants.Iface t u j) ns = Iface t.0 u.0 j.theory j.tag
-command_meaning (Given.TheVariants.Assert l) ns = Assert l.0
-command_meaning (Given.TheVariants.Differ l) ns = Differ l.0
-command_meaning Given.TheVariants.Push ns = Push
-command_meaning (Given.TheVariants.Pop k) ns = Pop k
-command_meaning (Given.TheVariants.Check full) ns = Check full
-
--- a command that was read, or none
-abbrev pub read_meaning : GivenOption.Option Given.Command → List ℕ → Option Command
-read_meaning None ns = none
-read_meaning (Some k) ns = some (command_meaning k ns)
+abbrev pub command_meaning : Given.Command → List ℕ → Option Command
+command_meaning Given.TheVariants.Unreadable ns = none
+command_meaning (Given.TheVariants.DeclareSort d) ns = some (DeclareSort (declared_node d))
+command_meaning (Given.TheVariants.DeclareCtor dt n) ns = some (DeclareCtor dt.0 (others n ns))
+command_meaning (Given.TheVariants.DeclareFun r n) ns = some (DeclareFun r.0 (others n ns))
+command_meaning Given.TheVariants.Close ns = some Close
+command_meaning (Given.TheVariants.MkTerm f n) ns = some (MkTerm f.0 (others n ns))
+command_meaning (Given.TheVariants.MkEq t u) ns = some (MkEq t.0 u.0)
+command_meaning (Given.TheVariants.Register v t) ns = some (Register v.0 t.0)
+command_meaning (Given.TheVariants.Equate l) ns = some (Equate l.0)
+command_meaning (Given.TheVariants.Cong t u) ns = some (Cong t.0 u.0)
+command_meaning (Given.TheVariants.Iface t u j) ns = some (Iface t.0 u.0 j.theory j.tag)
+command_meaning (Given.TheVariants.Assert l) ns = some (Assert l.0)
+command_meaning (Given.TheVariants.Differ l) ns = some (Differ l.0)
+command_meaning Given.TheVariants.Push ns = some Push
+command_meaning (Given.TheVariants.Pop k) ns = some (Pop k)
+command_meaning (Given.TheVariants.Check full) ns = some (Check full)
 
 -- n numbers stand in a table of this length behind its first, which are no more than a line may have
 abbrev pub OthersFit : ℕ → ℕ → Type 0
@@ -47,6 +43,7 @@ OthersFit n k = (n < max_numbers) × (n < k)
 
 -- the list that a command names stands in a table of numbers of this length
 abbrev pub ListFits : Given.Command → ℕ → Type 0
+ListFits Given.TheVariants.Unreadable k = Unit {0}
 ListFits (Given.TheVariants.DeclareSort d) k = Unit {0}
 ListFits (Given.TheVariants.DeclareCtor dt n) k = OthersFit n k
 ListFits (Given.TheVariants.DeclareFun r n) k = OthersFit n k
@@ -64,17 +61,17 @@ ListFits (Given.TheVariants.Pop p) k = Unit {0}
 ListFits (Given.TheVariants.Check full) k = Unit {0}
 
 -- what o says is what was read, beside ns
-pub record ReadsAs (o : Option Command) (r : GivenOption.Option Given.Command) (ns : List ℕ) : Type 0 where
-  pub is : read_meaning r ns ≡ o
-  pub fits : IfSome r (λ k. ListFits k (length ns))
+pub record ReadsAs (o : Option Command) (k : Given.Command) (ns : List ℕ) : Type 0 where
+  pub is : command_meaning k ns ≡ o
+  pub fits : ListFits k (length ns)
 
 -- the same beside any numbers: no list is named
-abbrev pub ReadsAlone : Option Command → GivenOption.Option Given.Command → Type 0
-ReadsAlone o r = (ns : List ℕ) → ReadsAs o r ns
+abbrev pub ReadsAlone : Option Command → Given.Command → Type 0
+ReadsAlone o k = (ns : List ℕ) → ReadsAs o k ns
 
 -- a line was read; its numbers stand in ns
-abbrev pub ReadsLine : List ℕ → GivenOption.Option Given.Command → List ℕ → Type 0
-ReadsLine line r ns = ReadsAs (read_line line) r ns
+abbrev pub ReadsLine : List ℕ → Given.Command → List ℕ → Type 0
+ReadsLine line k ns = ReadsAs (read_line line) k ns
 
 -- n numbers, one or more, stand at the start of a table
 pub record NumbersStand (n : ℕ) (ns : List ℕ) : Type 0 where

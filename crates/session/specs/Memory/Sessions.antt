@@ -1,6 +1,5 @@
 -- The session that the three tables mean, when they fit together, and what answering a line promises.
 use Rattle.std.specs.Prelude.{ℕ, ◌≤◌, ◌≡◌, Bool, true, false, List, [], ◌∷◌, length, Result, Ok, Err}
-use mathlib.Core.Option.{some}
 use Rattle.shinri_core.specs.Ids as Ids
 use Rattle.shinri_core.specs.Term.{Eq, same_op}
 use Rattle.shinri_core.specs.Context.{term, children}
@@ -154,7 +153,7 @@ pub record Performs (k : GivenCommand.Command) (ns c e s : List ℕ) (m : Beside
   pub sound : SessionSound c' e' s' m'
   pub printable : Printable a o
   pub performed :
-      answer_read (session c e s m) (some (command_meaning k ns))
+      answer_read (session c e s m) (command_meaning k ns)
       ≡ record { answer = answer_meaning a o; session = session c' e' s' m' }
 
 -- a line may be answered

@@ -9,15 +9,14 @@ pub returns-in-Sort : goal.returns-in-Sort
 unfolding by_value
 returns-in-Sort c = rw c.in-Sort.is (c.letter_sort.ensures _)
 
-pub returns-in_err-n-in_default : goal.returns-in_err-n-in_default
-returns-in_err-n-in_default c =
-    rw c.from_residual.ensures
-    (record { is = sym (takes_numbers _ _ c.in_default.not-Sort ∙ c.in_err-n-in_default.ensures (key_meaning c.args.k)); fits = tt })
+pub returns-in_default-read_numbers : goal.returns-in_default-read_numbers
+returns-in_default-read_numbers c =
+    record { is = sym (takes_numbers _ _ c.in_default.not-Sort ∙ c.in_default-read_numbers.ensures (key_meaning c.args.k)); fits = tt }
 
-pub returns-in_ok-n-in_default : goal.returns-in_ok-n-in_default
-returns-in_ok-n-in_default c =
+pub returns-in-Some : goal.returns-in-Some
+returns-in-Some c =
     let ns = c.read_numbers.new.numbers in
     let kept = c.read_numbers.auto.numbers in
     let long : max_numbers ≤ length ns = omega (arith, c.requires) in
-    let to = c.in_ok-n-in_default.ensures in
+    let to = c.in-Some.ensures in
     rw (takes_numbers _ c.args.v.now c.in_default.not-Sort, numbers_read _ c.args.v.now ns to (omega (arith, to.most, long))) c.by_key.ensures

@@ -4,16 +4,16 @@ use Rattle.session.specs.Line.{known, read_parts, read_line}
 use Rattle.session.proofs.Memory.Splitting.{head_parted, head_unread}
 use Rattle.session.proofs.line.read_line.Goals as goal
 
-pub returns-in_err-at : goal.returns-in_err-at
-returns-in_err-at c =
-    rw c.from_residual.ensures (record { is = sym (head_unread c.key_room.ensures c.in_err-at.ensures); fits = tt })
+pub returns-in_default : goal.returns-in_default
+returns-in_default c = record { is = sym (head_unread c.key_room.ensures (rw c.in_default.is at c.first_byte.ensures)); fits = tt }
 
-pub returns-in_err-k : goal.returns-in_err-k
+pub returns-in_default-read_key : goal.returns-in_default-read_key
 unfolding known read_parts read_line
-returns-in_err-k c =
-    rw (c.from_residual-in_err-k.ensures, head_parted c.key_room.ensures c.in_ok-at.ensures, c.in_err-k.ensures)
+returns-in_default-read_key c =
+    rw (head_parted c.key_room.ensures (rw c.in-Some.is at c.first_byte.ensures), c.in_default-read_key.ensures)
     (record { is = refl; fits = tt })
 
 pub returns : goal.returns
 unfolding known read_parts read_line
-returns c = rw (head_parted c.key_room.ensures c.in_ok-at.ensures, c.in_ok-k.ensures) c.by_value.ensures
+returns c =
+    rw (head_parted c.key_room.ensures (rw c.in-Some.is at c.first_byte.ensures), c.in-Some-read_key.ensures) c.by_value.ensures

@@ -2,7 +2,7 @@
 use Rattle.shinri_core.proofs.Kit.{ap, arith}
 use Rattle.session.specs.declared.line.Command.{Command}
 use Rattle.session.specs.Memory.Commands.{command_meaning}
-use Rattle.session.proofs.Memory.Performing.{few_behind, ctor_room, ctor_read, fun_room, fun_read, term_room, term_read, levels_sound, by_core, by_engine, by_solver, by_equate, by_assert, by_levels, by_close, by_check}
+use Rattle.session.proofs.Memory.Performing.{few_behind, ctor_room, ctor_read, fun_room, fun_read, term_room, term_read, levels_sound, by_core, by_engine, by_solver, by_equate, by_assert, by_levels, by_close, by_check, by_none}
 use Rattle.session.proofs.session.perform.Goals as goal
 
 pub overflow_add-n : goal.overflow_add-n
@@ -50,6 +50,9 @@ push_line-requires c = levels_sound c.requires.sound
 
 pub pop_line-requires : goal.pop_line-requires
 pop_line-requires c = levels_sound c.requires.sound
+
+pub returns-in-Unreadable : goal.returns-in-Unreadable
+returns-in-Unreadable c = by_none c.requires (ap (λ (j : Command). command_meaning j c.args.numbers.now) c.in-Unreadable.is)
 
 pub returns-in-DeclareSort : goal.returns-in-DeclareSort
 returns-in-DeclareSort c =

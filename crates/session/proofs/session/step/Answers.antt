@@ -1,12 +1,9 @@
 -- The line is read, and what was read is answered.
-use Rattle.session.proofs.Memory.Performing.{performable, refuses, steps}
+use Rattle.session.proofs.Memory.Performing.{performable, steps}
 use Rattle.session.proofs.session.step.Goals as goal
 
 pub perform-requires : goal.perform-requires
-perform-requires c = performable c.args.line.now c.requires (rw c.in-Some.is at c.read_line.ensures)
+perform-requires c = performable c.args.line.now c.requires c.read_line-k.ensures
 
-pub returns-in-None : goal.returns-in-None
-returns-in-None c = refuses c.requires (rw c.in-None.is at c.read_line.ensures)
-
-pub returns-in-Some : goal.returns-in-Some
-returns-in-Some c = steps c.requires (rw c.in-Some.is at c.read_line.ensures) c.perform.ensures
+pub returns : goal.returns
+returns c = steps c.requires c.read_line-k.ensures c.perform.ensures
