@@ -10,8 +10,8 @@ use crate::reader::first_byte;
 use shinri_core::ids::{Lit, SortId, SymbolId, TermId, Var};
 use theory::types::TheoryJust;
 
-// A line that reads, or that does not. Where it has a list of numbers behind its first, it is held how many: they stand in the table of numbers from its
-// second word on. (A slice of them would borrow the table, and no clause could say what the table holds after the call.)
+// A line that reads, or that does not. Where it has a list of numbers behind its first, it is held how many: they stand in the table of
+// numbers from its second word on. (A slice of them would borrow the table, and no clause could say what the table holds after the call.)
 #[derive(Clone, Copy)]
 pub enum Command {
     Unreadable,
