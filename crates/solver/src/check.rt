@@ -210,7 +210,9 @@ fn keep_marks(t: &[u32], s: &mut [u32], w: &[u32])
     }
 }
 
-// A full check with a work table; its marks are kept if its terms fit.
+// A full check with a work table; its marks are kept if its terms fit. (Never inlined: else each line, checks or not, would make room
+// for the work table on the stack, and touch each page of it.)
+#[inline(never)]
 fn check_classes(t: &mut [u32], e: &[u32], s: &mut [u32], out: &mut [u32]) -> Result<TCheck, NoRoom>
     requires { StateSound t.old e.now s.old × (answer_size ≤ length out.old) }
     ensures { ChecksKept t.old e.now s.old result t.new s.new out.new }
